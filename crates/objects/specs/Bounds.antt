@@ -1,0 +1,60 @@
+-- Every number that document 01 bounds something by, once. Definitions, contracts and proofs use them by name.
+use Prim.Native.Nat.{ℕ}
+
+-- "256 types, 64 packages, 1,024 members, 255 per type, 256 places in a way."
+abbrev pub maxTypes : ℕ
+maxTypes = 256
+
+abbrev pub maxPackages : ℕ
+maxPackages = 64
+
+abbrev pub maxMembers : ℕ
+maxMembers = 1024
+
+abbrev pub maxPerType : ℕ
+maxPerType = 255
+
+abbrev pub maxPlaces : ℕ
+maxPlaces = 256
+
+-- 2: "The table has more than 32,768 bytes"; typeask: "at most 32,768 bytes in all"
+abbrev pub maxText : ℕ
+maxText = 32_768
+
+-- 11: "more than 256 bytes"
+abbrev pub maxQuestion : ℕ
+maxQuestion = 256
+
+-- "A type or package number of more than four digits has a wrong form"
+abbrev pub maxReference : ℕ
+maxReference = 9999
+
+-- "`T basic k` (0 to 27, the order of `BasicType`)"
+abbrev pub maxBasic : ℕ
+maxBasic = 27
+
+-- "`T array n e` (n to 4,294,967,295)"
+abbrev pub maxArray : ℕ
+maxArray = 4_294_967_295
+
+-- "Names: 1 to 64"; "`P path`: 1 to 128 bytes"; a tag "of 1 to 128 bytes"
+abbrev pub maxName : ℕ
+maxName = 64
+
+abbrev pub maxPath : ℕ
+maxPath = 128
+
+abbrev pub maxTag : ℕ
+maxTag = 128
+
+-- 1: "fewer words than the number the team fixes in docs/, which is at most 4,194,304"
+abbrev pub workWords : ℕ
+workWords = 65_536
+
+-- "minus (refusal × 65,536 + line)"
+abbrev pub refusalUnit : ℕ
+refusalUnit = 65_536
+
+-- "It prints the answers, with a 16,384-byte answer buffer"
+abbrev pub programAnswer : ℕ
+programAnswer = 16_384

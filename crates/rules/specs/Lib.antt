@@ -1,0 +1,17 @@
+pub mod Members
+pub mod Forms
+pub mod Chains
+pub mod Identity
+pub mod Checks
+pub mod Load
+pub mod Sound
+pub mod Comparable
+pub mod Ways
+pub mod MethodSet
+pub mod Missing
+pub mod Question
+pub mod Answer
+pub mod Asked
+pub mod Typeask
+pub mod Rows
+pub mod Worked

@@ -1,0 +1,95 @@
+-- Rows of worked examples: a text and what is due for it, and the tests that rows are right. The prover computes them (proofs/Computed.antt).
+use mathlib.Core.Bool.{Bool, cond}
+use mathlib.Core.List.{List, [], _∷_, _++_, map}
+use Prim.Native.Nat.{ℕ, _-_}
+use Prim.Native.Char.{code}
+use Prim.Native.String.{String, [] as []ˢ, _∷_ as _∷ˢ_}
+use lib.Dec.{eqb}
+use lib.IntN.{pos}
+use lib.ListN.{length, replicate}
+use Rattle.objects.specs.Bounds.{workWords}
+use Rattle.objects.specs.Lists.{Bytes, every}
+use Rattle.text.specs.Bytes.{ascii, sameBytes, isName, isBlank, isPath, isTag, exported, valueFrom, isNumeral, number, digitsOn, decimal}
+use Rattle.text.specs.Lines.{split, pieces, fields}
+use Rattle.objects.specs.Table.{kindAt, pathOf, under, bare, pointerAt, ifaceUnder, namedPointer, allMethods}
+use Rattle.rules.specs.Members.{identityFrom, identityOf, sameId, idBytes}
+use Rattle.rules.specs.Forms.{kindForm, lineForm, lineOf}
+use Rattle.rules.specs.Chains.{leads}
+use Rattle.rules.specs.Identity.{realType, ownNumber, parts, mismatch, pairParts, identical}
+use Rattle.rules.specs.Checks.{itemsFrom, lineOfItem, lacking, forbidden, clashing, containing}
+use Rattle.rules.specs.Load.{added, linesFrom, unless, checked, load}
+use Rattle.rules.specs.Comparable.{comparableKind, comparableIn, comparable}
+use Rattle.rules.specs.Ways.{owned, onward, walks, judged, ways, shortestFrom, shortest, searched, select}
+use Rattle.rules.specs.MethodSet.{below, methodFlag, settled, standingFrom, standing, methodNames, methodSet}
+use Rattle.rules.specs.Missing.{unmet, missing}
+use Rattle.rules.specs.Question.{questionForm, questionOf}
+use Rattle.rules.specs.Answer.{answer, answerBytes}
+use Rattle.rules.specs.Asked.{Asked, outcomeOf, outcome, refusal, numberOf, written, asked}
+use Rattle.rules.specs.Typeask.{inputOf, typeask}
+
+-- ---- texts
+
+-- "Spaces below stand for tabs."
+abbrev pub spaced : String → Bytes
+spaced []ˢ = []
+spaced (c ∷ˢ s) = cond (eqb (code c) 32) 9 (code c) ∷ spaced s
+
+-- a line, and what follows it
+infixr 66 _⏎_
+abbrev pub _⏎_ : String → Bytes → Bytes
+s ⏎ rest = spaced s ++ (10 ∷ rest)
+
+-- Everything that is computed: what is opened here is open where `called` and `prints` are.
+unfoldable opened : Bytes → Bytes
+unfolding isName isBlank isPath isTag exported valueFrom isNumeral number digitsOn decimal split pieces fields kindAt pathOf under bare pointerAt ifaceUnder namedPointer allMethods identityFrom identityOf sameId idBytes kindForm lineForm lineOf leads realType ownNumber parts mismatch pairParts identical itemsFrom lineOfItem lacking forbidden clashing containing added linesFrom unless checked load comparableKind comparableIn comparable owned onward walks judged ways shortestFrom shortest searched select below methodFlag settled standingFrom standing methodNames methodSet unmet missing questionForm questionOf answer answerBytes outcomeOf outcome refusal numberOf written asked inputOf typeask
+opened b = b
+
+-- ---- a call
+
+-- a table, a question, and the answer that is due
+pub record Case : Type 0 where
+  pub table : Bytes
+  pub question : Bytes
+  pub due : Bytes
+
+abbrev pub case : Bytes → String → Bytes → Case
+case table question due = record { table = table; question = spaced question; due = due }
+
+-- a buffer of 32 dots, and a work area that is not clear
+abbrev pub buffer : Bytes
+buffer = replicate 32 46
+
+-- all that the call gives: number, buffer, work area
+unfoldable pub called : Case → Asked
+unfolding opened
+called c = asked (c .table) (c .question) buffer (replicate workWords 7)
+
+-- what is due: the answer's length, the answer in front of what is left of the buffer, a clear work area
+unfoldable pub owed : Case → Asked
+owed c = record { number = pos (length (c .due)); answer = c .due ++ replicate (32 - length (c .due)) 46; work = replicate workWords 0 }
+
+-- ---- the program
+
+-- all that the program reads, and all that it prints
+pub record Run : Type 0 where
+  pub input : Bytes
+  pub output : Bytes
+
+-- a table's text, questions behind a line `Q`, and the output
+abbrev pub run : Bytes → Bytes → Bytes → Run
+run table questions output = record { input = table ++ ascii "Q\n" ++ questions; output = output }
+
+abbrev pub whole : Bytes → Bytes → Run
+whole input output = record { input = input; output = output }
+
+-- a table that is refused, without questions: "once and alone for a refused table, even without questions"
+abbrev pub bad : Bytes → Bytes → Run
+bad table output = run table [] output
+
+unfoldable pub prints : Run → Bool
+unfolding opened
+prints r = sameBytes (typeask (r .input)) (r .output)
+
+unfoldable pub allPrint : List Run → Bool
+unfolding prints
+allPrint rs = every prints rs

@@ -1,0 +1,56 @@
+-- The program: all that it prints for all that it reads.
+use mathlib.Core.Bool.{true, false, cond}
+use mathlib.Core.List.{List, [], _∷_, _++_}
+use Prim.Native.Nat.{ℕ}
+use lib.Dec.{ltb}
+use lib.ListN.{length}
+use Rattle.objects.specs.Bounds.{maxText, programAnswer}
+use Rattle.objects.specs.Lists.{Bytes, flat, empty}
+use Rattle.text.specs.Bytes.{ascii, decimal, sameBytes}
+use Rattle.text.specs.Lines.{pieces}
+use Rattle.rules.specs.Load.{Loaded, refused, loaded, load}
+use Rattle.rules.specs.Answer.{lineBytes}
+use Rattle.rules.specs.Asked.{Outcome, refuse, say, outcomeOf}
+
+-- table text and questions
+pub record Input : Type 0 where
+  pub table : Bytes
+  pub questions : List Bytes
+
+-- "The last question may lack its newline": what stands behind the last newline is a question unless it is empty
+abbrev pub questionsOf : List Bytes → List Bytes
+questionsOf [] = []
+questionsOf (last ∷ []) = cond (empty last) [] (last ∷ [])
+questionsOf (q ∷ next ∷ rest) = q ∷ questionsOf (next ∷ rest)
+
+abbrev pub putLine : Bytes → Input → Input
+putLine l i = record { table = l ++ (10 ∷ i .table); questions = i .questions }
+
+-- "table, a line `Q`, questions (without `Q`, one V)"; "a last `Q` without one is table text"
+unfoldable pub inputOf : List Bytes → Input
+inputOf [] = record { table = []; questions = ascii "V" ∷ [] }
+inputOf (last ∷ []) = record { table = last; questions = ascii "V" ∷ [] }
+inputOf (line ∷ next ∷ rest) = elim (sameBytes line (ascii "Q")) [
+  | true ↦ record { table = []; questions = questionsOf (next ∷ rest) }
+  | false ↦ putLine line (inputOf (next ∷ rest))
+]
+
+abbrev pub refusedBytes : ℕ → ℕ → Bytes
+refusedBytes n line = lineBytes (ascii "refused") (decimal n ∷ decimal line ∷ [])
+
+-- "It prints the answers .. or `refused` number line"
+abbrev pub printed : Outcome → Bytes
+printed (refuse n line) = refusedBytes n line
+printed (say bytes) = bytes
+
+-- "once and alone for a refused table, even without questions"
+abbrev pub printedAll : Loaded → List Bytes → Bytes
+printedAll (refused n line) questions = refusedBytes n line
+printedAll (loaded T) questions = flat (λ q. printed (outcomeOf (loaded T) q programAnswer)) questions
+
+abbrev pub answeredAll : Input → Bytes
+answeredAll i = printedAll (load (i .table)) (i .questions)
+
+-- "at most 32,768 bytes in all, otherwise it prints refusal 2"
+unfoldable pub typeask : Bytes → Bytes
+typeask input = cond (ltb maxText (length input)) (refusedBytes 2 0) (answeredAll (inputOf (pieces input)))
