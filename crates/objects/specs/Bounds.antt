@@ -58,3 +58,28 @@ refusalUnit = 65_536
 -- "It prints the answers, with a 16,384-byte answer buffer"
 abbrev pub programAnswer : ℕ
 programAnswer = 16_384
+
+-- ---- the rows of a loaded table: four counts, then a region for each kind of row (specs/Rows.antt)
+
+-- words of a type's row and of a member's
+abbrev pub rowWords : ℕ
+rowWords = 8
+
+-- an element of a tuple takes a tab and a digit at least
+abbrev pub maxElements : ℕ
+maxElements = 16_384
+
+abbrev pub typesAt : ℕ
+typesAt = 8
+
+abbrev pub membersAt : ℕ
+membersAt = 2_056
+
+abbrev pub packagesAt : ℕ
+packagesAt = 10_248
+
+abbrev pub elementsAt : ℕ
+elementsAt = 10_376
+
+abbrev pub allWords : ℕ
+allWords = 26_760
