@@ -1,7 +1,7 @@
 -- No shortest way has as many steps as there are types.
-use mathlib.Core.Path.{_≡_, refl, sym, ap, ap₂, _∙_, subst}
-use mathlib.Core.Bool.{Bool, true, false, cond, not, _&&_, _||_}
-use mathlib.Core.List.{List, [], _∷_, _++_, map}
+use mathlib.Core.Path.{_≡_, refl, ap, _∙_}
+use mathlib.Core.Bool.{true, false, not}
+use mathlib.Core.List.{List, [], _∷_, _++_, map, cons≢nil}
 use mathlib.Core.Logic.{_⊎_, inl, inr}
 use Prim.Native.Nat.{ℕ, zero, suc, _+_, _≤_, _<_}
 use native.Mathlib.Omega.{arith}
@@ -10,14 +10,14 @@ use lib.ListN.{length}
 use Rattle.objects.proofs.Pigeons.{Distinct, pigeons}
 use Rattle.objects.proofs.KeyLaws.{key-eq}
 use Rattle.objects.specs.Lists.{any, keep, flat, In}
-use Rattle.objects.proofs.ListLaws.{cases, clash, either, or-true, any-In, none-In, remove-none, In-keep, In-append, In-map, In-flat, any-yes, any-none, map-nil}
+use Rattle.objects.proofs.ListLaws.{cases, clash, either, or-true, any-In, In-keep, In-map, In-flat, any-yes, keep-none}
 use Rattle.objects.specs.declared.TypeKey.{TypeKey}
 use Rattle.rules.specs.Members.{Identity}
-use Rattle.rules.specs.Ways.{Place, Walk, Way, notfound, Selected}
-use Rattle.ways.specs.Graph.{Graph, Step, along, onward, walks, ways, shortest, judge, start, select}
-use Rattle.ways.specs.Levels.{EmbeddedType, at, raw, hit}
+use Rattle.rules.specs.Ways.{Place, Walk}
+use Rattle.ways.specs.Graph.{Graph, Step, along, onward, walks, matching, ends, ways}
+use Rattle.ways.specs.Levels.{raw}
 use Rattle.ways.proofs.Merge.{Lawful}
-use Rattle.ways.proofs.Same.{Keyed, reached, fresh, reached-on, hits, later, hit-fresh, has, NoneYet, good}
+use Rattle.ways.proofs.Same.{Alike, reached, reached-on, later, hit-fresh, has, NoneYet, good}
 
 -- ---- walks
 
@@ -71,7 +71,30 @@ module _ (G : Graph) (law : Lawful G) (cl : Closed G) (r0 : Walk) (in0 : r0 .at 
 
 -- ---- ways
 
-module _ (G : Graph) (law : Lawful G) (cl : Closed G) (r0 : Walk) (in0 : r0 .at .0 < G .size) (key : Identity) (kd : Keyed G key) where
+module _ (G : Graph) (r0 : Walk) (key : Identity) where
+  -- there are ways of d steps exactly if a walk of d steps ends in a type with the name
+  pub none-good : (d : ℕ) → ways G key r0 d ≡ [] → good G r0 key d ≡ []
+  none-good d h = go (walks G r0 d) h
+    where
+      go : (W : List Walk) → flat (ends G key) W ≡ [] → keep (λ w. has G key (w .at)) W ≡ []
+      go [] e = refl
+      go (w ∷ ws) e = on (matching G key (w .at)) refl (go ws)
+        where
+          on : (ms : List Place) → matching G key (w .at) ≡ ms → (flat (ends G key) ws ≡ [] → keep (λ v. has G key (v .at)) ws ≡ []) → keep (λ v. has G key (v .at)) (w ∷ ws) ≡ []
+          on [] m ih = rw (any-yes (G .hit key) (G .members (w .at)), m) (ih (rw m at e))
+          on (x ∷ ms) m ih = absurd (cons≢nil (rw m at e))
+
+  pub none-ways : (d : ℕ) → good G r0 key d ≡ [] → ways G key r0 d ≡ []
+  none-ways d h = go (walks G r0 d) h
+    where
+      go : (W : List Walk) → keep (λ w. has G key (w .at)) W ≡ [] → flat (ends G key) W ≡ []
+      go [] e = refl
+      go (w ∷ ws) e =
+          cases (has G key (w .at))
+          (λ f. absurd (cons≢nil (rw f at e)))
+          (λ f. rw (keep-none (G .hit key) (G .members (w .at)) f) (go ws (rw f at e)))
+
+module _ (G : Graph) (law : Lawful G) (cl : Closed G) (r0 : Walk) (in0 : r0 .at .0 < G .size) (key : Identity) (al : Alike G key) where
   -- no way of fewer than d steps, and d is not less than the number of types: none of d steps
   beyond : (d : ℕ) → G .size ≤ d → NoneYet G r0 key d → good G r0 key d ≡ []
   beyond d le ny = go (good G r0 key d) refl
@@ -80,21 +103,19 @@ module _ (G : Graph) (law : Lawful G) (cl : Closed G) (r0 : Walk) (in0 : r0 .at 
       go [] e = e
       go (w ∷ ws) e =
           let i = In-keep (λ x. has G key (x .at)) (walks G r0 d) w (rw e (inl refl)) in
-          let f = hit-fresh G law r0 key kd d ny (raw w) (i .1) in
+          let f = hit-fresh G law r0 key al d ny (raw w) (i .1) in
           let b = bound G law cl r0 in0 d w (i .0) (cases (reached G r0 d (w .at)) (λ t. clash f (rw t)) (λ t. t)) in
           absurd (omega arith)
-
-  -- the walks with the key are as many as the ways
-  pub none-good : (d : ℕ) → ways G key r0 d ≡ [] → good G r0 key d ≡ []
-  none-good d h = map-nil _ (good G r0 key d) (sym (hits G key (walks G r0 d) kd) ∙ h)
 
   none-yet : ((d : ℕ) → d < G .size → ways G key r0 d ≡ []) → (d : ℕ) → NoneYet G r0 key d
   none-yet h zero = λ u e. clash e refl
   none-yet h (suc d) =
-      later G law r0 key kd d (none-yet h d)
-      (elim (decLt d (G .size)) [ yes lt ↦ none-good d (h d lt) | no ge ↦ beyond d (omega arith) (none-yet h d) ])
+      later G law r0 key al d (none-yet h d)
+      (elim (decLt d (G .size)) [ yes lt ↦ none-good G r0 key d (h d lt) | no ge ↦ beyond d (omega arith) (none-yet h d) ])
 
   -- WAYS MAY BE OF ANY LENGTH: if none has fewer steps than there are types, there is none.
   pub none-longer : ((d : ℕ) → d < G .size → ways G key r0 d ≡ []) → (d : ℕ) → ways G key r0 d ≡ []
-  none-longer h d =
-      elim (decLt d (G .size)) [ yes lt ↦ h d lt | no ge ↦ hits G key (walks G r0 d) kd ∙ rw (beyond d (omega arith) (none-yet h d)) ]
+  none-longer h d = none-ways G r0 key d (good-none d)
+    where
+      good-none : (d : ℕ) → good G r0 key d ≡ []
+      good-none d = elim (decLt d (G .size)) [ yes lt ↦ none-good G r0 key d (h d lt) | no ge ↦ beyond d (omega arith) (none-yet h d) ]

@@ -51,7 +51,7 @@ module _ (G : Graph) (key : Identity) (r0 : Walk) where
 module _ (G : Graph) (law : Lawful G) (cl : Closed G) (r0 : Walk) (in0 : r0 .at .0 < G .size) (key : Identity) (kd : Keyed G key) where
   none-before : (d : ℕ) → ((j : ℕ) → j < d → ways G key r0 j ≡ []) → NoneYet G r0 key d
   none-before zero h = λ u e. clash e refl
-  none-before (suc d) h = later G law r0 key kd d (none-before d (λ j l. h j (omega arith))) (none-good G law cl r0 in0 key kd d (h d (omega arith)))
+  none-before (suc d) h = later G law r0 key (kd .alike) d (none-before d (λ j l. h j (omega arith))) (none-good G r0 key d (h d (omega arith)))
 
   pub least-bound : (d : ℕ) → Least G key r0 d → d < G .size
   least-bound d l = go (good G r0 key d) refl
@@ -60,7 +60,7 @@ module _ (G : Graph) (law : Lawful G) (cl : Closed G) (r0 : Walk) (in0 : r0 .at 
       go [] e = absurd (l .some (hits G key (walks G r0 d) kd ∙ rw e))
       go (w ∷ ws) e =
           let i = In-keep (λ x. has G key (x .at)) (walks G r0 d) w (rw e (inl refl)) in
-          let f = hit-fresh G law r0 key kd d (none-before d (l .none)) (raw w) (i .1) in
+          let f = hit-fresh G law r0 key (kd .alike) d (none-before d (l .none)) (raw w) (i .1) in
           bound G law cl r0 in0 d w (i .0) (cases (reached G r0 d (w .at)) (λ t. clash f (rw t)) (λ t. t))
 
   -- every question has a least length, or no way of any length
@@ -69,7 +69,7 @@ module _ (G : Graph) (law : Lawful G) (cl : Closed G) (r0 : Walk) (in0 : r0 .at 
     where
       step : ((d : ℕ) × Least G key r0 d) ⊎ ((j : ℕ) → j < G .size → ways G key r0 j ≡ []) → ((d : ℕ) × Least G key r0 d) ⊎ ((j : ℕ) → ways G key r0 j ≡ [])
       step (inl l) = inl l
-      step (inr h) = inr (none-longer G law cl r0 in0 key kd h)
+      step (inr h) = inr (none-longer G law cl r0 in0 key (kd .alike) h)
 
   pub shortest-least : (d : ℕ) → Least G key r0 d → shortest G key r0 0 (G .size) ≡ ways G key r0 d
   shortest-least d l = let b = least-bound d l in shortest-at G key r0 (G .size) 0 d l (omega arith) (omega arith)

@@ -6,3 +6,4 @@ pub mod Order
 pub mod Extra
 pub mod Bridge
 pub mod LevelTest
+pub mod AllWays

@@ -25,6 +25,7 @@ pub record Keyed (G : Graph) (key : Identity) : Type 0 where
   pub alike : (a b : TypeKey) → G .same a b ≡ true → any (G .hit key) (G .members a) ≡ any (G .hit key) (G .members b)
   pub one : (t : TypeKey) → One (matching G key t)
 
+-- a type has a member of the name
 abbrev pub has : Graph → Identity → TypeKey → Bool
 has G key t = any (G .hit key) (G .members t)
 
@@ -180,13 +181,17 @@ NoneYet G r0 key d = (u : TypeKey) → reached G r0 d u ≡ true → has G key u
 abbrev pub good : Graph → Walk → Identity → ℕ → List Walk
 good G r0 key d = keep (λ w. has G key (w .at)) (walks G r0 d)
 
-module _ (G : Graph) (law : Lawful G) (r0 : Walk) (key : Identity) (kd : Keyed G key) where
+-- identical types have the name alike
+abbrev pub Alike : Graph → Identity → Type 0
+Alike G key = (a b : TypeKey) → G .same a b ≡ true → has G key a ≡ has G key b
+
+module _ (G : Graph) (law : Lawful G) (r0 : Walk) (key : Identity) (al : Alike G key) where
   pub later : (d : ℕ) → NoneYet G r0 key d → good G r0 key d ≡ [] → NoneYet G r0 key (suc d)
   later d ny e u h =
       cases (reached G r0 d u)
       (λ f. ny u f)
       (λ f. let w = some-In (λ x. G .same (x .at) u) (walks G r0 d) (rw f at h) in
-      sym (kd .alike (w .0 .at) u (w .2)) ∙ none-In (λ x. has G key (x .at)) (walks G r0 d) (w .0) (any-yes (λ x. has G key (x .at)) (walks G r0 d) ∙ rw e) (w .1))
+      sym (al (w .0 .at) u (w .2)) ∙ none-In (λ x. has G key (x .at)) (walks G r0 d) (w .0) (any-yes (λ x. has G key (x .at)) (walks G r0 d) ∙ rw e) (w .1))
 
   pub hit-fresh : (d : ℕ) → NoneYet G r0 key d → (r : EmbeddedType) → hit G key r ≡ true → fresh G r0 d r ≡ true
   hit-fresh d ny r h = cases (reached G r0 d (at r)) (λ e. clash h (ny (at r) e)) (λ e. rw e)
@@ -195,10 +200,10 @@ module _ (G : Graph) (law : Lawful G) (skip : List TypeKey → TypeKey → Bool)
   -- the records of a level that have the key are the merged walks that do
   hits-level : (d : ℕ) (seen : List TypeKey) (L : List EmbeddedType) (lv : Level G law r0 d seen L) → NoneYet G r0 key d → keep (hit G key) (keep (unseen skip seen) L) ≡ merge G (map raw (good G r0 key d))
   hits-level d seen L lv ny =
-      sym (keep-weaker (hit G key) (fresh G r0 d) (hit-fresh G law r0 key kd d ny) (keep (unseen skip seen) L))
+      sym (keep-weaker (hit G key) (fresh G r0 d) (hit-fresh G law r0 key (kd .alike) d ny) (keep (unseen skip seen) L))
       ∙ ap (keep (hit G key)) (kept-fresh G law r0 skip sk d seen L lv)
       ∙ sym (merge-keep G law (has G key) (kd .alike) (keep (fresh G r0 d) (all G r0 d)))
-      ∙ ap (merge G) (keep-weaker (hit G key) (fresh G r0 d) (hit-fresh G law r0 key kd d ny) (all G r0 d) ∙ keep-map (hit G key) raw (walks G r0 d))
+      ∙ ap (merge G) (keep-weaker (hit G key) (fresh G r0 d) (hit-fresh G law r0 key (kd .alike) d ny) (all G r0 d) ∙ keep-map (hit G key) raw (walks G r0 d))
 
   pub search-is : (a : Bool) (k d : ℕ) (seen : List TypeKey) (L : List EmbeddedType) → Level G law r0 d seen L → NoneYet G r0 key d → search-levels G skip key a k seen L ≡ judge G a (shortest G key r0 d k)
   search-is a zero d seen L lv ny = refl
@@ -208,7 +213,7 @@ module _ (G : Graph) (law : Lawful G) (skip : List TypeKey → TypeKey → Bool)
       go : (W : List Walk) → good G r0 key d ≡ W
           → (NoneYet G r0 key (suc d) → search-levels G skip key a k (map at (keep (unseen skip seen) L) ++ seen) (merge G (flat (next G) (keep (unseen skip seen) L))) ≡ judge G a (shortest G key r0 (suc d) k))
           → search-levels G skip key a (suc k) seen L ≡ judge G a (shortest G key r0 d (suc k))
-      go [] e ih = rw (hits-level d seen L lv ny, search-levels, hits G key (walks G r0 d) kd, shortest, e) (ih (later G law r0 key kd d ny e))
+      go [] e ih = rw (hits-level d seen L lv ny, search-levels, hits G key (walks G r0 d) kd, shortest, e) (ih (later G law r0 key (kd .alike) d ny e))
       go (w ∷ ws) e ih = rw (hits-level d seen L lv ny, search-levels, hits G key (walks G r0 d) kd, shortest, e) (verdict-merge G key a (w ∷ ws))
 
 -- THE LEVELS GIVE WHAT THE WAYS SAY.
