@@ -1,1 +1,2 @@
 pub mod GrowWays
+pub mod GrowKinds

@@ -40,9 +40,9 @@ module _ (n : Numbers) where
 
     -- "a struct that no old line refers to, except the T line of at most one named type"
     pub record Free (t : TypeKey) : Type 0 where
-      pub unreferred : (x : TypeKey) → x .0 < size A → In t (refs (kindAt A x)) → isNamed (kindAt A x) ≡ true
-      pub oneName : (x y : TypeKey) → x .0 < size A → y .0 < size A → In t (refs (kindAt A x)) → In t (refs (kindAt A y)) → x ≡ y
-      pub noMember : (x : TypeKey) (m : Member) → x .0 < size A → In m (membersOf (kindAt A x)) → m .type ≡ t → ⊥
+      pub unreferred : (x : TypeKey) → In t (refs (kindAt A x)) → isNamed (kindAt A x) ≡ true
+      pub oneName : (x y : TypeKey) → In t (refs (kindAt A x)) → In t (refs (kindAt A y)) → x ≡ y
+      pub noMember : (x : TypeKey) (m : Member) → In m (membersOf (kindAt A x)) → m .type ≡ t → ⊥
 
     -- what the T line of t and the lines under it may become: the same line with its numbers changed, and
     -- "a type's old members come first and in order"; "Added are .. at the end M lines of a named type and F lines of a struct .."
