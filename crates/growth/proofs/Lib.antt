@@ -1,2 +1,4 @@
+pub mod Laws
 pub mod GrowWays
 pub mod GrowKinds
+pub mod GrowIdentity
