@@ -2,3 +2,4 @@ pub mod Laws
 pub mod GrowWays
 pub mod GrowKinds
 pub mod GrowIdentity
+pub mod GrowGraph
