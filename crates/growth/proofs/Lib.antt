@@ -3,3 +3,4 @@ pub mod GrowWays
 pub mod GrowKinds
 pub mod GrowIdentity
 pub mod GrowGraph
+pub mod GrowSelect
