@@ -4,3 +4,4 @@ pub mod GrowKinds
 pub mod GrowIdentity
 pub mod GrowGraph
 pub mod GrowSelect
+pub mod GrowMissing
