@@ -5,3 +5,4 @@ pub mod GrowIdentity
 pub mod GrowGraph
 pub mod GrowSelect
 pub mod GrowMissing
+pub mod Promised

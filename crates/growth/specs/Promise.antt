@@ -9,11 +9,12 @@ use Prim.Native.Nat.{ℕ, _≤_, _<_}
 use Rattle.objects.specs.Lists.{Bytes, any, In}
 use Rattle.objects.specs.declared.TypeKey.{TypeKey}
 use Rattle.objects.specs.declared.PackageKey.{PackageKey}
-use Rattle.objects.specs.Table.{Table, Member, hasType, hasPackage, under, bare, pointerAt, ifaceUnder, namedPointer, allMethods}
+use Rattle.objects.specs.Table.{Table, Member, under, bare, pointerAt, ifaceUnder, namedPointer, allMethods}
 use Rattle.text.specs.Bytes.{isBlank}
 use Rattle.rules.specs.Members.{Identity, identityFrom, identityOf}
 use Rattle.rules.specs.Ways.{Way, placesOf, memberOf, Selected, notfound, badreceiver, entry, ambiguous, ways, select}
 use Rattle.rules.specs.Missing.{missing}
+use Rattle.rules.specs.Question.{Question, askS, askM, askN, askI, askC, askV}
 use Rattle.growth.specs.Grown.{Numbers, carryPkg, carryMember, isAdded}
 
 -- ---- the ways of a question
@@ -110,9 +111,13 @@ module _ (n : Numbers) (A B : Table) where
   abbrev pub PromiseN : TypeKey → TypeKey → Bool → Type 0
   PromiseN t i s = missing A t i s ≡ none → (missing B (n .ty t) (n .ty i) s ≡ none) ⊎ Disturbed t i
 
--- ---- the whole
+  -- ---- the whole
 
--- for every question S and N that the old table has the numbers of
-pub record Promise (n : Numbers) (A B : Table) : Type 0 where
-  pub selection : (t : TypeKey) (a : Bool) (pkg : Option PackageKey) (name : Bytes) → hasType A t ≡ true → hasPackage A pkg ≡ true → PromiseS n A B t a pkg name
-  pub satisfaction : (t i : TypeKey) (s : Bool) → hasType A t ≡ true → hasType A i ≡ true → PromiseN n A B t i s
+  -- what is promised for a question; for M, I, C and V nothing
+  abbrev pub Promised : Question → Type 0
+  Promised (askS t a pkg name) = PromiseS t a pkg name
+  Promised (askM t) = Unit {0}
+  Promised (askC t) = Unit {0}
+  Promised (askN t i s) = PromiseN t i s
+  Promised (askI x y) = Unit {0}
+  Promised askV = Unit {0}

@@ -1,0 +1,106 @@
+-- DEMAND 3, ONE CLAIM ABOUT TWO LIBRARIES: whatever was added, the answers of S and N to an old question that is put again keep the promise of
+-- specs/Promise.antt (`grown`), and they are what the two calls say (`grown-calls`).
+use mathlib.Core.Path.{_≡_, refl, sym, ap, _∙_}
+use mathlib.Core.Bool.{Bool, true, false, cond, not, _&&_}
+use mathlib.Core.Option.{Option, none, some}
+use Prim.Native.Nat.{ℕ, _≤_, _<_}
+use lib.Dec.{ltb, leb, eqb}
+use lib.ListN.{length}
+use borrow.Author.Tests.{ltb-true, le-ltb}
+use Rattle.objects.specs.Bounds.{maxQuestion}
+use Rattle.objects.specs.Lists.{Bytes}
+use Rattle.objects.proofs.ListLaws.{cases, clash}
+use Rattle.objects.specs.declared.TypeKey.{TypeKey}
+use Rattle.objects.specs.Table.{Table, size, hasType, hasPackage, kindAt}
+use Rattle.text.specs.Lines.{fields}
+use Rattle.text.specs.Readers.{_>>=_, field, whole}
+use Rattle.rules.specs.Load.{load, loaded}
+use Rattle.rules.specs.Sound.{Sound}
+use Rattle.rules.specs.Question.{Question, askS, askM, askN, askI, askC, askV, questionForm, inTable, known, questionOf}
+use Rattle.rules.specs.Answer.{answer, answerBytes}
+use Rattle.rules.specs.Asked.{Outcome, say, fitted, wrongSecond, answered, outcomeOf, outcome}
+use Rattle.growth.specs.Grown.{Numbers, Grown, GrownTexts}
+use Rattle.growth.specs.Promise.{Promised}
+use Rattle.growth.specs.Calls.{carryQuestion, PutAgain, Said}
+use Rattle.growth.proofs.Laws.{Laws}
+use Rattle.growth.proofs.GrowKinds.{kind-kept}
+use Rattle.growth.proofs.GrowSelect.{promise-S}
+use Rattle.growth.proofs.GrowMissing.{promise-N}
+
+and-l : (a b : Bool) → a && b ≡ true → a ≡ true
+and-l true b h = refl
+and-l false b h = h
+
+and-r : (a b : Bool) → a && b ≡ true → b ≡ true
+and-r true b h = h
+and-r false b h = clash h refl
+
+in-range : (T : Table) (t : TypeKey) → hasType T t ≡ true → t .0 < size T
+in-range T t h = ltb-true (t .0) (size T) h
+
+module _ (n : Numbers) (A B : Table) (lawsA : Laws A) (lawsB : Laws B) (g : Grown n A B) where
+  pub promised : (q : Question) → inTable A q ≡ true → Promised n A B q
+  promised (askS t a pkg name) h = promise-S n A B lawsA lawsB g t (in-range A t (and-l (hasType A t) (hasPackage A pkg) h)) a pkg name (and-r (hasType A t) (hasPackage A pkg) h)
+  promised (askM t) h = tt
+  promised (askC t) h = tt
+  promised (askN t i s) h = promise-N n A B lawsA lawsB g t (in-range A t (and-l (hasType A t) (hasType A i) h)) s i (in-range A i (and-r (hasType A t) (hasType A i) h))
+  promised (askI x y) h = tt
+  promised askV h = tt
+
+  second-kept : (q : Question) → inTable A q ≡ true → wrongSecond B (carryQuestion n q) ≡ wrongSecond A q
+  second-kept (askS t a pkg name) h = refl
+  second-kept (askM t) h = refl
+  second-kept (askC t) h = refl
+  second-kept (askN t i s) h = ap (λ k. not (eqb k 9)) (kind-kept n A B (lawsA .sound) g i (in-range A i (and-r (hasType A t) (hasType A i) h)))
+  second-kept (askI x y) h = refl
+  second-kept askV h = refl
+
+-- ---- the call
+
+abbrev hasQuestion : Option Question → Bool
+hasQuestion none = false
+hasQuestion (some q) = true
+
+-- a question that a line asks has the table's numbers
+pub asked-in : (T : Table) (line : Bytes) (q : Question) → questionOf T line ≡ some q → inTable T q ≡ true
+unfolding questionOf
+asked-in T line q e =
+    cases (leb (length line) maxQuestion)
+    (λ z. go (whole (do l ← field some; questionForm l) (fields line)) (rw z at e))
+    (λ z. clash refl (ap hasQuestion (sym (rw z at e))))
+  where
+    from : Question → Option Question → Question
+    from d none = d
+    from d (some p) = p
+
+    go : (o : Option Question) → known T o ≡ some q → inTable T q ≡ true
+    go none h = clash refl (ap hasQuestion (sym h))
+    go (some p) h = cases (inTable T p) (λ z. let same : p ≡ q = ap (from p) (rw z at h) in ap (inTable T) (sym same) ∙ z) (λ z. clash refl (ap hasQuestion (sym (rw z at h))))
+
+pub call-says : (text line : Bytes) (room : ℕ) (T : Table) (q : Question) → load text ≡ loaded T → questionOf T line ≡ some q → wrongSecond T q ≡ false → length (answerBytes (answer T q)) ≤ room
+    → outcome text line room ≡ say (answerBytes (answer T q))
+unfolding outcome outcomeOf
+call-says text line room T q l e s f = rw (l, outcomeOf, e, s, le-ltb room (length (answerBytes (answer T q))) f)
+
+-- ---- THE THEOREM
+
+module _ (sounds : (text : Bytes) (T : Table) → load text ≡ loaded T → Sound T) (lawsOf : (T : Table) → Sound T → Laws T) (a b : Bytes) (g : GrownTexts a b) where
+  oldLaws : Laws (g .old)
+  oldLaws = lawsOf (g .old) (sounds a (g .old) (g .oldLoads))
+
+  newLaws : Laws (g .new)
+  newLaws = lawsOf (g .new) (sounds b (g .new) (g .newLoads))
+
+  -- THE GROWTH PROMISE, of the answers that the rules give to every old question
+  pub grown : (q : Question) → inTable (g .old) q ≡ true → Promised (g .numbers) (g .old) (g .new) q
+  grown = promised (g .numbers) (g .old) (g .new) oldLaws newLaws (g .grown)
+
+  -- THE GROWTH PROMISE, of what the two calls say
+  pub grown-calls : (q : Question) (line again : Bytes) (room newRoom : ℕ) → PutAgain g q line again room newRoom → Said g q line again room newRoom
+  grown-calls q line again room newRoom put =
+      let i = asked-in (g .old) line q (put .asks) in
+      record {
+        before = call-says a line room (g .old) q (g .oldLoads) (put .asks) (put .second) (put .fits);
+        after = call-says b again newRoom (g .new) (carryQuestion (g .numbers) q) (g .newLoads) (put .asksAgain) (second-kept (g .numbers) (g .old) (g .new) oldLaws newLaws (g .grown) q i ∙ put .second) (put .fitsAgain);
+        promised = grown q i;
+      }
