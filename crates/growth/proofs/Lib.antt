@@ -6,3 +6,4 @@ pub mod GrowGraph
 pub mod GrowSelect
 pub mod GrowMissing
 pub mod Promised
+pub mod Computed

@@ -1,0 +1,11 @@
+-- The rows of specs/Incident.antt, computed from the rules.
+use mathlib.Core.Path.{_≡_, refl}
+use mathlib.Core.List.{map}
+use Rattle.objects.specs.Lists.{flat}
+use Rattle.rules.specs.Rows.{called, owed}
+use Rattle.growth.specs.Incident.{casesOf, rows}
+
+-- EACH CASE OF THE PROMISE: number, buffer and work area of both calls
+pub growth-answers : map called (flat casesOf rows) ≡ map owed (flat casesOf rows)
+unfolding called owed
+growth-answers = refl
