@@ -15,7 +15,7 @@ use Rattle.objects.specs.Table.{Table, size, isMethod, hasPtr, Member, fieldsOf
 use Rattle.rules.specs.Members.{Identity, identityOf, sameId, sameMember}
 use Rattle.rules.specs.Identity.{identical}
 use Rattle.rules.specs.Ways as rules
-use Rattle.rules.specs.Ways.{Place, Way, memberOf, placesOf, placesFrom, fieldPlaces, Selected, notfound, badreceiver, entry, ambiguous, single, owned}
+use Rattle.rules.specs.Ways.{Place, Walk, Way, memberOf, placesOf, placesFrom, fieldPlaces, Selected, notfound, badreceiver, entry, ambiguous, single, owned}
 use Rattle.rules.specs.Missing.{Lack, compared, unmetThere, unmetBy, unmet, firstUnmet, missing}
 use Rattle.rules.specs.Sound.{MemberOf}
 use Rattle.ways.specs.Graph.{Graph, walks, matching, ends, ways, judge, start, select}
@@ -36,6 +36,9 @@ isEntry notfound = false
 isEntry badreceiver = false
 isEntry (entry m f p) = true
 isEntry (ambiguous p) = false
+
+no-entry : {C : Type 0} (r : Selected) (m : Member) (f : Bool) (p : List ℕ) → r ≡ entry m f p → r ≡ notfound → C
+no-entry r m f p e z = clash (ap isEntry e) (ap isEntry z)
 
 abbrev entryOr : Member → Selected → Member
 entryOr d notfound = d
@@ -72,10 +75,17 @@ module _ (T : Table) (laws : Laws T) where
       (λ k. (under T t, fields-members T (laws .sound) (kindAt T (under T t)) (p .member) (places-In 0 (fieldsOf (kindAt T (under T t))) p k))))
       (λ j. (under T t, methods-members T (laws .sound) (kindAt T (under T t)) (p .member) (places-In 0 (allMethods T t) p j)))
 
+  way-member : (q : Identity) (r : Walk) (d : ℕ) (w : Way) → In w (ways (graph T) q r d) → (x : TypeKey) × MemberOf T x (memberOf w)
+  way-member q r d w i =
+      let v = In-flat (ends (graph T) q) (walks (graph T) r d) w i in
+      let y = In-map (λ x. record { walk = v .0; last = x }) (matching (graph T) q (v .0 .at)) w (v .2) in
+      let o = owned-member (v .0 .at) (y .0) (In-keep (graph T .hit q) (owned T (v .0 .at)) (y .0) (y .1) .0) in
+      (o .0, subst (λ (z : Way). MemberOf T (o .0) (memberOf z)) (sym (y .2)) (o .1))
+
   pub entry-member : (q : Identity) (t : TypeKey) → t .0 < size T → (a : Bool) (m : Member) (f : Bool) (p : List ℕ) → rules.select T q t a ≡ entry m f p → (x : TypeKey) × MemberOf T x m
   entry-member q t h a m f p e =
       cases (isShut T q t)
-      (λ z. clash refl (ap isEntry (sym e ∙ select-shut T q t a z)))
+      (λ z. no-entry (rules.select T q t a) m f p e (select-shut T q t a z))
       (λ z.
       let G = graph T in
       let s = startAt T t in
@@ -86,11 +96,9 @@ module _ (T : Table) (laws : Laws T) where
       either (least-or-none G (laws .lawful) (laws .closed) (start s g) inG q kd)
       (λ l.
       let w = judge-member G a (ways G q (start s g) (l .0)) m f p (sym (select-least G (laws .lawful) (laws .closed) s inG g a q kd (l .0) (l .1)) ∙ e′) in
-      let v = In-flat (ends G q) (walks G (start s g) (l .0)) (w .0) (w .1) in
-      let y = In-map (λ x. record { walk = v .0; last = x }) (matching G q (v .0 .at)) (w .0) (v .2) in
-      let r = owned-member (v .0 .at) (y .0) (In-keep (G .hit q) (owned T (v .0 .at)) (y .0) (y .1) .0) in
-      (r .0, subst (MemberOf T (r .0)) (ap memberOf (sym (y .2)) ∙ w .2) (r .1)))
-      (λ none-there. clash refl (ap isEntry (sym e′ ∙ select-none G (laws .lawful) (laws .closed) s inG g a q kd none-there))))
+      let o = way-member q (start s g) (l .0) (w .0) (w .1) in
+      (o .0, subst (MemberOf T (o .0)) (w .2) (o .1)))
+      (λ none-there. no-entry (select G q s g a) m f p e′ (select-none G (laws .lawful) (laws .closed) s inG g a q kd none-there)))
 
 -- ---- one method
 

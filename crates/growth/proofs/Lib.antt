@@ -7,3 +7,4 @@ pub mod GrowSelect
 pub mod GrowMissing
 pub mod Promised
 pub mod Computed
+pub mod Disk
