@@ -1,3 +1,5 @@
 pub mod ListLaws
+pub mod BoolLaws
+pub mod PairLaws
 pub mod Pigeons
 pub mod KeyLaws
