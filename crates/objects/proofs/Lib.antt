@@ -3,3 +3,4 @@ pub mod BoolLaws
 pub mod PairLaws
 pub mod Pigeons
 pub mod KeyLaws
+pub mod KindLaws
