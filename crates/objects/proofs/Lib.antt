@@ -4,3 +4,4 @@ pub mod PartLaws
 pub mod BoolLaws
 pub mod PairLaws
 pub mod KeyLaws
+pub mod Settle

@@ -9,12 +9,11 @@ use Prim.Native.Nat.{ℕ, zero, suc, _+_, _*_, _≤_, _<_}
 use native.Mathlib.Omega.{arith}
 use native.Mathlib.Decide.{decLt}
 use native.Mathlib.Nat.{suc-mul, mul-le-mul-right}
-use lib.ListN.{List·getD-eq-default}
 use borrow.Author.Tests.{not-true, not-false}
 use Rattle.objects.specs.Lists.{In}
 use Rattle.objects.specs.declared.TypeKey.{TypeKey}
-use Rattle.objects.specs.Table.{Table, size, sameType, Member, Kind, Basic, isNamed, refs, membersOf, kindAt}
-use Rattle.objects.proofs.ListLaws.{cases, clash, either, and-l, and-r, In-append, In-map}
+use Rattle.objects.specs.Table.{Table, size, sameType, kindAt}
+use Rattle.objects.proofs.ListLaws.{cases, clash, and-l, and-r}
 use Rattle.objects.proofs.BoolLaws.{and-i, iff-eq}
 use Rattle.objects.proofs.PairLaws.{AllPairs}
 use Rattle.objects.proofs.KeyLaws.{type-key, sameType-true, sameType-self}
@@ -22,6 +21,7 @@ use Rattle.rules.specs.Chains.{leads, Chain, here, there}
 use Rattle.rules.specs.Identity.{realType, ownNumber, parts, Pair, samePair, corresponding, mismatched, mismatch, pairParts, identical}
 use Rattle.rules.specs.StepIdentity.{sameStep, sameIn}
 use Rattle.rules.specs.Sound.{Sound}
+use Rattle.rules.proofs.RangeLaws.{kind-out, part-in}
 use Rattle.rules.proofs.ChainLaws.{AtMost, leads-sound, leads-iff}
 use Rattle.rules.proofs.StepLaws.{Holds, Agree, AgreeKinds, step-agree, agree-map, same-zero, same-split, same-join, same-self, same-turn, same-trans, corr-from, Differ, chain-false, false-chain}
 
@@ -46,17 +46,6 @@ digits n a b c d hb hd e =
 fits : (n a b : ℕ) → a < n → b < n → a * n + b < n * n
 fits n a b ha hb = let k = mul-le-mul-right n ha in omega (arith, suc-mul a n)
 
--- a part of a type is one that its lines refer to
-pub part-in : (T : Table) → Sound T → (x e : TypeKey) → In e (parts (kindAt T x)) → e .0 < size T
-unfolding parts
-part-in T s x e i = cases (isNamed (kindAt T x)) (λ n. let j : In e [] = rw n at i in absurd j) (λ n. listed (rw n at i))
-  where
-    listed : In e (refs (kindAt T x) ++ map (λ (m : Member). m .type) (membersOf (kindAt T x))) → e .0 < size T
-    listed i =
-        either (In-append (refs (kindAt T x)) (map (λ (m : Member). m .type) (membersOf (kindAt T x))) e i)
-        (λ j. s .refers x e j)
-        (λ j. let r = In-map (λ (m : Member). m .type) (membersOf (kindAt T x)) e j in rw (r .2) (s .typed x (r .0) (r .1)))
-
 abbrev Inside : Table → Pair → Type 0
 Inside T p = (p .left .0 < size T) × (p .right .0 < size T)
 
@@ -72,10 +61,6 @@ pairs-few T s = record {
 }
 
 -- ---- keys that the table lacks
-
-pub kind-out : (T : Table) (x : TypeKey) → (x .0 < size T → ⊥) → kindAt T x ≡ Basic 0
-unfolding kindAt
-kind-out T x h = List·getD-eq-default (T .types) (Basic 0) {n = x .0} (omega arith)
 
 -- where no step leads on, a search tells whether the test passes, if it looks at all
 stuck : {A : Type 0} (same : A → A → Bool) (next : A → List A) (p : A → Bool) (n : ℕ) (x : A) → next x ≡ [] → (n ≡ 0 → p x ≡ false) → p x ≡ true → leads same next p n [] (x ∷ []) ≡ true
