@@ -25,6 +25,8 @@ use Rattle.rules.specs.Checks.{memberAllowed, mayHave}
 use Rattle.rules.specs.Sound.{Sound, Apart}
 use Rattle.rules.specs.Ways.{Place, Walk, Way, placesFrom, placesOf, owned, fieldPlaces, embedded, ways, start}
 use Rattle.rules.proofs.MemberLaws.{Alike, sameId-true, sameId-self}
+use Rattle.rules.proofs.StepLaws.{Agree}
+use Rattle.rules.proofs.IdentityLaws.{identical-self, identical-turn, identical-trans, identical-parts}
 use Rattle.ways.specs.Graph as over
 use Rattle.ways.specs.Graph.{Graph, Step, matching}
 use Rattle.ways.specs.Levels.{raw, found}
@@ -35,20 +37,6 @@ use Rattle.ways.proofs.Bound.{Closed}
 use Rattle.ways.proofs.Order.{Before, Sooner, Placed, before-snoc, sorted, long}
 use Rattle.ways.proofs.Extra.{Pairs, alike-pairs}
 use Rattle.ways.proofs.Bridge.{ways-are}
-
--- x of kind k and y of kind l are of one sort, have the same own number, members alike, and identical parts
-pub record Agree (T : Table) (x y : TypeKey) : Type 0 where
-  pub kinds : kindNumber (kindAt T x) ≡ kindNumber (kindAt T y)
-  pub owns : ownNumber x (kindAt T x) ≡ ownNumber y (kindAt T y)
-  pub members : AllPairs (Alike T) (membersOf (kindAt T x)) (membersOf (kindAt T y))
-  pub related : AllPairs (λ a b. identical T a b ≡ true) (parts (kindAt T x)) (parts (kindAt T y))
-
--- the laws of identity
-pub record IdentityFacts (T : Table) : Type 0 where
-  pub self : (x : TypeKey) → identical T x x ≡ true
-  pub turn : (x y : TypeKey) → identical T x y ≡ true → identical T y x ≡ true
-  pub trans : (x y z : TypeKey) → identical T x y ≡ true → identical T y z ≡ true → identical T x z ≡ true
-  pub agree : (x y : TypeKey) → identical T x y ≡ true → Agree T x y
 
 -- ---- places
 
@@ -214,8 +202,8 @@ module _ (T : Table) (sound : Sound T) where
 
 -- ---- identical types
 
-module _ (T : Table) (facts : IdentityFacts T) where
-  both-named : (a b : TypeKey) → Agree T a b → isNamed (kindAt T b) ≡ true → a ≡ b
+module _ (T : Table) (sound : Sound T) where
+  both-named : (a b : TypeKey) → Agree T (identical T) a b → isNamed (kindAt T b) ≡ true → a ≡ b
   unfolding ownNumber
   both-named a b g h =
       let m = named-is (kindAt T b) h in
@@ -226,13 +214,13 @@ module _ (T : Table) (facts : IdentityFacts T) where
   pub own : (v u : TypeKey) → isNamed (kindAt T u) ≡ true → identical T v u ≡ sameType v u
   own v u h =
       iff-eq (identical T v u) (sameType v u)
-      (λ e. subst (λ z. sameType v z ≡ true) (both-named v u (facts .agree v u e) h) (same-self v))
-      (λ e. subst (λ z. identical T v z ≡ true) (same-key v u e) (facts .self v))
+      (λ e. subst (λ z. sameType v z ≡ true) (both-named v u (identical-parts T sound v u .0 e) h) (same-self v))
+      (λ e. subst (λ z. identical T v z ≡ true) (same-key v u e) (identical-self T sound v))
 
   bare-same : (a b : TypeKey) → identical T a b ≡ true → identical T (bare T a) (bare T b) ≡ true
   unfolding parts
   bare-same a b h =
-      let g = facts .agree a b h in
+      let g = identical-parts T sound a b .0 h in
       cases (isPointer (kindAt T b))
       (λ e.
       let p = pointer-is (kindAt T b) e in
@@ -254,7 +242,7 @@ module _ (T : Table) (facts : IdentityFacts T) where
       (λ e. rw (a .0 .1 ∙ e, e) (steps-pairs (suc n) (suc r) ms ns (a .1) (t .1)))
 
   same-right : (u x y : TypeKey) → identical T x y ≡ true → identical T u x ≡ identical T u y
-  same-right u x y e = iff-eq (identical T u x) (identical T u y) (λ h. facts .trans u x y h e) (λ h. facts .trans u y x h (facts .turn x y e))
+  same-right u x y e = iff-eq (identical T u x) (identical T u y) (λ h. identical-trans T sound u x y h e) (λ h. identical-trans T sound u y x h (identical-turn T sound x y e))
 
   struct-parts : (ms : List Member) → parts (Struct ms) ≡ map (λ m. m .type) ms
   unfolding parts
@@ -279,13 +267,13 @@ module _ (T : Table) (facts : IdentityFacts T) where
 
   pub lawful : Lawful (graph T)
   lawful = record {
-    self = facts .self;
-    turn = λ a b. iff-eq (identical T a b) (identical T b a) (facts .turn a b) (facts .turn b a);
-    chain = λ a b c e. iff-eq (identical T a c) (identical T b c) (λ h. facts .trans b a c (facts .turn a b e) h) (λ h. facts .trans a b c e h);
-    alike = λ a b u e. embeds a b u (facts .agree a b e);
+    self = identical-self T sound;
+    turn = λ a b. iff-eq (identical T a b) (identical T b a) (identical-turn T sound a b) (identical-turn T sound b a);
+    chain = λ a b c e. iff-eq (identical T a c) (identical T b c) (λ h. identical-trans T sound b a c (identical-turn T sound a b e) h) (λ h. identical-trans T sound a b c e h);
+    alike = λ a b u e. embeds a b u (identical-parts T sound a b .0 e);
   }
     where
-      embeds : (a b u : TypeKey) → Agree T a b → any (λ s. identical T u (s .target)) (graph T .steps a) ≡ any (λ s. identical T u (s .target)) (graph T .steps b)
+      embeds : (a b u : TypeKey) → Agree T (identical T) a b → any (λ s. identical T u (s .target)) (graph T .steps a) ≡ any (λ s. identical T u (s .target)) (graph T .steps b)
       embeds a b u g =
           cases (isNamed (kindAt T b))
           (λ e. rw (both-named a b g e))
@@ -314,7 +302,7 @@ module _ (T : Table) (facts : IdentityFacts T) where
           places-any T q 0 (allMethodsOf (kindAt T (under T t))),
         )
 
-    has-alike : (a b : TypeKey) → Agree T a b → has (graph T) q a ≡ has (graph T) q b
+    has-alike : (a b : TypeKey) → Agree T (identical T) a b → has (graph T) q a ≡ has (graph T) q b
     has-alike a b g =
         cases (isNamed (kindAt T b))
         (λ e. rw (both-named a b g e))
@@ -325,9 +313,9 @@ module _ (T : Table) (facts : IdentityFacts T) where
 
 -- ---- what the laws of ways ask for
 
-module _ (T : Table) (sound : Sound T) (facts : IdentityFacts T) (q : Identity) (nb : isBlank (q .name) ≡ false) where
+module _ (T : Table) (sound : Sound T) (q : Identity) (nb : isBlank (q .name) ≡ false) where
   pub keyed : Keyed (graph T) q
-  keyed = record { alike = λ a b e. has-alike T facts q a b (facts .agree a b e); one = λ t. one T sound q t nb }
+  keyed = record { alike = λ a b e. has-alike T sound q a b (identical-parts T sound a b .0 e); one = λ t. one T sound q t nb }
 
   abbrev pub Earlier : Way → Way → Type 0
   Earlier v w = Before (placesOf v) (placesOf w)
