@@ -313,12 +313,13 @@ module _ (T : Table) (sound : Sound T) where
 
 -- ---- what the laws of ways ask for
 
+-- the order of places
+abbrev pub Earlier : Way → Way → Type 0
+Earlier v w = Before (placesOf v) (placesOf w)
+
 module _ (T : Table) (sound : Sound T) (q : Identity) (nb : isBlank (q .name) ≡ false) where
   pub keyed : Keyed (graph T) q
   keyed = record { alike = λ a b e. has-alike T sound q a b (identical-parts T sound a b .0 e); one = λ t. one T sound q t nb }
-
-  abbrev pub Earlier : Way → Way → Type 0
-  Earlier v w = Before (placesOf v) (placesOf w)
 
   sorted-found : (n : ℕ) (W : List Walk) → ((w : Walk) → In w W → length (w .places) ≡ n) → Sorted Sooner W
       → Sorted Earlier (map (λ w. found (graph T) q (raw w)) (keep (λ w. has (graph T) q (w .at)) W))
@@ -334,8 +335,12 @@ module _ (T : Table) (sound : Sound T) (q : Identity) (nb : isBlank (q .name) �
           let j = In-keep (λ w. has (graph T) q (w .at)) W (r .0) (r .1) .0 in
           rw (r .2) (before-snoc (w .places) (r .0 .places) (found (graph T) q (raw w) .last .place) (found (graph T) q (raw (r .0)) .last .place) (h w (inl refl) ∙ sym (h (r .0) (inr j))) (s .0 (r .0) j))
 
-  -- the rules list ways in the order of their places, no two of the same
+  -- ways come in the order of their places, no two of the same, from any walk on
+  pub ways-ascend : (r0 : Walk) (d : ℕ) → Sorted Earlier (over.ways (graph T) q r0 d)
+  ways-ascend r0 d =
+      rw (hits (graph T) q (over.walks (graph T) r0 d) keyed)
+      (sorted-found (length (r0 .places) + d) (over.walks (graph T) r0 d) (long (graph T) r0 d) (sorted (graph T) (placed T) r0 d))
+
+  -- so does the rules' list
   pub ways-sorted : (t : TypeKey) (d : ℕ) → Sorted Earlier (ways T q t d)
-  ways-sorted t d =
-      rw (ways-are T q t d, hits (graph T) q (over.walks (graph T) (start T t) d) keyed)
-      (sorted-found (length (start T t .places) + d) (over.walks (graph T) (start T t) d) (long (graph T) (start T t) d) (sorted (graph T) (placed T) (start T t) d))
+  ways-sorted t d = rw (ways-are T q t d) (ways-ascend (start T t) d)
