@@ -138,26 +138,27 @@ module _ (T : Table) where
   none-if true m ms i = (refl, i)
   none-if false m ms i = absurd i
 
--- a named type that has a method names no interface
 module _ (T : Table) (sound : Sound T) where
-  no-iface : (t u : TypeKey) (ms : List Member) (m : Member) → kindAt T t ≡ Named u ms → In m ms → isIface (kindAt T u) ≡ false
-  no-iface t u ms m k i = go (m .entity) (subst (λ z. stands (m .entity) z ≡ true) k (sound .standing t m (rw k i))) (subst (λ z. memberAllowed T t z (m .type) (m .entity) ≡ true) k (sound .allowedMember t m (rw k i)))
+  -- "with methods it is neither pointer nor iface": what a named type with a method names
+  pub names-neither : (t u : TypeKey) (ms : List Member) (m : Member) → kindAt T t ≡ Named u ms → In m ms → (isPointer (kindAt T u) ≡ false) × (isIface (kindAt T u) ≡ false)
+  names-neither t u ms m k i =
+      go (m .entity) (subst (λ z. stands (m .entity) z ≡ true) k (sound .standing t m (rw k i))) (subst (λ z. memberAllowed T t z (m .type) (m .entity) ≡ true) k (sound .allowedMember t m (rw k i)))
     where
-      go : (e : Entity) → stands e (Named u ms) ≡ true → memberAllowed T t (Named u ms) (m .type) e ≡ true → isIface (kindAt T u) ≡ false
+      go : (e : Entity) → stands e (Named u ms) ≡ true → memberAllowed T t (Named u ms) (m .type) e ≡ true → (isPointer (kindAt T u) ≡ false) × (isIface (kindAt T u) ≡ false)
       go (Field emb tag) s a = clash s refl
-      go (Method ptr) s a = last (isPointer (kindAt T u)) (isIface (kindAt T u)) (and-r (isFunc (kindAt T (m .type))) (mayHave T (Named u ms) ptr) a)
+      go (Method ptr) s a = neither (isPointer (kindAt T u)) (isIface (kindAt T u)) (and-r (isFunc (kindAt T (m .type))) (mayHave T (Named u ms) ptr) a)
         where
-          last : (p b : Bool) → not (p || b) && true ≡ true → b ≡ false
-          last p false h = refl
-          last true true h = clash h refl
-          last false true h = clash h refl
+          neither : (p b : Bool) → not (p || b) && true ≡ true → (p ≡ false) × (b ≡ false)
+          neither false false h = (refl, refl)
+          neither true b h = clash h refl
+          neither false true h = clash h refl
 
   declared-alone : (t : TypeKey) (m : Member) → In m (declaredOf (kindAt T t)) → allMethods T t ≡ []
   unfolding allMethods
   declared-alone t m i =
       let d = none-if T (isNamed (kindAt T t)) m (membersOf (kindAt T t)) i in
       let n = named-is (kindAt T t) (d .0) in
-      let no : isIface (kindAt T (under T t)) ≡ false = rw (under-named T t (n .0) (n .1) (n .2)) (no-iface t (n .0) (n .1) m (n .2) (subst (λ k. In m (membersOf k)) (n .2) (d .1))) in
+      let no : isIface (kindAt T (under T t)) ≡ false = rw (under-named T t (n .0) (n .1) (n .2)) (names-neither t (n .0) (n .1) m (n .2) (subst (λ k. In m (membersOf k)) (n .2) (d .1)) .1) in
       rw no
 
   module _ (q : Identity) (t : TypeKey) where
