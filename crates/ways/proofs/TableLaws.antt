@@ -68,7 +68,7 @@ module _ (T : Table) (sound : Sound T) where
   fields-in : (t : TypeKey) (f : Member) → In f (fieldsOf (kindAt T t)) → In f (membersOf (kindAt T t))
   fields-in t f i = cases (isStruct (kindAt T t)) (λ e. rw e at i) (λ e. absurd (rw e at i))
 
-  base-in : (t e : TypeKey) → kindAt T t ≡ Pointer e → e .0 < size T
+  pub base-in : (t e : TypeKey) → kindAt T t ≡ Pointer e → e .0 < size T
   base-in t e h = sound .refers t e (rw h (inl refl))
 
   pub bare-in : (t : TypeKey) → t .0 < size T → bare T t .0 < size T
