@@ -5,6 +5,7 @@ use mathlib.Core.Logic.{inl, inr}
 use Prim.Native.Nat.{ℕ, zero, suc}
 use Rattle.objects.specs.Lists.{In}
 use Rattle.objects.specs.declared.TypeKey.{TypeKey}
+use Rattle.objects.specs.Table.{Member}
 use Rattle.objects.proofs.PairLaws.{AllPairs}
 use Rattle.rules.specs.Identity.{Pair, corresponding}
 use Rattle.gospec.specs.Go.{At, at-first, at-later}
@@ -49,3 +50,12 @@ module _ {A B : Type 0} where
 pub corr-at : (xs ys : List TypeKey) (p : Pair) → In p (corresponding xs ys) → (i : ℕ) × At xs i (p .left) × At ys i (p .right)
 corr-at (x ∷ xs) (y ∷ ys) p (inl e) = (zero, rw e at-first, rw e at-first)
 corr-at (x ∷ xs) (y ∷ ys) p (inr i) = let r = corr-at xs ys p i in (suc (r .0), at-later (r .1), at-later (r .2))
+
+-- corresponding types of members are the types of two members at one place
+pub members-at : (ms ns : List Member) (p : Pair) → In p (corresponding (map (λ m. m .type) ms) (map (λ m. m .type) ns))
+    → (i : ℕ) × (m : Member) × (n : Member) × At ms i m × At ns i n × (p .left ≡ m .type) × (p .right ≡ n .type)
+members-at ms ns p i =
+    let r = corr-at (map (λ (m : Member). m .type) ms) (map (λ (m : Member). m .type) ns) p i in
+    let m = map-At (λ (m : Member). m .type) ms (r .0) (p .left) (r .1) in
+    let n = map-At (λ (m : Member). m .type) ns (r .0) (p .right) (r .2) in
+    (r .0, m .0, n .0, m .1, n .1, m .2, n .2)

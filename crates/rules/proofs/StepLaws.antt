@@ -50,7 +50,7 @@ Agree T R x y = AgreeKinds T R x (kindAt T x) y (kindAt T y)
 
 module _ (T : Table) where
   -- what a pair that is no mismatch has in common
-  abbrev Matched : TypeKey → Kind → TypeKey → Kind → Type 0
+  abbrev pub Matched : TypeKey → Kind → TypeKey → Kind → Type 0
   Matched x k y l = (kindNumber k ≡ kindNumber l) × (ownNumber x k ≡ ownNumber y l) × AllPairs (Alike T) (membersOf k) (membersOf l)
 
   pub matched : (x y : TypeKey) (k l : Kind) → eqb (kindNumber k) (kindNumber l) && eqb (ownNumber x k) (ownNumber y l) && alike T (membersOf k) (membersOf l) ≡ true → Matched x k y l
