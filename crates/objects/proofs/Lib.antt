@@ -1,3 +1,4 @@
 pub mod ListLaws
 pub mod Pigeons
 pub mod KeyLaws
+pub mod PartLaws
