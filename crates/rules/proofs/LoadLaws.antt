@@ -203,7 +203,7 @@ line-read line T (some l) f b =
     (λ p. rw p (cases (hasRoom T l) (λ r. rw r (built-on line T l (f l refl) p r b)) (λ r. rw r (omega arith, omega arith, omega arith))))
     (λ p. rw p (omega arith, omega arith, omega arith))
 
-read-later : (a b : ℕ) (L : Loaded) → a ≤ b → Read a L → Read b L
+pub read-later : (a b : ℕ) (L : Loaded) → a ≤ b → Read a L → Read b L
 read-later a b (refused n at) le r = let h = r .2 in (r .0, r .1, omega arith)
 read-later a b (loaded T) le r = later a b T le r
 
