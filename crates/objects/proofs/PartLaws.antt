@@ -25,9 +25,10 @@ module _ {A : Type 0} where
   pub sorted-from : (R : A → A → Type 0) (l : List A)
       → ((before : List A) (x : A) (after : List A) → l ≡ before ++ (x ∷ after) → (y : A) → In y before → R y x) → Sorted R l
   sorted-from R [] h = tt
-  sorted-from R (y ∷ ys) h =
-      (λ x i. let r = parted ys x i in h (y ∷ r .0) x (r .1) (ap (λ z. y ∷ z) (r .2)) y (inl refl),
-      sorted-from R ys (λ before x after e z i. h (y ∷ before) x after (ap (λ w. y ∷ w) e) z (inr i)))
+  sorted-from R (y ∷ ys) h = (
+    λ x i. let r = parted ys x i in h (y ∷ r .0) x (r .1) (ap (λ z. y ∷ z) (r .2)) y (inl refl),
+    sorted-from R ys (λ before x after e z i. h (y ∷ before) x after (ap (λ w. y ∷ w) e) z (inr i)),
+  )
 
   -- it is enough that each comes after the one next before it, if the order is transitive
   pub ascending : (p : A → A → Bool) → ((x y z : A) → p x y ≡ true → p y z ≡ true → p x z ≡ true) → (l : List A)

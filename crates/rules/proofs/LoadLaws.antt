@@ -66,7 +66,7 @@ stands-number : (e : Entity) (k l : Kind) → kindNumber l ≡ kindNumber k → 
 stands-number (Field emb tag) k l q h = rw q h
 stands-number (Method ptr) k l q h = rw q h
 
-fresh : (k : Kind) → InRange k → membersOf k ≡ [] → WellFormed k
+pub fresh : (k : Kind) → InRange k → membersOf k ≡ [] → WellFormed k
 fresh k r e = record {
   inRange = r;
   said = λ m i. absurd (rw e at i);
@@ -177,8 +177,13 @@ with-member line T m key says h room each b = record {
     some-type e = clash (stands-has (m .entity) (lastKind T) h) (rw e)
 
     keys : map (λ x. x .key .0) (flat membersOf (onLast (withMember m) (T .types))) ≡ upTo (length (T .memberLines ++ (line ∷ [])))
-    keys = rw (onLast-flat membersOf (withMember m) (Basic 0) (m ∷ []) (T .types) some-type (with-members m (lastKind T) (stands-has (m .entity) (lastKind T) h)),
-        map-append (λ x. x .key .0) (flat membersOf (T .types)) (m ∷ []), length-snoc (T .memberLines) line, key, b .numbered)
+    keys = rw (
+      onLast-flat membersOf (withMember m) (Basic 0) (m ∷ []) (T .types) some-type (with-members m (lastKind T) (stands-has (m .entity) (lastKind T) h)),
+      map-append (λ x. x .key .0) (flat membersOf (T .types)) (m ∷ []),
+      length-snoc (T .memberLines) line,
+      key,
+      b .numbered,
+    )
 
 built-on : (line : ℕ) (T : Table) (l : Line) → Formed l → inPlace T l ≡ true → hasRoom T l ≡ true → Built line T → Built (suc line) (added T line l)
 unfolding added
