@@ -1,6 +1,6 @@
 -- Laws of the parts of a list: what stands before a member, the last, places, and lists in order (specs/Lists.antt).
-use mathlib.Core.Path.{_≡_, refl, sym, ap, ap₂, _∙_, subst}
-use mathlib.Core.Bool.{Bool, true, false, _&&_}
+use mathlib.Core.Path.{_≡_, refl, sym, ap, _∙_}
+use mathlib.Core.Bool.{Bool, true}
 use mathlib.Core.List.{List, [], _∷_, _++_, append-assoc, append-nil, cons≢nil}
 use mathlib.Core.Logic.{_⊎_, inl, inr}
 use Prim.Native.Nat.{ℕ, zero, suc, _<_, _≤_}
@@ -9,7 +9,7 @@ use lib.Dec.{ltb}
 use lib.ListN.{length, getD}
 use borrow.Author.Tests.{ltb-true}
 use Rattle.objects.specs.Lists.{every, lastOr, lastOf, onLast, flat, In, Sorted}
-use Rattle.objects.proofs.ListLaws.{clash, and-l, and-r, either}
+use Rattle.objects.proofs.ListLaws.{and-l, and-r, either}
 
 module _ {A : Type 0} where
   pub every-In : (p : A → Bool) (l : List A) (x : A) → every p l ≡ true → In x l → p x ≡ true

@@ -1,11 +1,11 @@
 -- What the checks of a whole table say of each of its lines (7 to 10), and the refusals that loading gives.
-use mathlib.Core.Path.{_≡_, refl, sym, ap, subst}
-use mathlib.Core.Bool.{Bool, true, false, cond}
-use mathlib.Core.List.{List, [], _∷_, _++_, append-assoc}
+use mathlib.Core.Path.{_≡_, refl}
+use mathlib.Core.Bool.{Bool, true, false}
+use mathlib.Core.List.{List, [], _∷_, _++_, append-assoc, append-nil}
 use mathlib.Core.Logic.{inl, inr}
 use Prim.Native.Nat.{ℕ, zero, suc, _+_, _≤_, _<_}
 use native.Mathlib.Omega.{arith}
-use lib.Dec.{ltb, eqb}
+use lib.Dec.{ltb}
 use lib.ListN.{length, getD}
 use borrow.Author.Tests.{ltb-false}
 use Rattle.objects.specs.Bounds.{maxText, refusalUnit}
@@ -15,7 +15,8 @@ use Rattle.objects.specs.Table.{Table, size, typeKey, Member, Kind, Basic, memb
 use Rattle.objects.proofs.ListLaws.{cases, In-append-l, In-append-r}
 use Rattle.objects.proofs.PartLaws.{getD-all}
 use Rattle.text.specs.Bytes.{ascii, sameBytes}
-use Rattle.text.specs.Lines.{before, split, pieces}
+use Rattle.text.specs.Lines.{split, pieces}
+use Rattle.text.proofs.PieceLaws.{split-few}
 use Rattle.rules.specs.Checks.{Item, typeItem, memberItem, memberItems, itemsFrom, items, lineOfItem, lacking, forbidden, clashing, containing}
 use Rattle.rules.specs.Load.{Loaded, refused, loaded, linesFrom, unless, checked, thenChecked, noTable, headed, load}
 use Rattle.rules.proofs.LoadLaws.{Built, Read, none-built, read-later, lines-read}
@@ -35,7 +36,7 @@ members-items : (t : TypeKey) (k : Kind) (above before : List Member) (m : Membe
 members-items t k above before m after ms e = rw e (go above before)
   where
     go : (a b : List Member) → In (memberItem t k (a ++ b) m) (memberItems t k a (b ++ (m ∷ after)))
-    go a [] = inl (rw (mathlib.Core.List.append-nil a))
+    go a [] = inl (rw (append-nil a))
     go a (x ∷ b) = inr (rw (← append-assoc a (x ∷ []) b) (go (a ++ (x ∷ [])) b))
 
 members-from : (n i : ℕ) (ks : List Kind) (before : List Member) (m : Member) (after : List Member) → i < length ks → membersOf (getD ks i (Basic 0)) ≡ before ++ (m ∷ after)
@@ -111,17 +112,6 @@ then-right line (refused n at) h r = let a = r .0 in let b = r .1 in (omega arit
 then-right line (loaded T) h r = checked-right line T h r
 
 -- ---- the whole
-
--- at most one piece for each byte, and one more
-split-few : (sep : ℕ) (s : Bytes) → length (split sep s) ≤ suc (length s)
-unfolding split
-split-few sep [] = omega arith
-split-few sep (b ∷ s) = go (eqb b sep) (split sep s) (split-few sep s)
-  where
-    go : (t : Bool) (ps : List Bytes) → length ps ≤ suc (length s) → length (before t b ps) ≤ suc (length (b ∷ s))
-    go true ps h = omega arith
-    go false [] h = omega arith
-    go false (p ∷ ps) h = omega arith
 
 headed-right : (ps : List Bytes) → length ps ≤ suc maxText → Right refusalUnit (headed ps)
 headed-right [] h = (omega arith, omega arith, omega arith)

@@ -1,17 +1,17 @@
 -- What the form of a line says of its values (4): numbers in their range, names, paths and tags as they are allowed.
 use mathlib.Core.Path.{_≡_, refl}
-use mathlib.Core.Bool.{Bool, true, false, not, _&&_}
+use mathlib.Core.Bool.{true, false, not, _&&_}
 use mathlib.Core.List.{List, [], _∷_}
 use mathlib.Core.Logic.{_⊎_, inl, inr}
-use mathlib.Core.Option.{Option, some}
-use Prim.Native.Nat.{ℕ, _≤_}
+use mathlib.Core.Option.{some}
+use Prim.Native.Nat.{_≤_}
 use borrow.Author.Tests.{not-true}
 use Rattle.objects.specs.Bounds.{maxBasic, maxArray}
 use Rattle.objects.specs.Lists.{Bytes, when}
-use Rattle.objects.specs.Table.{isMethod, tagOf, Entity, Field, Method, Member, Kind, Basic, Array, Slice, Pointer, Map, Chan, Tuple, Func, Struct, Iface, Named, membersOf}
+use Rattle.objects.specs.Table.{isMethod, tagOf, Entity, Field, Method, Kind, Basic, Array, Slice, Pointer, Map, Chan, Tuple, Func, Struct, Iface, Named, membersOf}
 use Rattle.objects.proofs.ListLaws.{clash, and-l, and-r}
 use Rattle.text.specs.Bytes.{isName, isBlank, isPath, isTag, number}
-use Rattle.text.specs.Readers.{Reader, _>>=_, field, others, done, isWord}
+use Rattle.text.specs.Readers.{_>>=_, field, others, isWord}
 use Rattle.text.proofs.Gives.{Holds, First, Gives, when-holds, holds-some, field-gives, done-gives, none-gives, cond-gives, whole-gives, bind-gives, then-gives, number-max}
 use Rattle.rules.specs.Forms.{Line, packageLine, typeLine, memberLine, typeRef, packageRef, flagBit, direction, fieldName, methodName, tag, kindForm, lineForm, lineOf}
 
@@ -39,14 +39,14 @@ pub record Says (name : Bytes) (e : Entity) : Type 0 where
   pub notBlank : isMethod e ≡ true → isBlank name ≡ false
   pub tagged : TagOrNone (tagOf e)
 
+-- a T line's kind, with no members yet
+abbrev pub Fresh : Kind → Type 0
+Fresh k = InRange k × (membersOf k ≡ [])
+
 abbrev pub Formed : Line → Type 0
 Formed (packageLine path) = isPath path ≡ true
-Formed (typeLine k) = InRange k × (membersOf k ≡ [])
+Formed (typeLine k) = Fresh k
 Formed (memberLine name pkg type e) = Says name e
-
--- a T line's kind, with no members yet
-abbrev Fresh : Kind → Type 0
-Fresh k = InRange k × (membersOf k ≡ [])
 
 kind-form : (w : Bytes) → Gives Fresh (kindForm w)
 unfolding kindForm

@@ -1,23 +1,22 @@
 -- What the lines of a table build, line by line (4 to 6): an invariant of `linesFrom`, and the refusals that it gives.
 use mathlib.Core.Path.{_≡_, refl, sym, ap, subst, _∙_}
-use mathlib.Core.Bool.{Bool, true, false, cond, _&&_, _||_}
+use mathlib.Core.Bool.{Bool, true, _||_}
 use mathlib.Core.List.{List, [], _∷_, _++_, map, append-nil}
-use mathlib.Core.Logic.{_⊎_, inl, inr}
 use mathlib.Core.Option.{Option, none, some}
 use Prim.Native.Nat.{ℕ, suc, _+_, _≤_, _<_}
 use native.Mathlib.Omega.{arith}
 use lib.Dec.{ltb}
 use lib.ListN.{length}
 use Rattle.objects.specs.Bounds.{maxTypes, maxPackages, maxMembers, maxPerType}
-use Rattle.objects.specs.Lists.{Bytes, In, flat, upTo, empty, lastOr, onLast}
+use Rattle.objects.specs.Lists.{Bytes, In, flat, upTo, empty, onLast}
 use Rattle.objects.specs.Table.{Table, size, memberCount, objKey, Entity, Field, Method, Member, Kind, Basic, Array, Slice, Pointer, Map, Chan, Tuple, Func, Struct, Iface, Named, kindNumber, isStruct, isIface, isNamed, membersOf}
 use Rattle.objects.proofs.ListLaws.{cases, clash, and-l, and-r, or-true, either, flat-append, map-append}
 use Rattle.objects.proofs.PartLaws.{all-snoc, length-snoc, few-snoc, onLast-length, onLast-In, onLast-flat}
 use Rattle.text.specs.Bytes.{isPath}
 use Rattle.text.specs.Lines.{fields}
 use Rattle.rules.specs.Forms.{Line, packageLine, typeLine, memberLine, lineOf}
-use Rattle.rules.specs.Load.{Loaded, refused, loaded, lastKind, withMember, added, stands, inPlace, hasRoom, placed, lineAdded, linesFrom, noTable}
-use Rattle.rules.proofs.FormLaws.{InRange, Says, Formed, line-formed}
+use Rattle.rules.specs.Load.{Loaded, refused, loaded, lastKind, withMember, added, stands, inPlace, hasRoom, lineAdded, linesFrom, noTable}
+use Rattle.rules.proofs.FormLaws.{InRange, Fresh, Says, Formed, line-formed}
 
 -- ---- a kind with its members
 
@@ -66,8 +65,8 @@ stands-number : (e : Entity) (k l : Kind) → kindNumber l ≡ kindNumber k → 
 stands-number (Field emb tag) k l q h = rw q h
 stands-number (Method ptr) k l q h = rw q h
 
-pub fresh : (k : Kind) → InRange k → membersOf k ≡ [] → WellFormed k
-fresh k r e = record {
+pub fresh : (k : Kind) → Fresh k → WellFormed k
+fresh k (r, e) = record {
   inRange = r;
   said = λ m i. absurd (rw e at i);
   standing = λ m i. absurd (rw e at i);
@@ -143,15 +142,15 @@ with-package line T path ok room b = record {
   membersAbove = later line (suc line) T (omega arith) b .membersAbove;
 }
 
-with-type : (line : ℕ) (T : Table) (k : Kind) → InRange k → membersOf k ≡ [] → ltb (size T) maxTypes ≡ true → Built line T → Built (suc line) (added T line (typeLine k))
+with-type : (line : ℕ) (T : Table) (k : Kind) → Fresh k → ltb (size T) maxTypes ≡ true → Built line T → Built (suc line) (added T line (typeLine k))
 unfolding added
-with-type line T k range bare room b = record {
+with-type line T k new room b = record {
   paths = b .paths;
-  kinds = all-snoc WellFormed (T .types) k (b .kinds) (fresh k range bare);
+  kinds = all-snoc WellFormed (T .types) k (b .kinds) (fresh k new);
   fewPackages = b .fewPackages;
   fewTypes = few-snoc (T .types) k maxTypes room;
   fewMembers = b .fewMembers;
-  numbered = rw (flat-append membersOf (T .types) (k ∷ []), bare, append-nil (flat membersOf (T .types))) (b .numbered);
+  numbered = rw (flat-append membersOf (T .types) (k ∷ []), new .1, append-nil (flat membersOf (T .types))) (b .numbered);
   lined = length-snoc (T .typeLines) line ∙ ap suc (b .lined) ∙ sym (length-snoc (T .types) k);
   typesAbove = above line (T .typeLines) (b .typesAbove);
   membersAbove = later line (suc line) T (omega arith) b .membersAbove;
@@ -188,7 +187,7 @@ with-member line T m key says h room each b = record {
 built-on : (line : ℕ) (T : Table) (l : Line) → Formed l → inPlace T l ≡ true → hasRoom T l ≡ true → Built line T → Built (suc line) (added T line l)
 unfolding added
 built-on line T (packageLine path) ok place room b = with-package line T path ok room b
-built-on line T (typeLine k) ok place room b = with-type line T k (ok .0) (ok .1) room b
+built-on line T (typeLine k) ok place room b = with-type line T k ok room b
 built-on line T (memberLine name pkg type entity) ok place room b =
     with-member line T (record { key = objKey (memberCount T); name = name; pkg = pkg; type = type; entity = entity }) refl ok place
     (and-l (ltb (memberCount T) maxMembers) (ltb (length (membersOf (lastKind T))) maxPerType) room)

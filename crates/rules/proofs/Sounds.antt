@@ -1,18 +1,19 @@
 -- Every table that loads is sound (specs/Sound.antt): the refusals turned round.
 use mathlib.Core.Path.{_≡_, refl}
-use mathlib.Core.Bool.{Bool, true, false, cond, not, _&&_, _||_}
-use mathlib.Core.List.{List, [], _∷_, _++_, map}
+use mathlib.Core.Bool.{Bool, true, false, not, _&&_, _||_}
+use mathlib.Core.List.{List, _∷_, _++_}
 use mathlib.Core.Logic.{_⊎_, inl, inr}
 use Prim.Native.Nat.{ℕ, _<_}
 use native.Mathlib.Omega.{arith}
 use lib.Dec.{ltb}
-use lib.ListN.{length, getD, List·getD-eq-default}
+use lib.ListN.{getD, List·getD-eq-default}
 use borrow.Author.Tests.{ltb-true, ltb-false, not-false}
 use Rattle.objects.specs.Bounds.{refusalUnit}
 use Rattle.objects.specs.Lists.{Bytes, any, every, lastOf, headOr, In, Sorted}
 use Rattle.objects.specs.declared.TypeKey.{TypeKey}
-use Rattle.objects.specs.Table.{Table, size, sameType, Member, Kind, Basic, Array, Slice, Pointer, Map, Chan, Tuple, Func, Struct, Iface, Named, isArray, isStruct, isIface, isNamed, refs, membersOf, fieldsOf, declaredOf, allMethodsOf, byValue, hasType, hasPackage, kindAt, under}
+use Rattle.objects.specs.Table.{Table, size, sameType, Member, Kind, Basic, isArray, isStruct, isIface, isNamed, refs, membersOf, fieldsOf, declaredOf, allMethodsOf, byValue, hasType, hasPackage, kindAt, under}
 use Rattle.objects.proofs.ListLaws.{cases, clash, and-l, and-r, or-l, or-r, none-In, In-map, In-append-r}
+use Rattle.objects.proofs.KindLaws.{named-ref, if-In}
 use Rattle.objects.proofs.PartLaws.{every-In, parted, sorted-from, ascending, getD-In}
 use Rattle.text.specs.Bytes.{belowBytes, isBlank}
 use Rattle.text.proofs.ByteLaws.{below-trans}
@@ -21,30 +22,9 @@ use Rattle.rules.specs.Chains.{Chain}
 use Rattle.rules.specs.Checks.{typeItem, memberItem, items, lacking, forbidden, clashing, containing, typeAllowed, memberAllowed, ascends, equalsField, contents}
 use Rattle.rules.specs.Load.{loaded, load}
 use Rattle.rules.specs.Sound.{MemberOf, Apart, Lower, Sound}
-use Rattle.rules.proofs.FormLaws.{InRange}
 use Rattle.rules.proofs.ChainLaws.{leads-iff, types-few}
 use Rattle.rules.proofs.LoadLaws.{WellFormed, fresh, Built}
 use Rattle.rules.proofs.CheckLaws.{Passed, Right, type-item, member-item, load-right}
-
--- ---- kinds
-
-named-ref : (t : TypeKey) (k : Kind) → isNamed k ≡ true → In (headOr t (refs k)) (refs k)
-named-ref t (Basic k) h = clash h refl
-named-ref t (Array n e) h = clash h refl
-named-ref t (Slice e) h = clash h refl
-named-ref t (Pointer e) h = clash h refl
-named-ref t (Map k e) h = clash h refl
-named-ref t (Chan d e) h = clash h refl
-named-ref t (Tuple es) h = clash h refl
-named-ref t (Func v p r) h = clash h refl
-named-ref t (Struct ms) h = clash h refl
-named-ref t (Iface ms) h = clash h refl
-named-ref t (Named u ms) h = inl refl
-
--- one of the members if the test passes
-if-In : {A : Type 0} (b : Bool) (l : List A) (x : A) → In x (cond b l []) → (b ≡ true) × In x l
-if-In true l x i = (refl, i)
-if-In false l x i = absurd i
 
 -- 9 of a member and those before it: it is another, it rises, and no field of the struct has its identity
 record Clear (T : Table) (k : Kind) (before : List Member) (m : Member) : Type 0 where
@@ -77,7 +57,7 @@ module _ (T : Table) (line : ℕ) (b : Built line T) (p : Passed T) where
 
   well-formed : (t : TypeKey) → WellFormed (kindAt T t)
   unfolding kindAt
-  well-formed t = at-type WellFormed t (fresh (Basic 0) (omega arith) refl) (λ h. b .kinds (getD (T .types) (t .0) (Basic 0)) (getD-In (T .types) (t .0) (Basic 0) h))
+  well-formed t = at-type WellFormed t (fresh (Basic 0) (omega arith, refl)) (λ h. b .kinds (getD (T .types) (t .0) (Basic 0)) (getD-In (T .types) (t .0) (Basic 0) h))
 
   -- ---- a type and its references
 
