@@ -80,6 +80,7 @@ unfolding numberOf
 number-of room (refuse n line) fit b = let h = b .0 in refusal-number room n line (omega arith) (b .1) (b .2)
 number-of room (say bytes) fit b = length-is (length bytes) b (omega arith)
 
+-- every call gives such a number, refusal 1 included
 pub asked-number : (table question buffer : Bytes) (work : List ℕ) → length buffer < 2 ^ 63 → CallNumber (length buffer) (asked table question buffer work .number)
 unfolding asked
 asked-number table question buffer work fit =
