@@ -15,7 +15,7 @@ use Rattle.objects.specs.Table.{Table, dirNumber, bit, Member, Kind, Basic, Arr
 use Rattle.objects.proofs.ListLaws.{cases, clash, either}
 use Rattle.objects.proofs.BoolLaws.{false-of}
 use Rattle.objects.proofs.PairLaws.{AllPairs, pairs-left, pairs-right}
-use Rattle.objects.proofs.KeyLaws.{type-key}
+use Rattle.objects.proofs.KeyLaws.{key-eq}
 use Rattle.rules.specs.Members.{identityOf}
 use Rattle.rules.specs.Identity.{realType, ownNumber, parts, identical}
 use Rattle.rules.specs.Sound.{Sound, Lower}
@@ -104,7 +104,7 @@ module _ (T : Table) (s : Sound T) where
   -- DIFFERENT TYPES ARE NOT IDENTICAL
   pub different-false : {x y : TypeKey} → Different T x y → identical T x y ≡ false
   unfolding parts ownNumber
-  different-false (names {x = x} {y = y} p q h) = refute x y p q (λ a. h (type-key x y (a .owns)))
+  different-false (names {x = x} {y = y} p q h) = refute x y p q (λ a. h (key-eq x y (a .owns)))
   different-false (predeclared {x = x} {y = y} {j = j} {k = k} p q h) = refute x y p q (λ a. h (real-basic j k (a .owns)))
   different-false (forms {x = x} {y = y} h) = refute x y refl refl (λ a. h (number-form (kindAt T x) (kindAt T y) (a .kinds)))
   different-false (array-elements {x = x} {y = y} p q d) = refute x y p q (λ a. clash (a .related .0) (different-false d))

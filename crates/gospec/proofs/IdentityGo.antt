@@ -14,7 +14,7 @@ use Rattle.objects.specs.Table.{Table, dirNumber, bit, Entity, Field, Method, i
 use Rattle.objects.proofs.ListLaws.{cases, clash, either}
 use Rattle.objects.proofs.BoolLaws.{and-no, beq-self}
 use Rattle.objects.proofs.PairLaws.{AllPairs, pairs-map, pairs-self, pairs-long}
-use Rattle.objects.proofs.KeyLaws.{type-key}
+use Rattle.objects.proofs.KeyLaws.{key-eq}
 use Rattle.text.specs.Bytes.{sameBytes}
 use Rattle.text.proofs.ByteLaws.{same-refl}
 use Rattle.rules.specs.Members.{identityOf, sameMember}
@@ -109,7 +109,7 @@ module _ (T : Table) (s : Sound T) where
   members-differ x y k l p q (structs {fs = fs} {gs = gs}) e h = fields-differ x y fs gs p q e h
   members-differ x y k l p q (ifaces {ms = ms} {ns = ns}) e h = either (iface-or x y ms ns p q) (λ d. d) (λ a. clash (alike-join T ms ns a) h)
   members-differ x y k l p q (nameds {ms = ms} {ns = ns}) e h =
-      let f : ms ≡ ns = ap membersOf (sym p ∙ ap (kindAt T) (type-key x y e) ∙ q) in
+      let f : ms ≡ ns = ap membersOf (sym p ∙ ap (kindAt T) (key-eq x y e) ∙ q) in
       clash (alike-join T ms ns (rw f (pairs-self (Alike T) ns (λ m i. (refl, refl, refl))))) h
 
   mismatch-kinds : (x y : TypeKey) (k l : Kind) → kindAt T x ≡ k → kindAt T y ≡ l → mismatched T x k y l ≡ true → Different T x y

@@ -243,3 +243,7 @@ map-flat f g (x ∷ xs) = rw (map-append f (g x) (flat g xs), map-flat f g xs)
 pub flat-In-ext : {A B : Type 0} (f g : A → List B) (l : List A) → ((x : A) → In x l → f x ≡ g x) → flat f l ≡ flat g l
 flat-In-ext f g [] h = refl
 flat-In-ext f g (x ∷ xs) h = ap₂ (λ a b. a ++ b) (h x (inl refl)) (flat-In-ext f g xs (λ y i. h y (inr i)))
+
+pub keep-In-to : {A : Type 0} (p : A → Bool) (l : List A) (x : A) → In x l → p x ≡ true → In x (keep p l)
+keep-In-to p (y ∷ ys) x (inl e) h = rw (← e, h) (inl refl)
+keep-In-to p (y ∷ ys) x (inr i) h = cases (p y) (λ f. rw f (inr (keep-In-to p ys x i h))) (λ f. rw f (keep-In-to p ys x i h))

@@ -1,0 +1,4 @@
+pub mod Graph
+pub mod Levels
+pub mod OfTable
+pub mod IsWay
