@@ -28,9 +28,9 @@ go-exported a (capital {b = b} h k) = and-i (le-leb 65 b h) (le-leb b 90 k)
 
 module _ (T : Table) where
   -- where the test tells two apart, they are different
-  pub ids-differ : (a b : Bytes) (p q : Option PackageKey) → sameId (identityFrom T p a) (identityFrom T q b) ≡ false → DifferentIds T a p b q
+  pub ids-go : (a b : Bytes) (p q : Option PackageKey) → sameId (identityFrom T p a) (identityFrom T q b) ≡ false → DifferentIds T a p b q
   unfolding sameId identityFrom
-  ids-differ a b p q h =
+  ids-go a b p q h =
       cases (sameBytes a b)
       (λ e.
       let same : exported b ≡ exported a = ap exported (sym (same-true a b e)) in
@@ -49,15 +49,29 @@ module _ (T : Table) where
       let f : cond (exported a) none (pathOf T p) ≡ cond (exported b) none (pathOf T q) = ap (λ (i : Identity). i .path) e in
       h (rw (x, y) at f)
 
+  pub go-ids : (a b : Bytes) (p q : Option PackageKey) → DifferentIds T a p b q → sameId (identityFrom T p a) (identityFrom T q b) ≡ false
+  go-ids a b p q d = false-of (sameId (identityFrom T p a) (identityFrom T q b)) (λ e. same-ids a b p q (sameId-true (identityFrom T p a) (identityFrom T q b) e) d)
+
+  ids-same : (a b : Bytes) (p q : Option PackageKey) → SameIds T a p b q → sameId (identityFrom T p a) (identityFrom T q b) ≡ true
+  ids-same a b p q s = cases (sameId (identityFrom T p a) (identityFrom T q b)) (λ e. e) (λ e. absurd (s (ids-go a b p q e)))
+
   -- THE SAME IDENTIFIER: the identity of the rules, and the Go specification's sameness
   pub identity-is-go-name : (a b : Bytes) (p q : Option PackageKey) → (identityFrom T p a ≡ identityFrom T q b) ↔ SameIds T a p b q
-  identity-is-go-name a b p q =
-      (same-ids a b p q, λ s. sameId-true (identityFrom T p a) (identityFrom T q b) (cases (sameId (identityFrom T p a) (identityFrom T q b)) (λ e. e) (λ e. absurd (s (ids-differ a b p q e)))))
+  identity-is-go-name a b p q = (same-ids a b p q, λ s. sameId-true (identityFrom T p a) (identityFrom T q b) (ids-same a b p q s))
+
+  -- a member that is asked for by name
+  pub hit-go : (m : Member) (name : Bytes) (pkg : Option PackageKey) → sameId (identityOf T m) (identityFrom T pkg name) ≡ true → SameIds T (m .name) (m .pkg) name pkg
+  unfolding identityOf
+  hit-go m name pkg h = same-ids (m .name) name (m .pkg) pkg (sameId-true (identityFrom T (m .pkg) (m .name)) (identityFrom T pkg name) h)
+
+  pub go-hit : (m : Member) (name : Bytes) (pkg : Option PackageKey) → SameIds T (m .name) (m .pkg) name pkg → sameId (identityOf T m) (identityFrom T pkg name) ≡ true
+  unfolding identityOf
+  go-hit m name pkg s = ids-same (m .name) name (m .pkg) pkg s
 
   -- the same of two members
   pub names-differ : (m n : Member) → sameMember T m n ≡ false → DifferentNames T m n
   unfolding identityOf
-  names-differ m n h = ids-differ (m .name) (n .name) (m .pkg) (n .pkg) h
+  names-differ m n h = ids-go (m .name) (n .name) (m .pkg) (n .pkg) h
 
   pub same-names : (m n : Member) → (identityOf T m ≡ identityOf T n) ↔ SameNames T m n
   unfolding identityOf

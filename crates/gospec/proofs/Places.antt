@@ -1,5 +1,5 @@
 -- Places in lists (`At`), in one list and in two side by side.
-use mathlib.Core.Path.{_≡_, refl, sym, ap, subst}
+use mathlib.Core.Path.{_≡_, refl, sym, _∙_, subst}
 use mathlib.Core.List.{List, [], _∷_, map}
 use mathlib.Core.Logic.{inl, inr}
 use Prim.Native.Nat.{ℕ, zero, suc}
@@ -19,23 +19,28 @@ module _ {A : Type 0} where
   In-At (y ∷ l) x (inl e) = (zero, subst (λ z. At (y ∷ l) zero z) (sym e) at-first)
   In-At (y ∷ l) x (inr i) = let r = In-At l x i in (suc (r .0), at-later (r .1))
 
-  pub at-zero : (l : List A) (x y : A) → At (x ∷ l) zero y → y ≡ x
-  at-zero l x y at-first = refl
+  pub at-head : (l : List A) (x y : A) → At (x ∷ l) zero y → y ≡ x
+  at-head l x y at-first = refl
 
-  pub at-suc : (l : List A) (x y : A) (i : ℕ) → At (x ∷ l) (suc i) y → At l i y
-  at-suc l x y i (at-later a) = a
+  pub at-tail : (l : List A) (x y : A) (i : ℕ) → At (x ∷ l) (suc i) y → At l i y
+  at-tail l x y i (at-later a) = a
+
+  -- one at a place
+  pub At-one : (l : List A) (i : ℕ) (x y : A) → At l i x → At l i y → x ≡ y
+  At-one (z ∷ l) zero x y a b = at-head l z x a ∙ sym (at-head l z y b)
+  At-one (z ∷ l) (suc i) x y a b = At-one l i x y (at-tail l z x i a) (at-tail l z y i b)
 
   -- what holds of two at one place
   pub pairs-at : (P : A → A → Type 0) (l m : List A) (i : ℕ) (x y : A) → AllPairs P l m → At l i x → At m i y → P x y
   pairs-at P (z ∷ l) [] i x y a r s = absurd a
-  pairs-at P (z ∷ l) (w ∷ m) zero x y a r s = rw (at-zero l z x r, at-zero m w y s) (a .0)
-  pairs-at P (z ∷ l) (w ∷ m) (suc i) x y a r s = pairs-at P l m i x y (a .1) (at-suc l z x i r) (at-suc m w y i s)
+  pairs-at P (z ∷ l) (w ∷ m) zero x y a r s = rw (at-head l z x r, at-head m w y s) (a .0)
+  pairs-at P (z ∷ l) (w ∷ m) (suc i) x y a r s = pairs-at P l m i x y (a .1) (at-tail l z x i r) (at-tail m w y i s)
 
   -- the one at the same place
   pub pairs-beside : (P : A → A → Type 0) (l m : List A) (i : ℕ) (x : A) → AllPairs P l m → At l i x → (y : A) × At m i y × P x y
   pairs-beside P (z ∷ l) [] i x a r = absurd a
-  pairs-beside P (z ∷ l) (w ∷ m) zero x a r = (w, at-first, rw (at-zero l z x r) (a .0))
-  pairs-beside P (z ∷ l) (w ∷ m) (suc i) x a r = let s = pairs-beside P l m i x (a .1) (at-suc l z x i r) in (s .0, at-later (s .1), s .2)
+  pairs-beside P (z ∷ l) (w ∷ m) zero x a r = (w, at-first, rw (at-head l z x r) (a .0))
+  pairs-beside P (z ∷ l) (w ∷ m) (suc i) x a r = let s = pairs-beside P l m i x (a .1) (at-tail l z x i r) in (s .0, at-later (s .1), s .2)
 
 module _ {A B : Type 0} where
   pub At-map : (f : A → B) {l : List A} {i : ℕ} {x : A} → At l i x → At (map f l) i (f x)
@@ -43,8 +48,8 @@ module _ {A B : Type 0} where
   At-map f (at-later a) = at-later (At-map f a)
 
   pub map-At : (f : A → B) (l : List A) (i : ℕ) (y : B) → At (map f l) i y → (x : A) × At l i x × (y ≡ f x)
-  map-At f (x ∷ l) zero y a = (x, at-first, at-zero (map f l) (f x) y a)
-  map-At f (x ∷ l) (suc i) y a = let r = map-At f l i y (at-suc (map f l) (f x) y i a) in (r .0, at-later (r .1), r .2)
+  map-At f (x ∷ l) zero y a = (x, at-first, at-head (map f l) (f x) y a)
+  map-At f (x ∷ l) (suc i) y a = let r = map-At f l i y (at-tail (map f l) (f x) y i a) in (r .0, at-later (r .1), r .2)
 
 -- corresponding parts stand at one place
 pub corr-at : (xs ys : List TypeKey) (p : Pair) → In p (corresponding xs ys) → (i : ℕ) × At xs i (p .left) × At ys i (p .right)
