@@ -1,13 +1,11 @@
 -- COMPARABILITY IS GO'S: `comparable` holds exactly for what the Go specification calls comparable.
 use mathlib.Core.Path.{_≡_, refl}
-use mathlib.Core.Bool.{Bool, true, false, not}
+use mathlib.Core.Bool.{Bool, true}
 use mathlib.Core.Logic.{_↔_}
 use Prim.Native.Nat.{ℕ, zero, suc}
-use lib.Dec.{eqb}
 use borrow.Author.Tests.{eq-eqb, ne-eqb}
-use Rattle.objects.specs.Lists.{In, every}
 use Rattle.objects.specs.declared.TypeKey.{TypeKey}
-use Rattle.objects.specs.Table.{Table, size, Member, Kind, Basic, Array, Slice, Pointer, Map, Chan, Tuple, Func, Struct, Iface, Named, kindAt}
+use Rattle.objects.specs.Table.{Table, size, Kind, Basic, Array, Slice, Pointer, Map, Chan, Tuple, Func, Struct, Iface, Named, kindAt}
 use Rattle.objects.proofs.ListLaws.{clash}
 use Rattle.objects.proofs.BoolLaws.{every-from}
 use Rattle.objects.proofs.PartLaws.{every-In}

@@ -1,20 +1,19 @@
 -- What the Go specification calls different is not identical by the rules: every constructor of `Different` contradicts what identical types have in common.
-use mathlib.Core.Path.{_≡_, refl, sym, ap, _∙_, subst}
-use mathlib.Core.Bool.{Bool, true, false, cond}
-use mathlib.Core.List.{List, [], _∷_, _++_, map, append-nil}
+use mathlib.Core.Path.{_≡_, refl, sym, _∙_, subst}
+use mathlib.Core.Bool.{Bool, true, false}
+use mathlib.Core.List.{List, map, append-nil}
 use mathlib.Core.Logic.{_⊎_, inl, inr}
 use Prim.Native.Nat.{ℕ}
 use native.Mathlib.Omega.{arith}
 use lib.Dec.{eqb}
-use lib.ListN.{length}
 use borrow.Author.Tests.{eqb-true}
 use Rattle.objects.specs.Lists.{In, Sorted}
 use Rattle.objects.specs.declared.TypeKey.{TypeKey}
 use Rattle.objects.specs.declared.Dir.{Dir}
-use Rattle.objects.specs.Table.{Table, dirNumber, bit, Member, Kind, Basic, Array, Slice, Pointer, Map, Chan, Tuple, Func, Struct, Iface, Named, allMethodsOf, kindAt}
+use Rattle.objects.specs.Table.{Table, dirNumber, bit, Member, Kind, Struct, Iface, allMethodsOf, kindAt}
 use Rattle.objects.proofs.ListLaws.{cases, clash, either}
 use Rattle.objects.proofs.BoolLaws.{false-of}
-use Rattle.objects.proofs.PairLaws.{AllPairs, pairs-left, pairs-right}
+use Rattle.objects.proofs.PairLaws.{pairs-left}
 use Rattle.objects.proofs.KeyLaws.{key-eq}
 use Rattle.rules.specs.Members.{identityOf}
 use Rattle.rules.specs.Identity.{realType, ownNumber, parts, identical}
@@ -23,7 +22,7 @@ use Rattle.rules.proofs.MemberLaws.{Alike}
 use Rattle.rules.proofs.StepLaws.{AgreeKinds, Holds}
 use Rattle.rules.proofs.AscendLaws.{ascend-one}
 use Rattle.rules.proofs.IdentityLaws.{identical-parts}
-use Rattle.gospec.specs.Go.{At, SameIds, Alias, byte-is-uint8, rune-is-int32, SameBasic, itself, left-alias, right-alias, Different, names, predeclared, forms, array-elements, array-lengths, slice-elements, struct-counts, struct-embedding, struct-names, struct-types, struct-tags, pointer-bases, func-parameters, func-results, func-variadic, tuple-counts, tuple-types, iface-lacks, iface-adds, iface-types, map-keys, map-elements, chan-elements, chan-directions}
+use Rattle.gospec.specs.Go.{At, Alias, byte-is-uint8, rune-is-int32, SameBasic, itself, left-alias, right-alias, Different, names, predeclared, forms, array-elements, array-lengths, slice-elements, struct-counts, struct-embedding, struct-names, struct-types, struct-tags, pointer-bases, func-parameters, func-results, func-variadic, tuple-counts, tuple-types, iface-lacks, iface-adds, iface-types, map-keys, map-elements, chan-elements, chan-directions}
 use Rattle.gospec.proofs.Forms.{number-form}
 use Rattle.gospec.proofs.Names.{same-names}
 use Rattle.gospec.proofs.Places.{At-In, In-At, At-map, pairs-at, pairs-beside}

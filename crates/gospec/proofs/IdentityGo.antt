@@ -1,7 +1,7 @@
 -- IDENTITY IS GO'S: `identical` is false exactly for what the Go specification calls different, and true exactly for what it calls identical.
 use mathlib.Core.Path.{_≡_, refl, sym, ap, _∙_, subst}
-use mathlib.Core.Bool.{Bool, true, false, not, _&&_, _||_, Bool·beq}
-use mathlib.Core.List.{List, [], _∷_, _++_, map, append-nil}
+use mathlib.Core.Bool.{true, false, _&&_, Bool·beq}
+use mathlib.Core.List.{List, [], _∷_, append-nil}
 use mathlib.Core.Logic.{_⊎_, inl, inr, _↔_}
 use Prim.Native.Nat.{ℕ, zero, suc}
 use native.Mathlib.Omega.{arith}
@@ -10,7 +10,7 @@ use lib.ListN.{length}
 use borrow.Author.Tests.{eqb-true, eqb-false, not-true, not-false}
 use Rattle.objects.specs.Lists.{In, Sorted}
 use Rattle.objects.specs.declared.TypeKey.{TypeKey}
-use Rattle.objects.specs.Table.{Table, dirNumber, bit, Entity, Field, Method, isEmbedded, tagOf, Member, Kind, Basic, Array, Slice, Pointer, Map, Chan, Tuple, Func, Struct, Iface, Named, kindNumber, membersOf, allMethodsOf, kindAt}
+use Rattle.objects.specs.Table.{Table, dirNumber, bit, Entity, Field, Method, isEmbedded, tagOf, Member, Kind, Struct, Iface, kindNumber, membersOf, allMethodsOf, kindAt}
 use Rattle.objects.proofs.ListLaws.{cases, clash, either}
 use Rattle.objects.proofs.BoolLaws.{and-no, beq-self}
 use Rattle.objects.proofs.PairLaws.{AllPairs, pairs-map, pairs-self, pairs-long}
@@ -23,7 +23,7 @@ use Rattle.rules.specs.Identity.{ownNumber, parts, Pair, corresponding, alikeMe
 use Rattle.rules.specs.Load.{stands}
 use Rattle.rules.specs.Sound.{Sound, Lower}
 use Rattle.rules.proofs.MemberLaws.{sameId-true, sameId-eq, Alike, alike-join}
-use Rattle.rules.proofs.StepLaws.{Matched, matched}
+use Rattle.rules.proofs.StepLaws.{matched}
 use Rattle.rules.proofs.AscendLaws.{SameIdentity, lacking-or, aligned}
 use Rattle.rules.proofs.IdentityLaws.{pair, identical-chain}
 use Rattle.gospec.specs.Go.{At, at-first, at-later, SameForm, basics, arrays, slices, pointers, maps, chans, tuples, funcs, structs, ifaces, nameds, Different, names, predeclared, forms, array-elements, array-lengths, slice-elements, struct-counts, struct-embedding, struct-names, struct-types, struct-tags, pointer-bases, func-parameters, func-results, func-variadic, tuple-counts, tuple-types, iface-lacks, iface-adds, iface-types, map-keys, map-elements, chan-elements, chan-directions, Identical}

@@ -1,6 +1,6 @@
 -- Names of members: the same identity (`sameId`) is the Go specification's sameness of identifiers.
 use mathlib.Core.Path.{_≡_, refl, sym, ap, _∙_}
-use mathlib.Core.Bool.{Bool, true, false, cond, _&&_}
+use mathlib.Core.Bool.{true, false, cond}
 use mathlib.Core.List.{[], _∷_}
 use mathlib.Core.Logic.{_↔_}
 use mathlib.Core.Option.{Option, none}
@@ -13,8 +13,8 @@ use Rattle.objects.proofs.ListLaws.{cases, clash, and-l, and-r}
 use Rattle.objects.proofs.BoolLaws.{and-i, false-of}
 use Rattle.text.specs.Bytes.{sameBytes, exported}
 use Rattle.text.proofs.ByteLaws.{same-refl, same-true}
-use Rattle.rules.specs.Members.{Identity, samePath, identityFrom, identityOf, sameId, sameMember}
-use Rattle.rules.proofs.MemberLaws.{samePath-self, sameId-true, sameId-eq}
+use Rattle.rules.specs.Members.{Identity, identityFrom, identityOf, sameId, sameMember}
+use Rattle.rules.proofs.MemberLaws.{samePath-self, sameId-true}
 use Rattle.gospec.specs.Go.{Exported, capital, DifferentIds, spelled, packages, SameIds, DifferentNames, SameNames}
 
 pub exported-go : (a : Bytes) → exported a ≡ true → Exported a

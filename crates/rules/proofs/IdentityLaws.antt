@@ -1,15 +1,15 @@
 -- IDENTITY (I): `identical` is the paper's sentence, "yes unless some finite chain of corresponding parts reaches a mismatch", whatever the chain's length
 -- (`identical-chain`); it holds exactly if two types agree at every number of steps (`identical-steps`); it is an equivalence; and it is one step of
 -- itself (`identical-parts`, `identical-step`). For every key of a sound table, also for one that the table lacks.
-use mathlib.Core.Path.{_≡_, refl, sym, ap, ap₂, _∙_}
-use mathlib.Core.Bool.{Bool, true, false, not}
-use mathlib.Core.List.{List, [], _∷_, _++_, map}
+use mathlib.Core.Path.{_≡_, refl, sym, ap₂}
+use mathlib.Core.Bool.{Bool, true, false}
+use mathlib.Core.List.{List, [], _∷_}
 use mathlib.Core.Logic.{_⊎_, inl, inr, _↔_}
-use Prim.Native.Nat.{ℕ, zero, suc, _+_, _*_, _≤_, _<_}
+use Prim.Native.Nat.{ℕ, zero, suc, _+_, _*_, _<_}
 use native.Mathlib.Omega.{arith}
 use native.Mathlib.Decide.{decLt}
 use native.Mathlib.Nat.{suc-mul, mul-le-mul-right}
-use borrow.Author.Tests.{not-true, not-false}
+use borrow.Author.Tests.{not-false}
 use Rattle.objects.specs.Lists.{In}
 use Rattle.objects.specs.declared.TypeKey.{TypeKey}
 use Rattle.objects.specs.Table.{Table, size, sameType, kindAt}
@@ -18,12 +18,12 @@ use Rattle.objects.proofs.BoolLaws.{and-i, iff-eq}
 use Rattle.objects.proofs.PairLaws.{AllPairs}
 use Rattle.objects.proofs.KeyLaws.{key-eq, same-key, same-self as type-self}
 use Rattle.rules.specs.Chains.{leads, Chain, here, there}
-use Rattle.rules.specs.Identity.{realType, ownNumber, parts, Pair, samePair, corresponding, mismatched, mismatch, pairParts, identical}
+use Rattle.rules.specs.Identity.{realType, ownNumber, parts, Pair, samePair, corresponding, mismatch, pairParts, identical}
 use Rattle.rules.specs.StepIdentity.{sameStep, sameIn}
 use Rattle.rules.specs.Sound.{Sound}
 use Rattle.rules.proofs.RangeLaws.{kind-out, part-in}
 use Rattle.rules.proofs.ChainLaws.{AtMost, leads-sound, leads-iff}
-use Rattle.rules.proofs.StepLaws.{Holds, Agree, AgreeKinds, step-agree, agree-map, same-zero, same-split, same-join, same-self, same-turn, same-trans, corr-from, Differ, chain-false, false-chain}
+use Rattle.rules.proofs.StepLaws.{Holds, Agree, step-agree, agree-map, same-zero, same-split, same-join, same-self, same-turn, same-trans, corr-from, chain-false, false-chain}
 
 abbrev pub pair : TypeKey → TypeKey → Pair
 pair x y = record { left = x; right = y }
