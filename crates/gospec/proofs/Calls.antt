@@ -16,7 +16,7 @@ use Rattle.rules.specs.Checks.{memberAllowed, mayHave}
 use Rattle.rules.specs.Sound.{Sound}
 use Rattle.gospec.specs.Go.{At}
 use Rattle.gospec.specs.GoSelectors.{underlying, a-field, a-method, of-interface, Embeds, Occurs, declared, promoted, Base, Operand, of-type, of-pointer, InSet, receiver-value, receiver-any, interface-set, value-embedded, value-embedded-star, star-embedded, Callable, in-set, in-pointer-set, in-address-set}
-use Rattle.gospec.proofs.Names.{At-In}
+use Rattle.gospec.proofs.Places.{At-In}
 use Rattle.gospec.proofs.Operands.{under-pointer, embeds-one}
 
 tailOf : List ℕ → List ℕ

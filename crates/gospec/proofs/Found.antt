@@ -24,7 +24,8 @@ use Rattle.ways.proofs.Extra.{walks-first}
 use Rattle.ways.proofs.TableLaws.{Earlier, lawful, keyed, closed, ways-ascend}
 use Rattle.gospec.specs.Go.{At, at-first, at-later, SameIds}
 use Rattle.gospec.specs.GoSelectors.{underlying, Declares, a-field, a-method, of-interface, Stars, no-star, star, Embeds, embeds, Occurs, declared, promoted}
-use Rattle.gospec.proofs.Names.{At-In, hit-go, go-hit}
+use Rattle.gospec.proofs.Names.{hit-go, go-hit}
+use Rattle.gospec.proofs.Places.{At-In}
 
 -- ---- lists at their places
 

@@ -19,7 +19,7 @@ use Rattle.ways.specs.Graph.{select}
 use Rattle.ways.specs.OfTable.{graph}
 use Rattle.gospec.specs.Go.{At}
 use Rattle.gospec.specs.GoSelectors.{underlying, Stars, Embeds, embeds, Occurs, Base, Operand, of-type, of-pointer, NoneShallower, Denotes, shallowest, dynamic, shorthand, Several, several, several-shorthand}
-use Rattle.gospec.proofs.Names.{At-one}
+use Rattle.gospec.proofs.Places.{At-one}
 use Rattle.gospec.proofs.Found.{asked, stars-bare, outcome, Found, absent, alone, crowd, finds}
 
 -- ---- kinds

@@ -15,13 +15,15 @@ use Rattle.rules.specs.Members.{identityOf, identityFrom}
 use Rattle.rules.specs.Sound.{Sound, Lower}
 use Rattle.rules.specs.Ways.{Selected, notfound, badreceiver, entry, ambiguous, noMethod}
 use Rattle.rules.proofs.MemberLaws.{sameId-true}
+use Rattle.rules.proofs.AscendLaws.{lower-apart}
 use Rattle.ways.specs.Graph.{select}
 use Rattle.ways.specs.OfTable.{graph}
 use Rattle.ways.proofs.TableLaws.{names-neither}
 use Rattle.gospec.specs.Go.{At, SameIds}
 use Rattle.gospec.specs.GoSelectors.{underlying, a-field, a-method, of-interface, Embeds, embeds, Occurs, declared, promoted, Base, Operand, of-type, of-pointer, Denotes, shallowest, dynamic, shorthand, Several, several, several-shorthand, interface-set, Callable, in-set}
 use Rattle.gospec.specs.Says.{blank, Says, legal-field, legal-method, no-call, not-one, nothing, forget}
-use Rattle.gospec.proofs.Names.{At-In, go-hit, ascend-at}
+use Rattle.gospec.proofs.Names.{go-hit}
+use Rattle.gospec.proofs.Places.{At-In, at-head, at-tail}
 use Rattle.gospec.proofs.Found.{asked, outcome, Found, absent, alone, crowd, finds}
 use Rattle.gospec.proofs.Operands.{base-one, under-pointer, under-defined, operand-iface, operand-defined, View, none-at, one-at, many-at, view}
 use Rattle.gospec.proofs.Calls.{field-sort, method-sort, call-needs, call-has}
@@ -69,6 +71,13 @@ module _ (T : Table) (R : TypeKey → Type 0) (name : Bytes) (pkg : Option Packa
     says-result r u (r-many p s n e) (no-call m k d i c) = absurd (n _ m _ d)
     says-result r u (r-many p s n e) (not-one k z) = rw e
     says-result r u (r-many p s n e) (nothing z) = absurd (either z nb (λ w. w .1 s))
+
+-- an interface's methods ascend, so that no two places have one identity
+ascend-at : (T : Table) (l : List Member) → Sorted (Lower T) l → (i j : ℕ) (m n : Member) → At l i m → At l j n → identityOf T m ≡ identityOf T n → i ≡ j
+ascend-at T (z ∷ l) s zero zero m n a b e = refl
+ascend-at T (z ∷ l) s zero (suc j) m n a b e = absurd (lower-apart T z n (ap (identityOf T) (sym (at-head l z m a)) ∙ e) (s .0 n (At-In (at-tail l z n j b))))
+ascend-at T (z ∷ l) s (suc i) zero m n a b e = absurd (lower-apart T z m (ap (identityOf T) (sym (at-head l z n b)) ∙ sym e) (s .0 m (At-In (at-tail l z m i a))))
+ascend-at T (z ∷ l) s (suc i) (suc j) m n a b e = ap suc (ascend-at T l (s .1) i j m n (at-tail l z m i a) (at-tail l z n j b) e)
 
 abbrev methodIn : Selected → Bool
 methodIn notfound = false

@@ -16,3 +16,5 @@ pub mod Asked
 pub mod Typeask
 pub mod Rows
 pub mod Worked
+pub mod Refusals
+pub mod Traps

@@ -14,7 +14,7 @@ use Rattle.objects.proofs.ListLaws.{cases, clash, either, any-append, keep-appe
 use Rattle.objects.proofs.BoolLaws.{iff-eq}
 use Rattle.objects.proofs.PairLaws.{AllPairs}
 use Rattle.objects.proofs.KeyLaws.{key-eq, same-key, same-self}
-use Rattle.objects.proofs.KindLaws.{pointer-is, struct-is, named-is, fields-or-methods, under-plain, under-named, bare-plain, bare-pointer}
+use Rattle.objects.proofs.KindLaws.{if-In, pointer-is, struct-is, named-is, fields-or-methods, under-plain, under-named, bare-plain, bare-pointer}
 use Rattle.objects.specs.declared.TypeKey.{TypeKey}
 use Rattle.objects.specs.Table.{Table, size, sameType, Entity, Field, Method, Member, isEmbedded, Kind, Named, Pointer, Struct, kindNumber, isPointer, isFunc, isStruct, isIface, isNamed, refs, membersOf, fieldsOf, declaredOf, allMethodsOf, allMethods, kindAt, under, bare, pointerAt}
 use Rattle.text.specs.Bytes.{isBlank}
@@ -66,7 +66,7 @@ placed T t = sorted-keep-map Nearer (λ (a b : Step). a .place < b .place) (step
 
 module _ (T : Table) (sound : Sound T) where
   fields-in : (t : TypeKey) (f : Member) → In f (fieldsOf (kindAt T t)) → In f (membersOf (kindAt T t))
-  fields-in t f i = cases (isStruct (kindAt T t)) (λ e. rw e at i) (λ e. absurd (rw e at i))
+  fields-in t f i = if-In (isStruct (kindAt T t)) (membersOf (kindAt T t)) f i .1
 
   pub base-in : (t e : TypeKey) → kindAt T t ≡ Pointer e → e .0 < size T
   base-in t e h = sound .refers t e (rw h (inl refl))
@@ -134,10 +134,6 @@ module _ (T : Table) where
   apart-if true ms a = a
   apart-if false ms a = tt
 
-  none-if : (b : Bool) (m : Member) (ms : List Member) → In m (cond b ms []) → (b ≡ true) × In m ms
-  none-if true m ms i = (refl, i)
-  none-if false m ms i = absurd i
-
 module _ (T : Table) (sound : Sound T) where
   -- "with methods it is neither pointer nor iface": what a named type with a method names
   pub names-neither : (t u : TypeKey) (ms : List Member) (m : Member) → kindAt T t ≡ Named u ms → In m ms → (isPointer (kindAt T u) ≡ false) × (isIface (kindAt T u) ≡ false)
@@ -156,7 +152,7 @@ module _ (T : Table) (sound : Sound T) where
   declared-alone : (t : TypeKey) (m : Member) → In m (declaredOf (kindAt T t)) → allMethods T t ≡ []
   unfolding allMethods
   declared-alone t m i =
-      let d = none-if T (isNamed (kindAt T t)) m (membersOf (kindAt T t)) i in
+      let d = if-In (isNamed (kindAt T t)) (membersOf (kindAt T t)) m i in
       let n = named-is (kindAt T t) (d .0) in
       let no : isIface (kindAt T (under T t)) ≡ false = rw (under-named T t (n .0) (n .1) (n .2)) (names-neither t (n .0) (n .1) m (n .2) (subst (λ k. In m (membersOf k)) (n .2) (d .1)) .1) in
       rw no
