@@ -155,6 +155,14 @@ pub or-r : (a b : Bool) → a || b ≡ false → b ≡ false
 or-r true b h = clash refl h
 or-r false b h = h
 
+pub and-l : (a b : Bool) → a && b ≡ true → a ≡ true
+and-l true b h = refl
+and-l false b h = h
+
+pub and-r : (a b : Bool) → a && b ≡ true → b ≡ true
+and-r true b h = h
+and-r false b h = clash h refl
+
 pub any-sub : {A : Type 0} (p q : A → Bool) (l : List A) → any p (keep q l) ≡ true → any p l ≡ true
 any-sub p q [] h = h
 any-sub p q (x ∷ xs) h =

@@ -2,6 +2,7 @@ pub mod Members
 pub mod Forms
 pub mod Chains
 pub mod Identity
+pub mod StepIdentity
 pub mod Checks
 pub mod Load
 pub mod Sound
@@ -15,3 +16,5 @@ pub mod Asked
 pub mod Typeask
 pub mod Rows
 pub mod Worked
+pub mod Refusals
+pub mod Traps
