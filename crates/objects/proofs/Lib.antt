@@ -1,2 +1,3 @@
 pub mod ListLaws
 pub mod Pigeons
+pub mod Reading
