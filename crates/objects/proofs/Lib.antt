@@ -1,3 +1,5 @@
 pub mod ListLaws
 pub mod Pigeons
 pub mod Reading
+pub mod Numbers
+pub mod RowLaws
