@@ -3,3 +3,5 @@ pub mod Pigeons
 pub mod Reading
 pub mod Numbers
 pub mod RowLaws
+pub mod Stores
+pub mod Keeping

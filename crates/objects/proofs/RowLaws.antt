@@ -25,7 +25,7 @@ use Rattle.objects.proofs.Numbers.{each-length, each-at, run-length, ru
 pick : (P : ℕ → Type 0) (k n : ℕ) → n ≤ k → P n → (n < k → P k) → P k
 pick P k n h p q = cases (eqb k n) (λ e. subst P (sym (eqb-true k n e)) p) (λ e. let ne = eqb-false k n e in q (omega arith))
 
-by-kind : (P : ℕ → Type 0) → P 0 → P 1 → P 2 → P 3 → P 4 → P 5 → P 6 → P 7 → P 8 → P 9 → ((k : ℕ) → 10 ≤ k → P k) → (k : ℕ) → P k
+pub by-kind : (P : ℕ → Type 0) → P 0 → P 1 → P 2 → P 3 → P 4 → P 5 → P 6 → P 7 → P 8 → P 9 → ((k : ℕ) → 10 ≤ k → P k) → (k : ℕ) → P k
 by-kind P p0 p1 p2 p3 p4 p5 p6 p7 p8 p9 last k =
     pick P k 0 zero-le p0 λ h.
     pick P k 1 h p1 λ h.
@@ -61,7 +61,7 @@ past k h x0 x1 x2 x3 x4 x5 x6 x7 x8 x9 y =
     above n l = ne-eqb k n (λ e. omega arith)
 
 module _ (text : Bytes) (rows : Words) (a b c first count : ℕ) where
-  named-kind : (k : ℕ) → 10 ≤ k → kindOf text rows k a b c first count ≡ Named (typeKey a) (membersFrom text rows first count)
+  pub named-kind : (k : ℕ) → 10 ≤ k → kindOf text rows k a b c first count ≡ Named (typeKey a) (membersFrom text rows first count)
   unfolding kindOf
   named-kind k h = past k h _ _ _ _ _ _ _ _ _ _ _
 

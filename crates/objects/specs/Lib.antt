@@ -3,3 +3,4 @@ pub mod Lists
 pub mod Table
 pub mod Rows
 pub mod Types
+pub mod Laid
