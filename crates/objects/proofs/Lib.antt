@@ -3,3 +3,8 @@ pub mod Pigeons
 pub mod KeyLaws
 pub mod PartLaws
 pub mod KindLaws
+pub mod Reading
+pub mod Numbers
+pub mod RowLaws
+pub mod Stores
+pub mod Keeping
