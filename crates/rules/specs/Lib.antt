@@ -4,6 +4,7 @@ pub mod Chains
 pub mod Identity
 pub mod Checks
 pub mod Load
+pub mod Stages
 pub mod Sound
 pub mod Comparable
 pub mod Ways
