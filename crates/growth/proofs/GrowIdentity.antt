@@ -1,40 +1,34 @@
 -- Types that an old line refers to, but as a named type's u, are identical in the new library exactly if they were: they got no fields, nor did their parts.
 use mathlib.Core.Path.{_≡_, refl, sym, ap, ap₂, _∙_, subst}
-use mathlib.Core.Bool.{Bool, true, false, cond, not, _&&_, Bool·beq}
+use mathlib.Core.Bool.{Bool, true, false, not, _&&_, Bool·beq}
 use mathlib.Core.List.{List, [], _∷_, _++_, map, append-nil}
 use mathlib.Core.Logic.{_⊎_, inl, inr}
-use Prim.Native.Nat.{ℕ, _<_}
+use Prim.Native.Nat.{_<_}
 use lib.Dec.{eqb}
 use lib.ListN.{length, length-map}
 use borrow.Author.Tests.{eqb-true, eq-eqb}
-use Rattle.objects.specs.Lists.{In, headOr}
+use Rattle.objects.specs.Lists.{In}
 use Rattle.objects.proofs.ListLaws.{cases, clash, either, In-append, In-map, map-In-to, map-append, map-map}
 use Rattle.objects.proofs.KeyLaws.{key-eq}
+use Rattle.objects.proofs.KindLaws.{named-is, pointer-is, bare-plain, bare-pointer}
+use Rattle.objects.proofs.PairLaws.{pairs-self}
 use Rattle.objects.specs.declared.TypeKey.{TypeKey}
-use Rattle.objects.specs.Table.{Table, size, Member, isEmbedded, tagOf, Kind, Basic, Array, Slice, Pointer, Map, Chan, Tuple, Func, Struct, Iface, Named, kindNumber, isNamed, isPointer, refs, membersOf, kindAt, bare}
+use Rattle.objects.specs.Table.{Table, size, Member, isEmbedded, tagOf, Kind, kindNumber, isNamed, isPointer, refs, membersOf, kindAt, bare}
 use Rattle.text.specs.Bytes.{sameBytes}
 use Rattle.rules.specs.Members.{Identity, sameId}
 use Rattle.rules.specs.Chains.{Chain, here, there}
 use Rattle.rules.specs.Identity.{ownNumber, parts, Pair, corresponding, alikeMember, alike, mismatch, pairParts, identical}
-use Rattle.rules.specs.Sound.{MemberOf}
+use Rattle.rules.specs.Sound.{Sound, MemberOf}
+use Rattle.rules.proofs.MemberLaws.{Alike, alike-join}
+use Rattle.rules.proofs.StepLaws.{corr-from}
+use Rattle.rules.proofs.IdentityLaws.{identical-chain}
 use Rattle.growth.specs.Grown.{Numbers, carryMember, Free, Grew, grew-basic, grew-array, grew-slice, grew-pointer, grew-map, grew-chan, grew-tuple, grew-func, grew-iface, grew-struct, grew-named, Grown}
-use Rattle.growth.proofs.Laws.{Laws}
-use Rattle.growth.proofs.GrowKinds.{head-In, kind-grew, refs-grew, kind-kept, identity-kept}
+use Rattle.growth.proofs.GrowKinds.{kind-grew, refs-grew, kind-kept, identity-kept}
 
 -- a named type's own number is its type number
 own-named : (t : TypeKey) (k : Kind) → isNamed k ≡ true → ownNumber t k ≡ t .0
 unfolding ownNumber
-own-named t (Basic k) e = clash e refl
-own-named t (Array m x) e = clash e refl
-own-named t (Slice x) e = clash e refl
-own-named t (Pointer x) e = clash e refl
-own-named t (Map k x) e = clash e refl
-own-named t (Chan d x) e = clash e refl
-own-named t (Tuple xs) e = clash e refl
-own-named t (Func v p r) e = clash e refl
-own-named t (Struct ms) e = clash e refl
-own-named t (Iface ms) e = clash e refl
-own-named t (Named u ms) e = refl
+own-named t k e = ap (ownNumber t) (named-is k e .2)
 
 module _ (n : Numbers) (A : Table) where
   -- ---- kinds that got no fields
@@ -86,7 +80,7 @@ module _ (n : Numbers) (A : Table) where
   pairs-whole (x ∷ xs) [] = refl
   pairs-whole (x ∷ xs) (y ∷ ys) = ap (λ r. carryPair (record { left = x; right = y }) ∷ r) (pairs-whole xs ys)
 
-module _ (n : Numbers) (A B : Table) (lawsA : Laws A) (lawsB : Laws B) (g : Grown n A B) where
+module _ (n : Numbers) (A B : Table) (soundA : Sound A) (soundB : Sound B) (g : Grown n A B) where
   -- an old type that gets no fields
   pub record Whole (t : TypeKey) : Type 0 where
     pub known : t .0 < size A
@@ -95,10 +89,10 @@ module _ (n : Numbers) (A B : Table) (lawsA : Laws A) (lawsB : Laws B) (g : Grow
   -- ---- what old lines refer to
 
   pub ref-whole : (x t : TypeKey) → isNamed (kindAt A x) ≡ false → In t (refs (kindAt A x)) → Whole t
-  ref-whole x t e i = record { known = lawsA .sound .refers x t i; closed = λ f. clash (f .unreferred x i) e }
+  ref-whole x t e i = record { known = soundA .refers x t i; closed = λ f. clash (f .unreferred x i) e }
 
   pub type-whole : (x : TypeKey) (m : Member) → MemberOf A x m → Whole (m .type)
-  type-whole x m i = record { known = lawsA .sound .typed x m i; closed = λ f. f .noMember x m i refl }
+  type-whole x m i = record { known = soundA .typed x m i; closed = λ f. f .noMember x m i refl }
 
   part-whole : (x t : TypeKey) → In t (parts (kindAt A x)) → Whole t
   unfolding parts
@@ -111,19 +105,18 @@ module _ (n : Numbers) (A B : Table) (lawsA : Laws A) (lawsB : Laws B) (g : Grow
 
   -- with one pointer removed
   pub bare-whole : (t : TypeKey) → Whole t → Whole (bare A t)
-  unfolding bare
   bare-whole t w =
       cases (isPointer (kindAt A t))
-      (λ e. rw e (either (head-In t (refs (kindAt A t))) (λ z. subst Whole (sym z) w)
-      (λ i. ref-whole t (headOr t (refs (kindAt A t))) (ap (λ k. eqb k 10) (eqb-true (kindNumber (kindAt A t)) 3 e)) i)))
-      (λ e. rw e w)
+      (λ e. let p = pointer-is (kindAt A t) e in
+      rw (bare-pointer A t (p .0) (p .1)) (ref-whole t (p .0) (ap isNamed (p .1)) (subst (λ k. In (p .0) (refs k)) (sym (p .1)) (inl refl))))
+      (λ e. rw (bare-plain A t e) w)
 
   -- ---- a mismatch
 
   member-kept : (x y : TypeKey) (m o : Member) → MemberOf A x m → MemberOf A y o → alikeMember B (carryMember n m) (carryMember n o) ≡ alikeMember A m o
   member-kept x y m o i j =
       ap₂ (λ (a b : Identity). sameId a b && Bool·beq (isEmbedded (m .entity)) (isEmbedded (o .entity)) && sameBytes (tagOf (m .entity)) (tagOf (o .entity)))
-      (identity-kept n A B (lawsA .sound) g x m i) (identity-kept n A B (lawsA .sound) g y o j)
+      (identity-kept n A B soundA g x m i) (identity-kept n A B soundA g y o j)
 
   alike-kept : (x y : TypeKey) (ms os : List Member) → ((m : Member) → In m ms → MemberOf A x m) → ((m : Member) → In m os → MemberOf A y m) → alike B (map (carryMember n) ms) (map (carryMember n) os) ≡ alike A ms os
   alike-kept x y [] [] h k = refl
@@ -131,10 +124,6 @@ module _ (n : Numbers) (A B : Table) (lawsA : Laws A) (lawsB : Laws B) (g : Grow
   alike-kept x y (m ∷ ms) [] h k = refl
   alike-kept x y (m ∷ ms) (o ∷ os) h k =
       ap₂ (λ a b. a && b) (member-kept x y m o (h m (inl refl)) (k o (inl refl))) (alike-kept x y ms os (λ z i. h z (inr i)) (λ z i. k z (inr i)))
-
-  alike-self : (T : Table) → Laws T → (ms : List Member) → alike T ms ms ≡ true
-  alike-self T laws [] = refl
-  alike-self T laws (m ∷ ms) = rw (laws .self m) (alike-self T laws ms)
 
   number-kept : (x y : TypeKey) → x .0 < size A → y .0 < size A → eqb (x .0) (y .0) ≡ false → eqb (n .ty x .0) (n .ty y .0) ≡ false
   number-kept x y hx hy e =
@@ -149,18 +138,20 @@ module _ (n : Numbers) (A B : Table) (lawsA : Laws A) (lawsB : Laws B) (g : Grow
   abbrev matches : Table → TypeKey → TypeKey → Bool
   matches T x y = eqb (kindNumber (kindAt T x)) (kindNumber (kindAt T y)) && eqb (ownNumber x (kindAt T x)) (ownNumber y (kindAt T y)) && alike T (membersOf (kindAt T x)) (membersOf (kindAt T y))
 
-  matches-self : (T : Table) → Laws T → (x : TypeKey) → matches T x x ≡ true
-  matches-self T laws x = rw (eq-eqb (kindNumber (kindAt T x)) (kindNumber (kindAt T x)) refl, eq-eqb (ownNumber x (kindAt T x)) (ownNumber x (kindAt T x)) refl, alike-self T laws (membersOf (kindAt T x)))
+  matches-self : (T : Table) (x : TypeKey) → matches T x x ≡ true
+  matches-self T x =
+      rw (eq-eqb (kindNumber (kindAt T x)) (kindNumber (kindAt T x)) refl, eq-eqb (ownNumber x (kindAt T x)) (ownNumber x (kindAt T x)) refl)
+      (alike-join T (membersOf (kindAt T x)) (membersOf (kindAt T x)) (pairs-self (Alike T) (membersOf (kindAt T x)) (λ m i. (refl, refl, refl))))
 
   -- named types match only themselves
   matches-named : (x y : TypeKey) → x .0 < size A → y .0 < size A → isNamed (kindAt A x) ≡ true → isNamed (kindAt A y) ≡ true → matches B (n .ty x) (n .ty y) ≡ matches A x y
   matches-named x y hx hy ex ey =
       cases (eqb (x .0) (y .0))
       (λ e. let z = key-eq x y (eqb-true (x .0) (y .0) e) in
-      subst (λ (u : TypeKey). matches B (n .ty x) (n .ty u) ≡ matches A x u) z (matches-self B lawsB (n .ty x) ∙ sym (matches-self A lawsA x)))
+      subst (λ (u : TypeKey). matches B (n .ty x) (n .ty u) ≡ matches A x u) z (matches-self B (n .ty x) ∙ sym (matches-self A x)))
       (λ e.
-      let nx = ap (λ k. eqb k 10) (kind-kept n A B (lawsA .sound) g x hx) ∙ ex in
-      let ny = ap (λ k. eqb k 10) (kind-kept n A B (lawsA .sound) g y hy) ∙ ey in
+      let nx = ap (λ k. eqb k 10) (kind-kept n A B soundA g x hx) ∙ ex in
+      let ny = ap (λ k. eqb k 10) (kind-kept n A B soundA g y hy) ∙ ey in
       none-other B (n .ty x) (n .ty y) nx ny (number-kept x y hx hy e) ∙ sym (none-other A x y ex ey e))
     where
       none : (k b : Bool) → k && false && b ≡ false
@@ -191,7 +182,7 @@ module _ (n : Numbers) (A B : Table) (lawsA : Laws A) (lawsB : Laws B) (g : Grow
       cases (isNamed (kindAt A x))
       (λ t. matches-named x y (wx .known) (wy .known) t (ap (λ z. eqb z 10) (sym k) ∙ t))
       (λ t. matches-other x y wx wy t (ap (λ z. eqb z 10) (sym k) ∙ t)))
-      (λ e. rw (kind-kept n A B (lawsA .sound) g x (wx .known), kind-kept n A B (lawsA .sound) g y (wy .known), e))
+      (λ e. rw (kind-kept n A B soundA g x (wx .known), kind-kept n A B soundA g y (wy .known), e))
 
   mismatch-kept : (p : Pair) → Whole (p .left) → Whole (p .right) → mismatch B (carried p) ≡ mismatch A p
   unfolding mismatch
@@ -207,14 +198,10 @@ module _ (n : Numbers) (A B : Table) (lawsA : Laws A) (lawsB : Laws B) (g : Grow
       (parts-whole n A (p .right) (kindAt A (p .right)) (kindAt B (n .ty (p .right))) (wr .closed) (g .grew (p .right) (wr .known)))
       ∙ pairs-whole n A (parts (kindAt A (p .left))) (parts (kindAt A (p .right)))
 
-  part-of : (xs ys : List TypeKey) (p : Pair) → In p (corresponding xs ys) → In (p .left) xs × In (p .right) ys
-  part-of (x ∷ xs) (y ∷ ys) p (inl e) = (inl (ap (λ (z : Pair). z .left) e), inl (ap (λ (z : Pair). z .right) e))
-  part-of (x ∷ xs) (y ∷ ys) p (inr i) = let r = part-of xs ys p i in (inr (r .0), inr (r .1))
-
   next-whole : (p z : Pair) → In z (pairParts A p) → Whole (z .left) × Whole (z .right)
   unfolding pairParts
   next-whole p z i =
-      let r = part-of (parts (kindAt A (p .left))) (parts (kindAt A (p .right))) z i in
+      let r = corr-from (parts (kindAt A (p .left))) (parts (kindAt A (p .right))) z i in
       (part-whole (p .left) (z .left) (r .0), part-whole (p .right) (z .right) (r .1))
 
   there-kept : (p : Pair) → Whole (p .left) → Whole (p .right) → Chain (pairParts A) (mismatch A) p → Chain (pairParts B) (mismatch B) (carried p)
@@ -234,8 +221,8 @@ module _ (n : Numbers) (A B : Table) (lawsA : Laws A) (lawsB : Laws B) (g : Grow
   pub identity-stays : (x y : TypeKey) → Whole x → Whole y → identical B (n .ty x) (n .ty y) ≡ identical A x y
   identity-stays x y wx wy =
       let both : Pair = record { left = x; right = y } in
-      let old = lawsA .chains x y (wx .known) (wy .known) in
-      let new = lawsB .chains (n .ty x) (n .ty y) (g .typeIn x (wx .known)) (g .typeIn y (wy .known)) in
+      let old = identical-chain A soundA x y in
+      let new = identical-chain B soundB (n .ty x) (n .ty y) in
       cases (identical A x y)
       (λ e. cases (identical B (n .ty x) (n .ty y)) (λ f. f ∙ sym e)
       (λ f. clash e (old .1 (back-kept (carried both) both refl wx wy (new .0 f)))))

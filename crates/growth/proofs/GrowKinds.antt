@@ -1,84 +1,47 @@
 -- What stays of a type that grew (specs/Grown.antt): its kind, what its line refers to, its members at their places; and of a name its identity.
-use mathlib.Core.Path.{_≡_, refl, sym, ap, ap₂, _∙_, subst}
+use mathlib.Core.Path.{_≡_, refl, sym, ap, ap₂, _∙_}
 use mathlib.Core.Bool.{Bool, true, false, cond, not, _&&_}
 use mathlib.Core.List.{List, [], _∷_, _++_, map, append-nil}
-use mathlib.Core.Logic.{_⊎_, inl, inr}
 use mathlib.Core.Option.{Option, none, some}
-use Prim.Native.Nat.{ℕ, zero, suc, _<_}
-use native.Mathlib.Omega.{arith}
-use native.Mathlib.Decide.{decLt}
+use Prim.Native.Nat.{ℕ, _<_}
 use lib.Dec.{eqb}
-use lib.ListN.{length, getD, List·getD-eq-default}
+use lib.ListN.{length}
 use borrow.Author.Tests.{ltb-true, eq-eqb}
-use Rattle.objects.specs.Lists.{Bytes, any, mapped, headOr, In, upTo, flat}
-use Rattle.objects.proofs.ListLaws.{cases, clash, either, any-In, In-append, In-append-l, In-append-r, In-map, map-In-to, flat-In-to}
+use Rattle.objects.specs.Lists.{Bytes, headOr, In, upTo}
+use Rattle.objects.proofs.ListLaws.{cases, any-In}
+use Rattle.objects.proofs.KindLaws.{if-In}
+use Rattle.objects.proofs.Numbers.{upTo-has}
 use Rattle.objects.specs.declared.TypeKey.{TypeKey}
 use Rattle.objects.specs.declared.ObjKey.{ObjKey}
 use Rattle.objects.specs.declared.PackageKey.{PackageKey}
-use Rattle.objects.specs.Table.{Table, objKey, size, memberCount, Member, Kind, Basic, Array, Slice, Pointer, Map, Chan, Tuple, Func, Struct, Iface, Named, kindNumber, isNamed, isPointer, isIface, refs, membersOf, fieldsOf, declaredOf, allMethodsOf, hasPackage, kindAt, pathOf, under, bare, pointerAt, ifaceUnder, namedPointer, allMethods}
+use Rattle.objects.specs.Table.{Table, objKey, size, memberCount, Member, Kind, kindNumber, isStruct, isIface, isNamed, refs, membersOf, fieldsOf, declaredOf, allMethodsOf, hasPackage, kindAt, pathOf, under, bare, pointerAt, ifaceUnder, namedPointer, allMethods}
 use Rattle.text.specs.Bytes.{exported}
-use Rattle.rules.specs.Members.{Identity, identityFrom, identityOf}
+use Rattle.rules.specs.Members.{identityFrom, identityOf}
 use Rattle.rules.specs.Sound.{Sound, MemberOf}
+use Rattle.rules.proofs.RangeLaws.{under-in}
 use Rattle.growth.specs.Grown.{Numbers, carryPkg, carryMember, isAdded, Added, Grew, grew-basic, grew-array, grew-slice, grew-pointer, grew-map, grew-chan, grew-tuple, grew-func, grew-iface, grew-struct, grew-named, Grown}
 
 -- ---- lists
 
-pub head-map : {A B : Type 0} (f : A → B) (d : A) (l : List A) → headOr (f d) (map f l) ≡ f (headOr d l)
+head-map : {A B : Type 0} (f : A → B) (d : A) (l : List A) → headOr (f d) (map f l) ≡ f (headOr d l)
 head-map f d [] = refl
 head-map f d (x ∷ l) = refl
-
-pub head-In : {A : Type 0} (d : A) (l : List A) → (headOr d l ≡ d) ⊎ In (headOr d l) l
-head-In d [] = inl refl
-head-In d (x ∷ l) = inr (inl refl)
 
 cond-ap : {A B : Type 0} (f : A → B) (b : Bool) (x y : A) → cond b (f x) (f y) ≡ f (cond b x y)
 cond-ap f true x y = refl
 cond-ap f false x y = refl
 
-In-upTo : (n i : ℕ) → i < n → In i (upTo n)
-In-upTo zero i h = absurd (omega arith)
-In-upTo (suc n) i h = elim (decLt i n) [ yes l ↦ In-append-l (upTo n) (n ∷ []) i (In-upTo n i l) | no l ↦ In-append-r (upTo n) (n ∷ []) i (inl (omega arith)) ]
-
-upTo-below : (n i : ℕ) → In i (upTo n) → i < n
-upTo-below zero i h = absurd h
-upTo-below (suc n) i h = either (In-append (upTo n) (n ∷ []) i h) (λ j. let l = upTo-below n i j in omega arith) (λ j. either j (λ e. omega arith) (λ z. absurd z))
-
-getD-In : {A : Type 0} (l : List A) (i : ℕ) (d : A) → i < length l → In (getD l i d) l
-getD-In [] i d h = absurd (omega arith)
-getD-In (x ∷ l) zero d h = inl refl
-getD-In (x ∷ l) (suc i) d h = inr (getD-In l i d (omega arith))
-
--- ---- numbers of a table
-
-module _ (T : Table) (sound : Sound T) where
-  -- a member that stands under a type has one of the table's numbers
-  pub member-known : (t : TypeKey) (m : Member) → MemberOf T t m → m .key .0 < memberCount T
-  unfolding kindAt
-  member-known t m i =
-      elim (decLt (t .0) (size T)) [
-        | yes h ↦ upTo-below (memberCount T) (m .key .0) (subst (In (m .key .0)) (sound .numbered) (map-In-to (λ (x : Member). x .key .0) (flat membersOf (T .types)) m (flat-In-to membersOf (T .types) (kindAt T t) m (getD-In (T .types) (t .0) (Basic 0) h) i)))
-        | no h ↦ absurd (subst (λ (k : Kind). In m (membersOf k)) (List·getD-eq-default (T .types) (Basic 0) {n = t .0} (omega arith)) i)
-      ]
-
-  pub under-in : (t : TypeKey) → t .0 < size T → under T t .0 < size T
-  unfolding under
-  under-in t h = cases (isNamed (kindAt T t)) (λ e. rw e (either (head-In t (refs (kindAt T t))) (λ z. rw z h) (λ i. sound .refers t (headOr t (refs (kindAt T t))) i))) (λ e. rw e h)
-
-  pub bare-in : (t : TypeKey) → t .0 < size T → bare T t .0 < size T
-  unfolding bare
-  bare-in t h = cases (isPointer (kindAt T t)) (λ e. rw e (either (head-In t (refs (kindAt T t))) (λ z. rw z h) (λ i. sound .refers t (headOr t (refs (kindAt T t))) i))) (λ e. rw e h)
-
-  -- the fields of a type's struct stand under its u
-  pub fields-members : (k : Kind) (f : Member) → In f (fieldsOf k) → In f (membersOf k)
-  fields-members k f i = cases (eqb (kindNumber k) 8) (λ e. rw e at i) (λ e. absurd (rw e at i))
-
-  pub declared-members : (k : Kind) (f : Member) → In f (declaredOf k) → In f (membersOf k)
-  declared-members k f i = cases (eqb (kindNumber k) 10) (λ e. rw e at i) (λ e. absurd (rw e at i))
-
-  pub methods-members : (k : Kind) (f : Member) → In f (allMethodsOf k) → In f (membersOf k)
-  methods-members k f i = cases (eqb (kindNumber k) 9) (λ e. rw e at i) (λ e. absurd (rw e at i))
-
 -- ---- kinds
+
+-- fields, declared methods and an interface's methods are members
+pub fields-members : (k : Kind) (f : Member) → In f (fieldsOf k) → In f (membersOf k)
+fields-members k f i = if-In (isStruct k) (membersOf k) f i .1
+
+pub declared-members : (k : Kind) (m : Member) → In m (declaredOf k) → In m (membersOf k)
+declared-members k m i = if-In (isNamed k) (membersOf k) m i .1
+
+pub methods-members : (k : Kind) (m : Member) → In m (allMethodsOf k) → In m (membersOf k)
+methods-members k m i = if-In (isIface k) (membersOf k) m i .1
 
 module _ (n : Numbers) (A : Table) where
   pub kind-grew : (t : TypeKey) (k l : Kind) → Grew n A t k l → kindNumber l ≡ kindNumber k
@@ -153,14 +116,11 @@ module _ (n : Numbers) (A : Table) where
 
   -- an old member's new number is none of an added one
   pub carried-old : (m : ObjKey) → m .0 < memberCount A → isAdded n A (n .mem m) ≡ false
-  carried-old m h = ap not (any-In (λ i. eqb (n .mem (objKey i) .0) (n .mem m .0)) (upTo (memberCount A)) (m .0) (In-upTo (memberCount A) (m .0) h) (eq-eqb (n .mem m .0) (n .mem m .0) refl))
+  carried-old m h = ap not (any-In (λ i. eqb (n .mem (objKey i) .0) (n .mem m .0)) (upTo (memberCount A)) (m .0) (upTo-has (memberCount A) (m .0) h) (eq-eqb (n .mem m .0) (n .mem m .0) refl))
 
 -- ---- what a table says
 
 module _ (n : Numbers) (A B : Table) (sound : Sound A) (g : Grown n A B) where
-  abbrev Kept : TypeKey → Type 0
-  Kept t = Grew n A t (kindAt A t) (kindAt B (n .ty t))
-
   pub kind-kept : (t : TypeKey) → t .0 < size A → kindNumber (kindAt B (n .ty t)) ≡ kindNumber (kindAt A t)
   kind-kept t h = kind-grew n A t (kindAt A t) (kindAt B (n .ty t)) (g .grew t h)
 

@@ -17,16 +17,16 @@ use Rattle.rules.specs.Identity.{identical}
 use Rattle.rules.specs.Ways as rules
 use Rattle.rules.specs.Ways.{Place, Walk, Way, memberOf, placesOf, placesFrom, fieldPlaces, Selected, notfound, badreceiver, entry, ambiguous, single, owned}
 use Rattle.rules.specs.Missing.{Lack, compared, unmetThere, unmetBy, unmet, firstUnmet, missing}
-use Rattle.rules.specs.Sound.{MemberOf}
+use Rattle.rules.specs.Sound.{Sound, MemberOf}
 use Rattle.ways.specs.Graph.{Graph, walks, matching, ends, ways, judge, start, select}
 use Rattle.ways.specs.OfTable.{graph}
+use Rattle.ways.proofs.TableLaws.{lawful, keyed, closed, places-from}
 use Rattle.ways.proofs.Least.{select-least, select-none, least-or-none}
 use Rattle.growth.specs.Grown.{Numbers, carryMember, Grown}
 use Rattle.growth.specs.Promise.{isShut, Shortest, carrySelected, newWay, Disturbed, PromiseN}
-use Rattle.growth.proofs.Laws.{Laws}
-use Rattle.growth.proofs.GrowKinds.{under-in, fields-members, declared-members, methods-members, iface-kept, methods-kept, identity-kept}
+use Rattle.growth.proofs.GrowKinds.{fields-members, declared-members, methods-members, iface-kept, methods-kept, identity-kept}
 use Rattle.growth.proofs.GrowIdentity.{Whole, type-whole, identity-stays}
-use Rattle.growth.proofs.GrowGraph.{places-In, method-in}
+use Rattle.growth.proofs.GrowGraph.{method-in}
 use Rattle.growth.proofs.GrowSelect.{post, startAt, startFlag, select-shut, select-open, not-blank, start-in, promise-S}
 
 -- ---- an entry's member is one of the table's
@@ -65,15 +65,15 @@ post-entry true (entry o g l) m f p e = cases (isMethod (o .entity)) (λ z. clas
 post-entry true (ambiguous l) m f p e = e
 post-entry false r m f p e = e
 
-module _ (T : Table) (laws : Laws T) where
+module _ (T : Table) (sound : Sound T) where
   owned-member : (t : TypeKey) (p : Place) → In p (owned T t) → (x : TypeKey) × MemberOf T x (p .member)
   unfolding owned allMethods
   owned-member t p i =
       either (In-append (placesFrom 0 (declaredOf (kindAt T t)) ++ fieldPlaces T t) (placesFrom 0 (allMethods T t)) p i)
       (λ j. either (In-append (placesFrom 0 (declaredOf (kindAt T t))) (fieldPlaces T t) p j)
-      (λ k. (t, declared-members T (laws .sound) (kindAt T t) (p .member) (places-In 0 (declaredOf (kindAt T t)) p k)))
-      (λ k. (under T t, fields-members T (laws .sound) (kindAt T (under T t)) (p .member) (places-In 0 (fieldsOf (kindAt T (under T t))) p k))))
-      (λ j. (under T t, methods-members T (laws .sound) (kindAt T (under T t)) (p .member) (places-In 0 (allMethods T t) p j)))
+      (λ k. (t, declared-members (kindAt T t) (p .member) (places-from 0 (declaredOf (kindAt T t)) p k .1)))
+      (λ k. (under T t, fields-members (kindAt T (under T t)) (p .member) (places-from 0 (fieldsOf (kindAt T (under T t))) p k .1))))
+      (λ j. (under T t, methods-members (kindAt T (under T t)) (p .member) (places-from 0 (allMethods T t) p j .1)))
 
   way-member : (q : Identity) (r : Walk) (d : ℕ) (w : Way) → In w (ways (graph T) q r d) → (x : TypeKey) × MemberOf T x (memberOf w)
   way-member q r d w i =
@@ -90,15 +90,15 @@ module _ (T : Table) (laws : Laws T) where
       let G = graph T in
       let s = startAt T t in
       let g = startFlag T t in
-      let kd = laws .keyed q (not-blank T q t z) in
-      let inG = start-in T laws t h in
+      let kd = keyed T sound q (not-blank T q t z) in
+      let inG = start-in T sound t h in
       let e′ = post-entry (namedPointer T t) (select G q s g a) m f p (sym (select-open T q t a z) ∙ e) in
-      either (least-or-none G (laws .lawful) (laws .closed) (start s g) inG q kd)
+      either (least-or-none G (lawful T sound) (closed T sound) (start s g) inG q kd)
       (λ l.
-      let w = judge-member G a (ways G q (start s g) (l .0)) m f p (sym (select-least G (laws .lawful) (laws .closed) s inG g a q kd (l .0) (l .1)) ∙ e′) in
+      let w = judge-member G a (ways G q (start s g) (l .0)) m f p (sym (select-least G (lawful T sound) (closed T sound) s inG g a q kd (l .0) (l .1)) ∙ e′) in
       let o = way-member q (start s g) (l .0) (w .0) (w .1) in
       (o .0, subst (MemberOf T (o .0)) (w .2) (o .1)))
-      (λ none-there. no-entry (select G q s g a) m f p e′ (select-none G (laws .lawful) (laws .closed) s inG g a q kd none-there)))
+      (λ none-there. no-entry (select G q s g a) m f p e′ (select-none G (lawful T sound) (closed T sound) s inG g a q kd none-there)))
 
 -- ---- one method
 
@@ -117,12 +117,12 @@ met-entry T m badreceiver e = some-not false e
 met-entry T m (entry found f p) e = refl
 met-entry T m (ambiguous p) e = some-not false e
 
-module _ (n : Numbers) (A B : Table) (lawsA : Laws A) (lawsB : Laws B) (g : Grown n A B) where
+module _ (n : Numbers) (A B : Table) (soundA : Sound A) (soundB : Sound B) (g : Grown n A B) where
   abbrev Kept : Member → Type 0
-  Kept m = Whole n A B lawsA lawsB g (m .type)
+  Kept m = Whole n A B soundA soundB g (m .type)
 
   compared-kept : (m o : Member) → Kept m → Kept o → compared B (carryMember n m) (carryMember n o) ≡ compared A m o
-  compared-kept m o wm wo = ap (λ b. when (not b) true) (identity-stays n A B lawsA lawsB g (m .type) (o .type) wm wo)
+  compared-kept m o wm wo = ap (λ b. when (not b) true) (identity-stays n A B soundA soundB g (m .type) (o .type) wm wo)
 
   by-kept : (m : Member) → Kept m → (r : Selected) → ((o : Member) (f : Bool) (p : List ℕ) → r ≡ entry o f p → Kept o) → unmetBy B (carryMember n m) (carrySelected n r) ≡ unmetBy A m r
   by-kept m wm notfound h = refl
@@ -138,29 +138,29 @@ module _ (n : Numbers) (A B : Table) (lawsA : Laws A) (lawsB : Laws B) (g : Grow
     -- the methods of a t with an interface under it that have m's identity
     found-kept : (x : TypeKey) (m : Member) → MemberOf A x m → keep (sameMember B (carryMember n m)) (allMethods B (n .ty t)) ≡ map (carryMember n) (keep (sameMember A m) (allMethods A t))
     found-kept x m i =
-        ap (keep (sameMember B (carryMember n m))) (methods-kept n A B (lawsA .sound) g t ht)
+        ap (keep (sameMember B (carryMember n m))) (methods-kept n A B soundA g t ht)
         ∙ keep-map (sameMember B (carryMember n m)) (carryMember n) (allMethods A t)
         ∙ ap (map (carryMember n)) (keep-In-ext (λ o. sameMember B (carryMember n m) (carryMember n o)) (sameMember A m) (allMethods A t)
-        (λ o j. ap₂ sameId (identity-kept n A B (lawsA .sound) g x m i) (identity-kept n A B (lawsA .sound) g (under A t) o (method-in n A B lawsA lawsB g t o j))))
+        (λ o j. ap₂ sameId (identity-kept n A B soundA g x m i) (identity-kept n A B soundA g (under A t) o (method-in n A B soundA soundB g t o j))))
 
     -- t with an interface under it: nothing changes
     unmet-face : (x : TypeKey) (m : Member) → MemberOf A x m → ifaceUnder A t ≡ true → unmet B (n .ty t) s (carryMember n m) ≡ unmet A t s m
     unfolding unmet
     unmet-face x m i e =
-        let f : ifaceUnder B (n .ty t) ≡ true = iface-kept n A B (lawsA .sound) g t ht ∙ e in
+        let f : ifaceUnder B (n .ty t) ≡ true = iface-kept n A B soundA g t ht ∙ e in
         rw (e, f) (ap (unmetThere B s (carryMember n m)) (found-kept x m i)
-        ∙ there-kept s m (type-whole n A B lawsA lawsB g x m i) (keep (sameMember A m) (allMethods A t))
-        (λ o j. type-whole n A B lawsA lawsB g (under A t) o (method-in n A B lawsA lawsB g t o (In-keep (sameMember A m) (allMethods A t) o j .0))))
+        ∙ there-kept s m (type-whole n A B soundA soundB g x m i) (keep (sameMember A m) (allMethods A t))
+        (λ o j. type-whole n A B soundA soundB g (under A t) o (method-in n A B soundA soundB g t o (In-keep (sameMember A m) (allMethods A t) o j .0))))
 
     -- any other t: as the answers of S
     unmet-other : (x : TypeKey) (m : Member) → MemberOf A x m → ifaceUnder A t ≡ false
         → rules.select B (identityOf B (carryMember n m)) (n .ty t) false ≡ carrySelected n (rules.select A (identityOf A m) t false) → unmet B (n .ty t) s (carryMember n m) ≡ unmet A t s m
     unfolding unmet
     unmet-other x m i e same =
-        let f : ifaceUnder B (n .ty t) ≡ false = iface-kept n A B (lawsA .sound) g t ht ∙ e in
+        let f : ifaceUnder B (n .ty t) ≡ false = iface-kept n A B soundA g t ht ∙ e in
         rw (e, f) (ap (unmetBy B (carryMember n m)) same
-        ∙ by-kept m (type-whole n A B lawsA lawsB g x m i) (rules.select A (identityOf A m) t false)
-        (λ o f p z. let r = entry-member A lawsA (identityOf A m) t ht false o f p z in type-whole n A B lawsA lawsB g (r .0) o (r .1)))
+        ∙ by-kept m (type-whole n A B soundA soundB g x m i) (rules.select A (identityOf A m) t false)
+        (λ o f p z. let r = entry-member A soundA (identityOf A m) t ht false o f p z in type-whole n A B soundA soundB g (r .0) o (r .1)))
 
     -- ---- all methods of i
 
@@ -176,11 +176,11 @@ module _ (n : Numbers) (A B : Table) (lawsA : Laws A) (lawsB : Laws B) (g : Grow
       still-met : (m : Member) → In m (allMethods A i) → unmet A t s m ≡ none → (unmet B (n .ty t) s (carryMember n m) ≡ none) ⊎ Disturbed n A B t i
       unfolding unmet identityOf
       still-met m k e =
-          let im = method-in n A B lawsA lawsB g i m k in
+          let im = method-in n A B soundA soundB g i m k in
           cases (ifaceUnder A t)
           (λ f. inl (unmet-face (under A i) m im f ∙ e))
           (λ f.
-          let p = promise-S n A B lawsA lawsB g t ht false (m .pkg) (m .name) (lawsA .sound .packaged (under A i) m im) in
+          let p = promise-S n A B soundA soundB g t ht false (m .pkg) (m .name) (soundA .packaged (under A i) m im) in
           let is = met-entry A m (rules.select A (identityOf A m) t false) (rw f at e) in
           let z = p .found (λ nf. clash is (ap isEntry nf)) in
           either (seek (identityOf B (carryMember n m)) (z .0))
@@ -208,5 +208,5 @@ module _ (n : Numbers) (A B : Table) (lawsA : Laws A) (lawsB : Laws B) (g : Grow
     unfolding missing
     promise-N i hi e =
         either (still-all i (allMethods A i) (λ m j. j) e)
-        (λ v. inl (ap (firstUnmet B (n .ty t) s) (methods-kept n A B (lawsA .sound) g i hi) ∙ v))
+        (λ v. inl (ap (firstUnmet B (n .ty t) s) (methods-kept n A B soundA g i hi) ∙ v))
         (λ d. inr d)

@@ -16,18 +16,20 @@ use Rattle.objects.specs.declared.PackageKey.{PackageKey}
 use Rattle.objects.specs.Table.{Table, size, isMethod, hasType, hasPackage, under, bare, pointerAt, ifaceUnder, namedPointer}
 use Rattle.text.specs.Bytes.{isBlank}
 use Rattle.rules.specs.Members.{Identity}
+use Rattle.rules.specs.Sound.{Sound}
 use Rattle.rules.specs.Ways as rules
 use Rattle.rules.specs.Ways.{Way, placesOf, Selected, notfound, badreceiver, entry, ambiguous, noMethod}
+use Rattle.rules.proofs.RangeLaws.{under-in}
 use Rattle.ways.specs.Graph.{Graph, ways, start, select}
 use Rattle.ways.specs.OfTable.{graph}
-use Rattle.ways.proofs.Bridge.{ways-are, judged-is}
-use Rattle.ways.proofs.LevelTest.{shortest-are}
+use Rattle.ways.proofs.Bridge.{ways-are}
+use Rattle.ways.proofs.Selects.{select-says}
+use Rattle.ways.proofs.TableLaws.{lawful, keyed, closed, bare-in}
 use Rattle.ways.proofs.Least.{Least, select-least, select-none, least-or-none}
 use Rattle.growth.specs.Grown.{Numbers, isAdded, Grown}
 use Rattle.growth.specs.Promise.{searchedAs, isShut, waysOf, Shortest, isNew, carrySelected, Gives, newWay, oldName, newName, PromiseS}
-use Rattle.growth.proofs.Laws.{Laws}
 use Rattle.growth.proofs.GrowWays.{carryWay, Grows, ways-same, judge-gives, way-long, kept, tied}
-use Rattle.growth.proofs.GrowKinds.{under-in, bare-in, under-kept, bare-kept, pointer-kept, iface-kept, named-kept, name-kept}
+use Rattle.growth.proofs.GrowKinds.{under-kept, bare-kept, pointer-kept, iface-kept, named-kept, name-kept}
 use Rattle.growth.proofs.GrowGraph.{grows}
 
 -- ---- S by the graph
@@ -75,16 +77,17 @@ module _ (T : Table) where
         (λ m. let k : pointerAt T (under T t) && ifaceUnder T (bare T (under T t)) ≡ true = rw (e, m) at h in rw (m, k))
         (λ m. let k : pointerAt T t && ifaceUnder T (bare T t) ≡ true = rw (e, m) at h in rw (m, k))))
 
-    by-graph : (u : TypeKey) → rules.judged T a (rules.shortest T q u) ≡ select (graph T) q (bare T u) (pointerAt T u) a
-    by-graph u = judged-is T a (rules.shortest T q u) ∙ ap (Rattle.ways.specs.Graph.judge (graph T) a) (shortest-are T u q)
+    -- of a type that is no named pointer type
+    said : (u : TypeKey) → pointerAt T u && ifaceUnder T (bare T u) ≡ false → rules.searched T q u a ≡ select (graph T) q (bare T u) (pointerAt T u) a
+    said u k = select-says T q u a ∙ rw k
 
     pub select-open : isShut T q t ≡ false → rules.select T q t a ≡ post (namedPointer T t) (select (graph T) q (startAt t) (startFlag t) a)
-    unfolding rules.select rules.searched
+    unfolding rules.select
     select-open h =
         cases (isBlank (q .name)) (λ e. clash (rw e) h)
         (λ e. rw e (cases (namedPointer T t)
-        (λ m. let k : pointerAt T (under T t) && ifaceUnder T (bare T (under T t)) ≡ false = rw (e, m) at h in rw (m, k) (ap noMethod (by-graph (under T t))))
-        (λ m. let k : pointerAt T t && ifaceUnder T (bare T t) ≡ false = rw (e, m) at h in rw (m, k) (by-graph t))))
+        (λ m. let k : pointerAt T (under T t) && ifaceUnder T (bare T (under T t)) ≡ false = rw (e, m) at h in rw m (ap noMethod (said (under T t) k)))
+        (λ m. let k : pointerAt T t && ifaceUnder T (bare T t) ≡ false = rw (e, m) at h in rw m (said t k))))
 
   pub not-blank : (q : Identity) (t : TypeKey) → isShut T q t ≡ false → isBlank (q .name) ≡ false
   not-blank q t h = cases (isBlank (q .name)) (λ e. clash (rw e) h) (λ e. e)
@@ -92,31 +95,31 @@ module _ (T : Table) where
   pub ways-open : (q : Identity) (t : TypeKey) (d : ℕ) → isShut T q t ≡ false → waysOf T q t d ≡ ways (graph T) q (start (startAt t) (startFlag t)) d
   ways-open q t d h = rw h (ways-are T q (searchedAs T t) d)
 
-  pub start-in : Laws T → (t : TypeKey) → t .0 < size T → startAt t .0 < size T
-  start-in laws t h =
-      bare-in T (laws .sound) (searchedAs T t) (cases (namedPointer T t) (λ e. rw e (under-in T (laws .sound) t h)) (λ e. rw e h))
+  pub start-in : Sound T → (t : TypeKey) → t .0 < size T → startAt t .0 < size T
+  start-in sound t h =
+      bare-in T sound (searchedAs T t) (cases (namedPointer T t) (λ e. rw e (under-in T sound t h)) (λ e. rw e h))
 
 -- ---- two tables
 
-module _ (n : Numbers) (A B : Table) (lawsA : Laws A) (lawsB : Laws B) (g : Grown n A B) (t : TypeKey) (h : t .0 < size A) where
+module _ (n : Numbers) (A B : Table) (soundA : Sound A) (soundB : Sound B) (g : Grown n A B) (t : TypeKey) (h : t .0 < size A) where
   searched-in : searchedAs A t .0 < size A
-  searched-in = cases (namedPointer A t) (λ e. rw e (under-in A (lawsA .sound) t h)) (λ e. rw e h)
+  searched-in = cases (namedPointer A t) (λ e. rw e (under-in A soundA t h)) (λ e. rw e h)
 
   searched-kept : searchedAs B (n .ty t) ≡ n .ty (searchedAs A t)
-  searched-kept = cases (namedPointer A t) (λ e. rw (named-kept n A B (lawsA .sound) g t h, e) (under-kept n A B (lawsA .sound) g t h)) (λ e. rw (named-kept n A B (lawsA .sound) g t h, e))
+  searched-kept = cases (namedPointer A t) (λ e. rw (named-kept n A B soundA g t h, e) (under-kept n A B soundA g t h)) (λ e. rw (named-kept n A B soundA g t h, e))
 
   start-kept : startAt B (n .ty t) ≡ n .ty (startAt A t)
-  start-kept = ap (bare B) searched-kept ∙ bare-kept n A B (lawsA .sound) g (searchedAs A t) searched-in
+  start-kept = ap (bare B) searched-kept ∙ bare-kept n A B soundA g (searchedAs A t) searched-in
 
   flag-kept : startFlag B (n .ty t) ≡ startFlag A t
-  flag-kept = ap (pointerAt B) searched-kept ∙ pointer-kept n A B (lawsA .sound) g (searchedAs A t) searched-in
+  flag-kept = ap (pointerAt B) searched-kept ∙ pointer-kept n A B soundA g (searchedAs A t) searched-in
 
   -- the name as the old table has it, and as the new one has it
   module _ (q r : Identity) (e : r ≡ q) (a : Bool) where
     shut-kept : isShut B r (n .ty t) ≡ isShut A q t
     shut-kept =
         ap (λ (z : Identity). isShut B z (n .ty t)) e
-        ∙ ap₂ (λ f i. isBlank (q .name) || (f && i)) flag-kept (ap (ifaceUnder B) start-kept ∙ iface-kept n A B (lawsA .sound) g (startAt A t) (start-in A lawsA t h))
+        ∙ ap₂ (λ f i. isBlank (q .name) || (f && i)) flag-kept (ap (ifaceUnder B) start-kept ∙ iface-kept n A B soundA g (startAt A t) (start-in A soundA t h))
 
     module _ (open-A : isShut A q t ≡ false) where
       abbrev s : TypeKey
@@ -132,7 +135,7 @@ module _ (n : Numbers) (A B : Table) (lawsA : Laws A) (lawsB : Laws B) (g : Grow
       H = graph B
 
       inG : s .0 < size A
-      inG = start-in A lawsA t h
+      inG = start-in A soundA t h
 
       inH : n .ty s .0 < size B
       inH = g .typeIn s inG
@@ -152,7 +155,7 @@ module _ (n : Numbers) (A B : Table) (lawsA : Laws A) (lawsB : Laws B) (g : Grow
       answer-B : rules.select B r (n .ty t) a ≡ post (namedPointer A t) (select H q (n .ty s) f a)
       answer-B =
           select-open B r (n .ty t) a open-B
-          ∙ ap (λ z. post z (select H r (startAt B (n .ty t)) (startFlag B (n .ty t)) a)) (named-kept n A B (lawsA .sound) g t h)
+          ∙ ap (λ z. post z (select H r (startAt B (n .ty t)) (startFlag B (n .ty t)) a)) (named-kept n A B soundA g t h)
           ∙ ap₂ (λ u b. post (namedPointer A t) (select H r u b a)) start-kept flag-kept
           ∙ ap (λ z. post (namedPointer A t) (select H z (n .ty s) f a)) e
 
@@ -166,29 +169,29 @@ module _ (n : Numbers) (A B : Table) (lawsA : Laws A) (lawsB : Laws B) (g : Grow
       shortest-A d l = record { some = λ z. l .some (sym (ways-A d) ∙ z); none = λ j k. ways-A j ∙ l .none j k }
 
       old-least : ((d : ℕ) × Least G q (start s f) d) ⊎ ((j : ℕ) → ways G q (start s f) j ≡ [])
-      old-least = least-or-none G (lawsA .lawful) (lawsA .closed) (start s f) inG q (lawsA .keyed q nb)
+      old-least = least-or-none G (lawful A soundA) (closed A soundA) (start s f) inG q (keyed A soundA q nb)
 
       new-least : ((d : ℕ) × Least H q (start (n .ty s) f) d) ⊎ ((j : ℕ) → ways H q (start (n .ty s) f) j ≡ [])
-      new-least = least-or-none H (lawsB .lawful) (lawsB .closed) (start (n .ty s) f) inH q (lawsB .keyed q nb)
+      new-least = least-or-none H (lawful B soundB) (closed B soundB) (start (n .ty s) f) inH q (keyed B soundB q nb)
 
       new-none : ((j : ℕ) → ways H q (start (n .ty s) f) j ≡ []) → select H q (n .ty s) f a ≡ notfound
-      new-none = select-none H (lawsB .lawful) (lawsB .closed) (n .ty s) inH f a q (lawsB .keyed q nb)
+      new-none = select-none H (lawful B soundB) (closed B soundB) (n .ty s) inH f a q (keyed B soundB q nb)
 
       new-way : (j : ℕ) (b : Bool) → newWay n A B r t j ≡ b → any (isNew n A) (ways H q (start (n .ty s) f) j) ≡ b
       new-way j b z = sym (ap (any (isNew n A)) (ways-B j)) ∙ z
 
       carried : (j : ℕ) → newWay n A B r t j ≡ false → ways H q (start (n .ty s) f) j ≡ map (carryWay n) (ways G q (start s f) j)
-      carried j z = ways-same n (isAdded n A) G H q (lawsA .closed) (grows n A B lawsA lawsB g q) s f inG j (new-way j false z)
+      carried j z = ways-same n (isAdded n A) G H q (closed A soundA) (grows n A B soundA soundB g q) s f inG j (new-way j false z)
 
       open-found : (rules.select A q t a ≡ notfound → ⊥) → (d : ℕ) × Shortest A q t d
       open-found given =
           either old-least (λ l. (l .0, shortest-A (l .0) (l .1)))
-          (λ z. absurd (given (answer-A ∙ ap (post (namedPointer A t)) (select-none G (lawsA .lawful) (lawsA .closed) s inG f a q (lawsA .keyed q nb) z) ∙ post-notfound (namedPointer A t))))
+          (λ z. absurd (given (answer-A ∙ ap (post (namedPointer A t)) (select-none G (lawful A soundA) (closed A soundA) s inG f a q (keyed A soundA q nb) z) ∙ post-notfound (namedPointer A t))))
 
       open-same : (d : ℕ) → Shortest A q t d → ((j : ℕ) → j ≤ d → newWay n A B r t j ≡ false) → rules.select B r (n .ty t) a ≡ carrySelected n (rules.select A q t a)
       open-same d l none-new =
           answer-B
-          ∙ ap (post (namedPointer A t)) (kept n (isAdded n A) G H q (lawsA .lawful) (lawsB .lawful) (lawsA .closed) (lawsB .closed) (lawsA .keyed q nb) (lawsB .keyed q nb) (grows n A B lawsA lawsB g q) s inG inH f a d (least-A d l) (λ j k. new-way j false (none-new j k)))
+          ∙ ap (post (namedPointer A t)) (kept n (isAdded n A) G H q (lawful A soundA) (lawful B soundB) (closed A soundA) (closed B soundB) (keyed A soundA q nb) (keyed B soundB q nb) (grows n A B soundA soundB g q) s inG inH f a d (least-A d l) (λ j k. new-way j false (none-new j k)))
           ∙ post-carry n (namedPointer A t) (select G q s f a)
           ∙ ap (carrySelected n) (sym answer-A)
 
@@ -198,7 +201,7 @@ module _ (n : Numbers) (A B : Table) (lawsA : Laws A) (lawsB : Laws B) (g : Grow
             some = λ z. clash (new-way d true is-new) (ap (any (isNew n A)) z);
             none = λ j k. carried j (none-new j k) ∙ ap (map (carryWay n)) (least-A d l .none j k);
           } in
-          let p = tied n (isAdded n A) G H q (lawsA .lawful) (lawsB .lawful) (lawsA .closed) (lawsB .closed) (lawsA .keyed q nb) (lawsB .keyed q nb) (grows n A B lawsA lawsB g q) s inG inH f a d (least-A d l) m (new-way d true is-new) in
+          let p = tied n (isAdded n A) G H q (lawful A soundA) (lawful B soundB) (closed A soundA) (closed B soundB) (keyed A soundA q nb) (keyed B soundB q nb) (grows n A B soundA soundB g q) s inG inH f a d (least-A d l) m (new-way d true is-new) in
           (p .0, answer-B ∙ ap (post (namedPointer A t)) (p .1) ∙ post-ambiguous (namedPointer A t) (p .0))
 
       -- what is given is a shortest way of the new table, so it is shorter than the old way
@@ -208,7 +211,7 @@ module _ (n : Numbers) (A B : Table) (lawsA : Laws A) (lawsB : Laws B) (g : Grow
           (λ m.
           let le : m .0 ≤ i = elim (decLt i (m .0)) [ yes c ↦ clash (new-way i true is-new) (ap (any (isNew n A)) (m .1 .none i c)) | no c ↦ omega arith ] in
           let gs = post-gives (namedPointer A t) (select H q (n .ty s) f a) (placesOf w) (subst (λ (y : Selected). Gives y (placesOf w)) answer-B given) in
-          let v = judge-gives H a (ways H q (start (n .ty s) f) (m .0)) (placesOf w) (subst (λ (y : Selected). Gives y (placesOf w)) (select-least H (lawsB .lawful) (lawsB .closed) (n .ty s) inH f a q (lawsB .keyed q nb) (m .0) (m .1)) gs) in
+          let v = judge-gives H a (ways H q (start (n .ty s) f) (m .0)) (placesOf w) (subst (λ (y : Selected). Gives y (placesOf w)) (select-least H (lawful B soundB) (closed B soundB) (n .ty s) inH f a q (keyed B soundB q nb) (m .0) (m .1)) gs) in
           let k0 = way-long G q s f d w (subst (In w) (ways-A d) k) in
           let k1 = way-long H q (n .ty s) f (m .0) (v .0) (v .1) in
           let y : length (placesOf w) ≡ length (placesOf (v .0)) = ap length (sym (v .2)) in
@@ -243,7 +246,7 @@ module _ (n : Numbers) (A B : Table) (lawsA : Laws A) (lawsB : Laws B) (g : Grow
       r = newName n A B t a pkg name
 
       e : newName n A B t a pkg name ≡ oldName n A B t a pkg name
-      e = name-kept n A B (lawsA .sound) g pkg name hp
+      e = name-kept n A B soundA g pkg name hp
 
       shut : isShut A (oldName n A B t a pkg name) t ≡ true → PromiseS n A B t a pkg name
       shut z =

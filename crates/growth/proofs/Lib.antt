@@ -1,4 +1,3 @@
-pub mod Laws
 pub mod GrowWays
 pub mod GrowKinds
 pub mod GrowIdentity

@@ -9,41 +9,33 @@ use lib.ListN.{length}
 use borrow.Author.Tests.{ltb-true, le-ltb}
 use Rattle.objects.specs.Bounds.{maxQuestion}
 use Rattle.objects.specs.Lists.{Bytes}
-use Rattle.objects.proofs.ListLaws.{cases, clash}
+use Rattle.objects.proofs.ListLaws.{cases, clash, and-l, and-r}
 use Rattle.objects.specs.declared.TypeKey.{TypeKey}
 use Rattle.objects.specs.Table.{Table, size, hasType, hasPackage, kindAt}
 use Rattle.text.specs.Lines.{fields}
 use Rattle.text.specs.Readers.{_>>=_, field, whole}
 use Rattle.rules.specs.Load.{load, loaded}
 use Rattle.rules.specs.Sound.{Sound}
+use Rattle.rules.proofs.Sounds.{loads-sound}
 use Rattle.rules.specs.Question.{Question, askS, askM, askN, askI, askC, askV, questionForm, inTable, known, questionOf}
 use Rattle.rules.specs.Answer.{answer, answerBytes}
 use Rattle.rules.specs.Asked.{Outcome, say, fitted, wrongSecond, answered, outcomeOf, outcome}
 use Rattle.growth.specs.Grown.{Numbers, Grown, GrownTexts}
 use Rattle.growth.specs.Promise.{Promised}
 use Rattle.growth.specs.Calls.{carryQuestion, PutAgain, Said}
-use Rattle.growth.proofs.Laws.{Laws}
 use Rattle.growth.proofs.GrowKinds.{kind-kept}
 use Rattle.growth.proofs.GrowSelect.{promise-S}
 use Rattle.growth.proofs.GrowMissing.{promise-N}
 
-and-l : (a b : Bool) → a && b ≡ true → a ≡ true
-and-l true b h = refl
-and-l false b h = h
-
-and-r : (a b : Bool) → a && b ≡ true → b ≡ true
-and-r true b h = h
-and-r false b h = clash h refl
-
 in-range : (T : Table) (t : TypeKey) → hasType T t ≡ true → t .0 < size T
 in-range T t h = ltb-true (t .0) (size T) h
 
-module _ (n : Numbers) (A B : Table) (lawsA : Laws A) (lawsB : Laws B) (g : Grown n A B) where
+module _ (n : Numbers) (A B : Table) (soundA : Sound A) (soundB : Sound B) (g : Grown n A B) where
   pub promised : (q : Question) → inTable A q ≡ true → Promised n A B q
-  promised (askS t a pkg name) h = promise-S n A B lawsA lawsB g t (in-range A t (and-l (hasType A t) (hasPackage A pkg) h)) a pkg name (and-r (hasType A t) (hasPackage A pkg) h)
+  promised (askS t a pkg name) h = promise-S n A B soundA soundB g t (in-range A t (and-l (hasType A t) (hasPackage A pkg) h)) a pkg name (and-r (hasType A t) (hasPackage A pkg) h)
   promised (askM t) h = tt
   promised (askC t) h = tt
-  promised (askN t i s) h = promise-N n A B lawsA lawsB g t (in-range A t (and-l (hasType A t) (hasType A i) h)) s i (in-range A i (and-r (hasType A t) (hasType A i) h))
+  promised (askN t i s) h = promise-N n A B soundA soundB g t (in-range A t (and-l (hasType A t) (hasType A i) h)) s i (in-range A i (and-r (hasType A t) (hasType A i) h))
   promised (askI x y) h = tt
   promised askV h = tt
 
@@ -51,7 +43,7 @@ module _ (n : Numbers) (A B : Table) (lawsA : Laws A) (lawsB : Laws B) (g : Grow
   second-kept (askS t a pkg name) h = refl
   second-kept (askM t) h = refl
   second-kept (askC t) h = refl
-  second-kept (askN t i s) h = ap (λ k. not (eqb k 9)) (kind-kept n A B (lawsA .sound) g i (in-range A i (and-r (hasType A t) (hasType A i) h)))
+  second-kept (askN t i s) h = ap (λ k. not (eqb k 9)) (kind-kept n A B soundA g i (in-range A i (and-r (hasType A t) (hasType A i) h)))
   second-kept (askI x y) h = refl
   second-kept askV h = refl
 
@@ -84,16 +76,16 @@ call-says text line room T q l e s f = rw (l, outcomeOf, e, s, le-ltb room (leng
 
 -- ---- THE THEOREM
 
-module _ (sounds : (text : Bytes) (T : Table) → load text ≡ loaded T → Sound T) (lawsOf : (T : Table) → Sound T → Laws T) (a b : Bytes) (g : GrownTexts a b) where
-  oldLaws : Laws (g .old)
-  oldLaws = lawsOf (g .old) (sounds a (g .old) (g .oldLoads))
+module _ (a b : Bytes) (g : GrownTexts a b) where
+  oldSound : Sound (g .old)
+  oldSound = loads-sound a (g .old) (g .oldLoads)
 
-  newLaws : Laws (g .new)
-  newLaws = lawsOf (g .new) (sounds b (g .new) (g .newLoads))
+  newSound : Sound (g .new)
+  newSound = loads-sound b (g .new) (g .newLoads)
 
   -- THE GROWTH PROMISE, of the answers that the rules give to every old question
   pub grown : (q : Question) → inTable (g .old) q ≡ true → Promised (g .numbers) (g .old) (g .new) q
-  grown = promised (g .numbers) (g .old) (g .new) oldLaws newLaws (g .grown)
+  grown = promised (g .numbers) (g .old) (g .new) oldSound newSound (g .grown)
 
   -- THE GROWTH PROMISE, of what the two calls say
   pub grown-calls : (q : Question) (line again : Bytes) (room newRoom : ℕ) → PutAgain g q line again room newRoom → Said g q line again room newRoom
@@ -101,6 +93,6 @@ module _ (sounds : (text : Bytes) (T : Table) → load text ≡ loaded T → Sou
       let i = asked-in (g .old) line q (put .asks) in
       record {
         before = call-says a line room (g .old) q (g .oldLoads) (put .asks) (put .second) (put .fits);
-        after = call-says b again newRoom (g .new) (carryQuestion (g .numbers) q) (g .newLoads) (put .asksAgain) (second-kept (g .numbers) (g .old) (g .new) oldLaws newLaws (g .grown) q i ∙ put .second) (put .fitsAgain);
+        after = call-says b again newRoom (g .new) (carryQuestion (g .numbers) q) (g .newLoads) (put .asksAgain) (second-kept (g .numbers) (g .old) (g .new) oldSound newSound (g .grown) q i ∙ put .second) (put .fitsAgain);
         promised = grown q i;
       }
