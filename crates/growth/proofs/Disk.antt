@@ -2,28 +2,30 @@
 -- (`disk-grown`), and the promise says what comes of `Close` (`disk-tied`).
 use mathlib.Core.Path.{_≡_, refl, sym, ap, _∙_, subst}
 use mathlib.Core.Bool.{Bool, true, false, cond, not, _&&_, _||_}
-use mathlib.Core.List.{List, [], _∷_, _++_, map}
+use mathlib.Core.List.{List, [], _∷_, cons≢nil}
 use mathlib.Core.Logic.{_⊎_, inl, inr}
-use mathlib.Core.Option.{Option, none, some}
+use mathlib.Core.Option.{Option, some}
 use Prim.Native.Nat.{ℕ, zero, suc, _+_, _<_}
-use native.Mathlib.Omega.{arith}
-use native.Mathlib.Decide.{decLt}
 use Prim.Native.String.{String}
+use native.Mathlib.Omega.{arith}
 use lib.Dec.{eqb, ltb}
-use lib.ListN.{length, getD, List·getD-eq-default}
+use lib.ListN.{getD}
 use borrow.Author.Tests.{eqb-true, ltb-true, ltb-false}
-use Rattle.objects.specs.Lists.{Bytes, any, In}
-use Rattle.objects.proofs.ListLaws.{cases, clash, any-In}
+use Rattle.objects.specs.Lists.{any, In}
+use Rattle.objects.proofs.ListLaws.{cases, clash, and-l, and-r, or-true, any-In}
 use Rattle.objects.proofs.KeyLaws.{key-eq, same-self}
 use Rattle.objects.specs.declared.TypeKey.{TypeKey}
 use Rattle.objects.specs.declared.ObjKey.{ObjKey}
-use Rattle.objects.specs.declared.PackageKey.{PackageKey}
 use Rattle.objects.specs.Table.{Table, typeKey, objKey, packageKey, sameType, Entity, Field, Method, Member, Kind, Basic, Tuple, Func, Struct, Iface, Named, Pointer, isNamed, refs, membersOf, kindAt}
 use Rattle.text.specs.Bytes.{ascii}
 use Rattle.rules.specs.Load.{load, loaded}
+use Rattle.rules.specs.Question.{Question, askS}
+use Rattle.rules.specs.Ways.{ambiguous}
 use Rattle.rules.specs.Rows.{called}
-use Rattle.growth.specs.Grown.{Numbers, Free, Grew, grew-basic, grew-tuple, grew-func, grew-iface, grew-pointer, grew-struct, grew-named, Grown, GrownTexts}
+use Rattle.growth.specs.Grown.{Numbers, Free, Grew, grew-tuple, grew-func, grew-iface, grew-pointer, grew-struct, grew-named, Grown, GrownTexts}
+use Rattle.growth.specs.Promise.{Shortest, oldName, newAnswer, PromiseS}
 use Rattle.growth.specs.Incident.{alone, both}
+use Rattle.growth.proofs.Promised.{grown}
 
 -- ---- a test for `Free`: the T line of one named type c refers to t, and no other line
 
@@ -36,21 +38,9 @@ module _ (n : Numbers) (A : Table) (t : TypeKey) (c : ℕ) where
   barsFrom i (k ∷ ks) = bars i k && barsFrom (suc i) ks
 
   bars-at : (i : ℕ) (ks : List Kind) (j : ℕ) → barsFrom i ks ≡ true → bars (i + j) (getD ks j (Basic 0)) ≡ true
-  bars-at i [] j h = rw (all (eqb (i + j) c))
-    where
-      all : (b : Bool) → (b || true) && true ≡ true
-      all true = refl
-      all false = refl
-  bars-at i (k ∷ ks) zero h = let e : i + 0 ≡ i = omega arith in rw e (first (bars i k) (barsFrom (suc i) ks) h)
-    where
-      first : (a b : Bool) → a && b ≡ true → a ≡ true
-      first true b h = refl
-      first false b h = h
-  bars-at i (k ∷ ks) (suc j) h = let e : i + suc j ≡ suc i + j = omega arith in rw e (bars-at (suc i) ks j (second (bars i k) (barsFrom (suc i) ks) h))
-    where
-      second : (a b : Bool) → a && b ≡ true → b ≡ true
-      second true b h = h
-      second false b h = clash h refl
+  bars-at i [] j h = rw (or-true (eqb (i + j) c))
+  bars-at i (k ∷ ks) zero h = let e : i + 0 ≡ i = omega arith in rw e (and-l (bars i k) (barsFrom (suc i) ks) h)
+  bars-at i (k ∷ ks) (suc j) h = let e : i + suc j ≡ suc i + j = omega arith in rw e (bars-at (suc i) ks j (and-r (bars i k) (barsFrom (suc i) ks) h))
 
   bars-all : (j : ℕ) → barsFrom 0 (A .types) ≡ true → bars j (kindAt A (typeKey j)) ≡ true
   unfolding kindAt
@@ -60,11 +50,9 @@ module _ (n : Numbers) (A : Table) (t : TypeKey) (c : ℕ) where
   line-is i k h r = cases (eqb i c) (λ e. eqb-true i c e) (λ e. clash (rw (e, any-In (sameType t) (refs k) t r (same-self t)) at h) refl)
 
   no-member : (i : ℕ) (k : Kind) → bars i k ≡ true → (m : Member) → In m (membersOf k) → m .type ≡ t → ⊥
-  no-member i k h m r e = clash (rw (any-In (λ (x : Member). sameType t (x .type)) (membersOf k) m r (ap (sameType t) e ∙ same-self t)) at h) (never (eqb i c || not (any (sameType t) (refs k))))
-    where
-      never : (b : Bool) → b && false ≡ false
-      never true = refl
-      never false = refl
+  no-member i k h m r e =
+      let none = and-r (eqb i c || not (any (sameType t) (refs k))) (not (any (λ (x : Member). sameType t (x .type)) (membersOf k))) h in
+      clash none (ap not (any-In (λ (x : Member). sameType t (x .type)) (membersOf k) m r (ap (sameType t) e ∙ same-self t)))
 
   pub free-by : isNamed (kindAt A (typeKey c)) ≡ true → barsFrom 0 (A .types) ≡ true → Free n A t
   free-by named h = record {
@@ -172,3 +160,22 @@ catalogue-loads = refl
 -- THE DISK INCIDENT IS A GROWTH
 pub disk-grown : GrownTexts alone both
 disk-grown = record { old = writer; new = catalogue; oldLoads = writer-loads; newLoads = catalogue-loads; numbers = numbers; grown = disk }
+
+-- ---- what the promise says of it
+
+abbrev asked : Question
+asked = askS (typeKey 5) true (some (packageKey 0)) (ascii "Close")
+
+disk-promise : PromiseS numbers writer catalogue (typeKey 5) true (some (packageKey 0)) (ascii "Close")
+unfolding disk-grown
+disk-promise = grown alone both disk-grown asked refl
+
+-- the old way has two places: the block writer's, and its `Close`
+disk-shortest : Shortest writer (oldName numbers writer catalogue (typeKey 5) true (some (packageKey 0)) (ascii "Close")) (typeKey 5) 1
+unfolding called
+disk-shortest = record { some = λ e. cons≢nil e; none = λ j h. let z : j ≡ 0 = omega arith in rw z }
+
+-- the cartridge's is a new way, just as long: `Close` is ambiguous, by the promise and not by computing the answer
+pub disk-tied : (places : List ℕ) × (newAnswer numbers writer catalogue (typeKey 5) true (some (packageKey 0)) (ascii "Close") ≡ ambiguous places)
+unfolding called
+disk-tied = disk-promise .tied 1 disk-shortest (λ j h. let z : j ≡ 0 = omega arith in rw z) refl
