@@ -1,14 +1,13 @@
 -- The graph of a library that grew has what the old one's had (`Grows` of proofs/GrowWays.antt), for every name.
 use mathlib.Core.Path.{_≡_, refl, sym, ap, ap₂, _∙_, subst}
-use mathlib.Core.Bool.{Bool, true, false, not}
+use mathlib.Core.Bool.{Bool, false, not}
 use mathlib.Core.List.{List, [], _∷_, _++_, map, append-nil}
-use mathlib.Core.Logic.{_⊎_, inl, inr}
+use mathlib.Core.Logic.{inl, inr}
 use Prim.Native.Nat.{ℕ, suc, _<_}
 use Rattle.objects.specs.Lists.{any, keep, In}
-use Rattle.objects.proofs.ListLaws.{cases, either, keep-append, keep-map, map-append, map-map, map-In, In-keep, In-map, or-l, or-r, un-not}
+use Rattle.objects.proofs.ListLaws.{cases, keep-append, keep-map, map-append, map-map, map-In, In-keep, In-map, or-l, or-r}
 use Rattle.objects.specs.declared.TypeKey.{TypeKey}
-use Rattle.objects.specs.declared.ObjKey.{ObjKey}
-use Rattle.objects.specs.Table.{Table, size, Member, isEmbedded, fieldsOf, declaredOf, allMethodsOf, kindAt, under, bare, pointerAt, allMethods}
+use Rattle.objects.specs.Table.{Table, size, Member, isEmbedded, fieldsOf, declaredOf, kindAt, under, allMethods}
 use Rattle.rules.specs.Members.{Identity, identityOf, sameId}
 use Rattle.rules.specs.Ways.{Place, placesFrom, fieldPlaces, owned, embedded}
 use Rattle.rules.specs.Sound.{Sound, MemberOf}

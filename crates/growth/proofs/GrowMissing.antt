@@ -8,12 +8,11 @@ use mathlib.Core.Option.{Option, none, some}
 use Prim.Native.Nat.{ℕ, zero, suc, _≤_, _<_}
 use native.Mathlib.Omega.{arith}
 use native.Mathlib.Decide.{decLt}
-use Rattle.objects.specs.Lists.{any, keep, when, In}
+use Rattle.objects.specs.Lists.{keep, when, In}
 use Rattle.objects.proofs.ListLaws.{cases, clash, either, In-keep, In-append, In-map, In-flat, keep-map, keep-In-ext}
 use Rattle.objects.specs.declared.TypeKey.{TypeKey}
 use Rattle.objects.specs.Table.{Table, size, isMethod, hasPtr, Member, fieldsOf, declaredOf, kindAt, under, ifaceUnder, namedPointer, allMethods}
 use Rattle.rules.specs.Members.{Identity, identityOf, sameId, sameMember}
-use Rattle.rules.specs.Identity.{identical}
 use Rattle.rules.specs.Ways as rules
 use Rattle.rules.specs.Ways.{Place, Walk, Way, memberOf, placesOf, placesFrom, fieldPlaces, Selected, notfound, badreceiver, entry, ambiguous, single, owned}
 use Rattle.rules.specs.Missing.{Lack, compared, unmetThere, unmetBy, unmet, firstUnmet, missing}
@@ -23,7 +22,7 @@ use Rattle.ways.specs.OfTable.{graph}
 use Rattle.ways.proofs.TableLaws.{lawful, keyed, closed, places-from}
 use Rattle.ways.proofs.Least.{select-least, select-none, least-or-none}
 use Rattle.growth.specs.Grown.{Numbers, carryMember, Grown}
-use Rattle.growth.specs.Promise.{isShut, Shortest, carrySelected, newWay, Disturbed, PromiseN}
+use Rattle.growth.specs.Promise.{isShut, carrySelected, newWay, Disturbed, PromiseN}
 use Rattle.growth.proofs.GrowKinds.{fields-members, declared-members, methods-members, iface-kept, methods-kept, identity-kept}
 use Rattle.growth.proofs.GrowIdentity.{Whole, type-whole, identity-stays}
 use Rattle.growth.proofs.GrowGraph.{method-in}

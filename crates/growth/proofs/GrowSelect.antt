@@ -1,19 +1,18 @@
 -- The promise for S (`PromiseS` of specs/Promise.antt), for every question that the old library has the numbers of.
 use mathlib.Core.Path.{_≡_, refl, sym, ap, ap₂, _∙_, subst}
-use mathlib.Core.Bool.{Bool, true, false, cond, not, _&&_, _||_}
-use mathlib.Core.List.{List, [], _∷_, map}
-use mathlib.Core.Logic.{_⊎_, inl, inr}
+use mathlib.Core.Bool.{Bool, true, false, cond, _&&_, _||_}
+use mathlib.Core.List.{List, [], map}
+use mathlib.Core.Logic.{_⊎_}
 use mathlib.Core.Option.{Option}
-use Prim.Native.Nat.{ℕ, suc, _≤_, _<_}
+use Prim.Native.Nat.{ℕ, _≤_, _<_}
 use native.Mathlib.Omega.{arith}
 use native.Mathlib.Decide.{decLt}
 use lib.ListN.{length}
-use borrow.Author.Tests.{ltb-true}
 use Rattle.objects.specs.Lists.{Bytes, any, In}
 use Rattle.objects.proofs.ListLaws.{cases, clash, either}
 use Rattle.objects.specs.declared.TypeKey.{TypeKey}
 use Rattle.objects.specs.declared.PackageKey.{PackageKey}
-use Rattle.objects.specs.Table.{Table, size, isMethod, hasType, hasPackage, under, bare, pointerAt, ifaceUnder, namedPointer}
+use Rattle.objects.specs.Table.{Table, size, isMethod, hasPackage, under, bare, pointerAt, ifaceUnder, namedPointer}
 use Rattle.text.specs.Bytes.{isBlank}
 use Rattle.rules.specs.Members.{Identity}
 use Rattle.rules.specs.Sound.{Sound}
@@ -28,7 +27,7 @@ use Rattle.ways.proofs.TableLaws.{lawful, keyed, closed, bare-in}
 use Rattle.ways.proofs.Least.{Least, select-least, select-none, least-or-none}
 use Rattle.growth.specs.Grown.{Numbers, isAdded, Grown}
 use Rattle.growth.specs.Promise.{searchedAs, isShut, waysOf, Shortest, isNew, carrySelected, Gives, newWay, oldName, newName, PromiseS}
-use Rattle.growth.proofs.GrowWays.{carryWay, Grows, ways-same, judge-gives, way-long, kept, tied}
+use Rattle.growth.proofs.GrowWays.{carryWay, ways-same, judge-gives, way-long, kept, tied}
 use Rattle.growth.proofs.GrowKinds.{under-kept, bare-kept, pointer-kept, iface-kept, named-kept, name-kept}
 use Rattle.growth.proofs.GrowGraph.{grows}
 

@@ -1,20 +1,19 @@
 -- A graph grows: the old ways are the ways of the new graph that use no added member, and what follows for the answer. Over any graphs of types; that the
 -- graphs of two tables grow so is proofs/GrowGraph.antt.
-use mathlib.Core.Path.{_≡_, refl, sym, ap, ap₂, _∙_, subst}
+use mathlib.Core.Path.{_≡_, refl, sym, ap, _∙_}
 use mathlib.Core.Bool.{Bool, true, false, cond, not, _&&_, _||_}
-use mathlib.Core.List.{List, [], _∷_, _++_, map, cons≢nil}
-use mathlib.Core.Logic.{_⊎_, inl, inr}
-use Prim.Native.Nat.{ℕ, zero, suc, _+_, _≤_, _<_}
+use mathlib.Core.List.{List, [], _∷_, map}
+use mathlib.Core.Logic.{inl, inr}
+use Prim.Native.Nat.{ℕ, zero, suc, _≤_, _<_}
 use native.Mathlib.Omega.{arith}
-use native.Mathlib.Decide.{decLt}
 use lib.ListN.{length, length-append}
 use Rattle.objects.specs.Lists.{any, keep, flat, In}
 use Rattle.objects.proofs.ListLaws.{cases, clash, either, or-true, or-false, un-not, any-none, any-map, keep-append, keep-map, keep-ext, keep-flat, map-append, map-map, map-nil, In-map, In-flat, In-keep, map-In-to, remove-none, keep-none, any-In-ext}
 use Rattle.objects.specs.declared.TypeKey.{TypeKey}
 use Rattle.objects.specs.declared.ObjKey.{ObjKey}
-use Rattle.objects.specs.Table.{Member, hasPtr}
+use Rattle.objects.specs.Table.{hasPtr}
 use Rattle.rules.specs.Members.{Identity}
-use Rattle.rules.specs.Ways.{Place, Walk, Way, Selected, notfound, badreceiver, entry, ambiguous, single, placesOf, memberOf}
+use Rattle.rules.specs.Ways.{Place, Walk, Way, badreceiver, entry, ambiguous, single, placesOf, memberOf}
 use Rattle.ways.specs.Graph.{Graph, Step, along, onward, walks, matching, ends, ways, judge, start, select}
 use Rattle.ways.proofs.Order.{long}
 use Rattle.ways.proofs.Merge.{Lawful}

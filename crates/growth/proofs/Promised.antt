@@ -1,27 +1,28 @@
 -- DEMAND 3, ONE CLAIM ABOUT TWO LIBRARIES: whatever was added, the answers of S and N to an old question that is put again keep the promise of
 -- specs/Promise.antt (`grown`), and they are what the two calls say (`grown-calls`).
 use mathlib.Core.Path.{_≡_, refl, sym, ap, _∙_}
-use mathlib.Core.Bool.{Bool, true, false, cond, not, _&&_}
+use mathlib.Core.Bool.{Bool, true, false, not}
 use mathlib.Core.Option.{Option, none, some}
 use Prim.Native.Nat.{ℕ, _≤_, _<_}
-use lib.Dec.{ltb, leb, eqb}
+use lib.Dec.{leb, eqb}
 use lib.ListN.{length}
 use borrow.Author.Tests.{ltb-true, le-ltb}
 use Rattle.objects.specs.Bounds.{maxQuestion}
 use Rattle.objects.specs.Lists.{Bytes}
 use Rattle.objects.proofs.ListLaws.{cases, clash, and-l, and-r}
 use Rattle.objects.specs.declared.TypeKey.{TypeKey}
-use Rattle.objects.specs.Table.{Table, size, hasType, hasPackage, kindAt}
+use Rattle.objects.specs.declared.PackageKey.{PackageKey}
+use Rattle.objects.specs.Table.{Table, size, hasType, hasPackage}
 use Rattle.text.specs.Lines.{fields}
 use Rattle.text.specs.Readers.{_>>=_, field, whole}
 use Rattle.rules.specs.Load.{load, loaded}
 use Rattle.rules.specs.Sound.{Sound}
 use Rattle.rules.proofs.Sounds.{loads-sound}
 use Rattle.rules.specs.Question.{Question, askS, askM, askN, askI, askC, askV, questionForm, inTable, known, questionOf}
-use Rattle.rules.specs.Answer.{answer, answerBytes}
-use Rattle.rules.specs.Asked.{Outcome, say, fitted, wrongSecond, answered, outcomeOf, outcome}
+use Rattle.rules.specs.Answer.{answer, answerBytes, selectedBytes}
+use Rattle.rules.specs.Asked.{say, wrongSecond, outcomeOf, outcome}
 use Rattle.growth.specs.Grown.{Numbers, Grown, GrownTexts}
-use Rattle.growth.specs.Promise.{Promised}
+use Rattle.growth.specs.Promise.{Shortest, carrySelected, newWay, oldName, newName, oldAnswer, Promised}
 use Rattle.growth.specs.Calls.{carryQuestion, PutAgain, Said}
 use Rattle.growth.proofs.GrowKinds.{kind-kept}
 use Rattle.growth.proofs.GrowSelect.{promise-S}
@@ -96,3 +97,14 @@ module _ (a b : Bytes) (g : GrownTexts a b) where
         after = call-says b again newRoom (g .new) (carryQuestion (g .numbers) q) (g .newLoads) (put .asksAgain) (second-kept (g .numbers) (g .old) (g .new) oldSound newSound (g .grown) q i ∙ put .second) (put .fitsAgain);
         promised = grown q i;
       }
+
+  -- where no new way is as short as the old one or shorter, the second call says the old answer with the member's new number
+  pub same-said : (t : TypeKey) (addressable : Bool) (pkg : Option PackageKey) (name line again : Bytes) (room newRoom d : ℕ)
+      → PutAgain g (askS t addressable pkg name) line again room newRoom
+      → Shortest (g .old) (oldName (g .numbers) (g .old) (g .new) t addressable pkg name) t d
+      → ((j : ℕ) → j ≤ d → newWay (g .numbers) (g .old) (g .new) (newName (g .numbers) (g .old) (g .new) t addressable pkg name) t j ≡ false)
+      → outcome b again newRoom ≡ say (selectedBytes (carrySelected (g .numbers) (oldAnswer (g .numbers) (g .old) (g .new) t addressable pkg name)))
+  unfolding answer answerBytes
+  same-said t addressable pkg name line again room newRoom d put shortest none-new =
+      let said = grown-calls (askS t addressable pkg name) line again room newRoom put in
+      said .after ∙ ap (λ r. say (selectedBytes r)) (said .promised .same d shortest none-new)

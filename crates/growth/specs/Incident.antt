@@ -2,7 +2,7 @@
 -- (proofs/Computed.antt). Among them the disk incident: a catalogue that embeds a block writer and a cartridge, each with `Close`.
 use mathlib.Core.List.{List, [], _∷_}
 use Prim.Native.String.{String}
-use Rattle.objects.specs.Lists.{Bytes, flat}
+use Rattle.objects.specs.Lists.{Bytes}
 use Rattle.rules.specs.Rows.{Case, case, _⏎_}
 
 -- a catalogue (5) that embeds a block writer (3) alone, a pointer to it (6), and what can be closed (7)
@@ -115,3 +115,41 @@ rows =
     ∷ again alone "N 6 7 1" ("satisfied" ⏎ []) own "N 6 7 1" ("satisfied" ⏎ [])
     ∷ again alone "N 6 7 1" ("satisfied" ⏎ []) both "N 8 9 1" ("missing 4 0" ⏎ [])
     ∷ []
+
+-- ---- why no old line may refer to a struct that gets fields
+
+-- `Put` of type 9 takes struct 1 and that of the interface struct 2, which are identical
+abbrev pub twins : Bytes
+twins =
+    "typetable 1" ⏎
+    "T basic 2" ⏎
+    "T struct" ⏎ "F X - 0 0" ⏎
+    "T struct" ⏎ "F X - 0 0" ⏎
+    "T tuple 1" ⏎
+    "T tuple 2" ⏎
+    "T tuple" ⏎
+    "T func 0 3 5" ⏎
+    "T func 0 4 5" ⏎
+    "T struct" ⏎
+    "T named 8" ⏎ "M Put - 6 0" ⏎
+    "T iface" ⏎ "M Put - 7 0" ⏎ []
+
+-- struct 1, which a tuple line refers to, gets a field
+abbrev pub parted : Bytes
+parted =
+    "typetable 1" ⏎
+    "T basic 2" ⏎
+    "T struct" ⏎ "F X - 0 0" ⏎ "F Y - 0 0" ⏎
+    "T struct" ⏎ "F X - 0 0" ⏎
+    "T tuple 1" ⏎
+    "T tuple 2" ⏎
+    "T tuple" ⏎
+    "T func 0 3 5" ⏎
+    "T func 0 4 5" ⏎
+    "T struct" ⏎
+    "T named 8" ⏎ "M Put - 6 0" ⏎
+    "T iface" ⏎ "M Put - 7 0" ⏎ []
+
+-- this is no growth: N changes, and no way to `Put` is new
+abbrev pub noGrowth : Again
+noGrowth = again twins "N 9 10 1" ("satisfied" ⏎ []) parted "N 9 10 1" ("missing 4 1" ⏎ [])
