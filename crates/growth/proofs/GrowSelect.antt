@@ -232,10 +232,10 @@ module _ (n : Numbers) (A B : Table) (soundA : Sound A) (soundB : Sound B) (g : 
         same = open-same q r e a z;
         tied = open-tied q r e a z;
         overtaken = open-overtaken q r e a z;
-        doubted = λ d l none-new places amb. cases (newWay n A B r t d)
+        stillAmbiguous = λ d l none-new places amb. cases (newWay n A B r t d)
             (λ y. open-tied q r e a z d l none-new y)
             (λ y. (places, open-same q r e a z d l (λ j k. elim (decLt j d) [ yes c ↦ none-new j c | no c ↦ let same : j ≡ d = omega arith in rw same y ]) ∙ ap (carrySelected n) amb));
-        absent = open-absent q r e a z;
+        stillNotfound = open-absent q r e a z;
       })
     where
       q : Identity
@@ -255,6 +255,6 @@ module _ (n : Numbers) (A B : Table) (soundA : Sound A) (soundB : Sound B) (g : 
             same = λ d l none-new. absurd (l .some (none d));
             tied = λ d l none-new y. absurd (l .some (none d));
             overtaken = λ d i l lt y w k given. l .some (none d);
-            doubted = λ d l none-new places amb. absurd (l .some (none d));
-            absent = λ y none-new. select-shut B r (n .ty t) a (shut-kept q r e a ∙ z);
+            stillAmbiguous = λ d l none-new places amb. absurd (l .some (none d));
+            stillNotfound = λ y none-new. select-shut B r (n .ty t) a (shut-kept q r e a ∙ z);
           }

@@ -80,7 +80,7 @@ module _ (n : Numbers) (A B : Table) where
     abbrev pub newAnswer : Selected
     newAnswer = select B newName (n .ty t) a
 
-    -- The promise for the question `S t a pkg name`. In all of it d is the length of the old way.
+    -- The promise for the question `S t a pkg name`. In all of it the old way has d steps.
     pub record PromiseS : Type 0 where
       -- any answer but `notfound` has an old way
       pub found : (oldAnswer ≡ notfound → ⊥) → (d : ℕ) × Shortest A oldName t d
@@ -91,9 +91,9 @@ module _ (n : Numbers) (A B : Table) where
       -- a new way is shorter: the old way is not given
       pub overtaken : (d e : ℕ) → Shortest A oldName t d → e < d → newWay newName t e ≡ true → (w : Way) → In w (waysOf A oldName t d) → Gives newAnswer (placesOf w) → ⊥
       -- `ambiguous` stays where no new way is shorter
-      pub doubted : (d : ℕ) → Shortest A oldName t d → ((j : ℕ) → j < d → newWay newName t j ≡ false) → (places : List ℕ) → oldAnswer ≡ ambiguous places → (places : List ℕ) × (newAnswer ≡ ambiguous places)
+      pub stillAmbiguous : (d : ℕ) → Shortest A oldName t d → ((j : ℕ) → j < d → newWay newName t j ≡ false) → (places : List ℕ) → oldAnswer ≡ ambiguous places → (places : List ℕ) × (newAnswer ≡ ambiguous places)
       -- `notfound` stays where there is no new way
-      pub absent : oldAnswer ≡ notfound → ((j : ℕ) → newWay newName t j ≡ false) → newAnswer ≡ notfound
+      pub stillNotfound : oldAnswer ≡ notfound → ((j : ℕ) → newWay newName t j ≡ false) → newAnswer ≡ notfound
 
   -- ---- N
 
