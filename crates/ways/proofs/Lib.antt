@@ -8,3 +8,4 @@ pub mod Bridge
 pub mod LevelTest
 pub mod AllWays
 pub mod Early
+pub mod SearchRows
