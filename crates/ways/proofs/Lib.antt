@@ -9,3 +9,4 @@ pub mod LevelTest
 pub mod AllWays
 pub mod Early
 pub mod SearchRows
+pub mod Room
