@@ -7,3 +7,4 @@ pub mod Extra
 pub mod Bridge
 pub mod LevelTest
 pub mod AllWays
+pub mod Early
