@@ -2,6 +2,7 @@ pub mod Members
 pub mod Forms
 pub mod Chains
 pub mod Identity
+pub mod StepIdentity
 pub mod Checks
 pub mod Load
 pub mod Stages

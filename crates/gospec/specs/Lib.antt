@@ -1,0 +1,2 @@
+pub mod Go
+pub mod GoSelectors
