@@ -8,3 +8,5 @@ pub mod Numbers
 pub mod RowLaws
 pub mod Stores
 pub mod Keeping
+pub mod Growing
+pub mod Writing
