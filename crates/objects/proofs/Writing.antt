@@ -6,16 +6,46 @@ use Prim.Native.Nat.{ℕ, suc, _+_, _-_, _*_, _<_, _≤_}
 use native.Mathlib.Numerals.{add-one}
 use native.Mathlib.Omega.{arith}
 use lib.Dec.{eqb}
-use lib.ListN.{length, getD, set, length-set}
+use lib.ListN.{length, getD, set, length-set, replicate, length-replicate, getD-replicate}
 use lib.Seq.{sets, length-sets}
 use Rattle.objects.specs.declared.TypeKey.{TypeKey}
 use Rattle.objects.specs.Bounds.{maxTypes, maxPackages, maxMembers, maxElements, rowWords, typesAt, membersAt, packagesAt, elementsAt, allWords}
-use Rattle.objects.specs.Table.{typeKey}
+use Rattle.objects.specs.Table.{Table, typeKey}
 use Rattle.objects.specs.Rows.{Words, wordAt, packageCount, typeCount, memberCountOf, elementCount, typeWord, memberWord, packageWord, elementAt, bytesAt, kindOf, tableOf}
 use Rattle.objects.specs.Laid.{endOf, lastType, Laid, Holds, raised, memberOf, plusPackage, plusType, plusMember, plusElement}
 use Rattle.objects.proofs.ListLaws.{cases}
 use Rattle.objects.proofs.Stores.{word-put, word-kept, run-put, run-kept, Kept, Free, kept-none, kept-set, kept-sets}
 use Rattle.objects.proofs.Growing.{package-grown, type-grown, member-grown, element-grown}
+
+-- ---- before the first line
+
+abbrev pub emptyTable : Table
+emptyTable = record { packages = []; types = []; typeLines = []; memberLines = [] }
+
+pub empty-holds : (rows : Words) → allWords ≤ length rows → ((i : ℕ) → i < 4 → wordAt rows i ≡ 0) → Holds rows (λ text. emptyTable)
+unfolding packageCount typeCount memberCountOf elementCount tableOf
+empty-holds rows long zero =
+    let p : wordAt rows 0 ≡ 0 = zero 0 (omega arith) in
+    let t : wordAt rows 1 ≡ 0 = zero 1 (omega arith) in
+    let m : wordAt rows 2 ≡ 0 = zero 2 (omega arith) in
+    let e : wordAt rows 3 ≡ 0 = zero 3 (omega arith) in
+    record {
+      laid = record {
+        long = long;
+        packages = omega arith;
+        types = omega arith;
+        members = omega arith;
+        elements = omega arith;
+        within = λ u h. absurd (omega arith);
+        last = λ u h. absurd (omega arith);
+      };
+      held = λ text. rw (p, t, m);
+    }
+
+-- as a local array of the code begins
+pub zeros-hold : (n : ℕ) → allWords ≤ n → Holds (replicate n 0) (λ text. emptyTable)
+unfolding wordAt
+zeros-hold n h = empty-holds (replicate n 0) (rw (length-replicate {A = ℕ} n 0) h) (λ i l. getD-replicate n i 0 0 (omega arith))
 
 -- ---- a run of words behind the counts, then a count
 
