@@ -1,6 +1,6 @@
 -- Rows that keep what is in use and have one package, type, member or element more hold the table with one more, and stay in order.
-use mathlib.Core.Path.{_≡_, refl, sym, ap, ap₂, subst, _∙_}
-use mathlib.Core.List.{List, [], _∷_, _++_, map}
+use mathlib.Core.Path.{_≡_, refl, sym, ap, ap₂, _∙_}
+use mathlib.Core.List.{[], _∷_, _++_, map}
 use mathlib.Core.Logic.{_≢_}
 use Prim.Native.Nat.{ℕ, suc, _+_, _<_, _≤_}
 use native.Mathlib.Nat.{le-refl}
@@ -10,7 +10,7 @@ use borrow.Author.Tests.{ne-eqb}
 use Rattle.objects.specs.declared.TypeKey.{TypeKey}
 use Rattle.objects.specs.Bounds.{maxTypes, maxPackages, maxMembers, maxElements, allWords}
 use Rattle.objects.specs.Lists.{Bytes, upTo, onLast}
-use Rattle.objects.specs.Table.{Table, Member, Kind, Struct, Iface, Named, Tuple, typeKey, objKey, packageKey}
+use Rattle.objects.specs.Table.{Member, Kind, Struct, Iface, Named, Tuple, typeKey, objKey, packageKey}
 use Rattle.objects.specs.Rows.{Words, packageCount, typeCount, memberCountOf, elementCount, typeWord, memberWord, packageWord, elementAt, bytesAt, memberAt, membersFrom, elementsFrom, kindOf, kindRead, pathRead, tableOf}
 use Rattle.objects.specs.Laid.{endOf, Laid, Holds, memberOf, memberAdded, elementAdded, plusPackage, plusType, plusMember, plusElement}
 use Rattle.objects.proofs.Numbers.{each-more, each-grown, each-onLast}
@@ -31,7 +31,7 @@ lines rows t = typeWord rows (typeKey t) 6
 abbrev memberLines : Words → ℕ → ℕ
 memberLines rows m = memberWord rows (objKey m) 7
 
-ends-same : (rows after : Words) (kind : ℕ) → memberCountOf after ≡ memberCountOf rows → elementCount after ≡ elementCount rows → endOf after kind ≡ endOf rows kind
+pub ends-same : (rows after : Words) (kind : ℕ) → memberCountOf after ≡ memberCountOf rows → elementCount after ≡ elementCount rows → endOf after kind ≡ endOf rows kind
 unfolding endOf
 ends-same rows after kind m e = rw (m, e)
 

@@ -10,3 +10,4 @@ pub mod Stores
 pub mod Keeping
 pub mod Growing
 pub mod Writing
+pub mod Ranks

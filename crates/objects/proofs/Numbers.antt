@@ -1,7 +1,7 @@
 -- Laws of the numbers 0 to n - 1 (`upTo`), of n numbers from a first one on (`from`), and of what a function makes of each of them.
-use mathlib.Core.Path.{_≡_, refl, sym, ap, subst, _∙_}
+use mathlib.Core.Path.{_≡_, refl, sym, ap, _∙_}
 use mathlib.Core.List.{List, [], _∷_, _++_, map}
-use mathlib.Core.Logic.{_⊎_, inl, inr}
+use mathlib.Core.Logic.{inl}
 use Prim.Native.Nat.{ℕ, zero, suc, _+_, _<_, _≤_}
 use native.Mathlib.Nat.{eq-or-lt-of-le, le-of-suc-le-suc}
 use native.Mathlib.Numerals.{add-one}
@@ -10,7 +10,7 @@ use lib.ListN.{length, getD, length-append, length-map, List·getD-append}
 use lib.Seq.{getD-at}
 use Rattle.objects.specs.Lists.{In, upTo, onLast}
 use Rattle.objects.specs.Rows.{from}
-use Rattle.objects.proofs.ListLaws.{either, map-append, map-map, map-In, map-In-to, In-map, In-append, In-append-l, In-append-r}
+use Rattle.objects.proofs.ListLaws.{either, map-append, map-In, map-In-to, In-map, In-append, In-append-l, In-append-r}
 
 -- ---- 0 to n - 1
 

@@ -7,7 +7,7 @@ ghost use lib.ListN.{length};
 ghost use lib.Seq.{sets};
 ghost use Rattle.objects.specs.Bounds.{maxPackages, maxTypes, maxMembers, maxElements};
 ghost use Rattle.objects.specs.Rows.{packageCount, typeCount, memberCountOf, elementCount, typeWord, bytesAt, kindOf, tableOf};
-ghost use Rattle.objects.specs.Laid.{Laid, Holds, endOf, lastType, raised, memberOf, plusPackage, plusType, plusMember, plusElement};
+ghost use Rattle.objects.specs.Laid.{Laid, Holds, RankPut, endOf, lastType, raised, memberOf, plusPackage, plusType, plusMember, plusElement};
 use crate::TypeKey;
 use crate::rows::ELEMENTS_AT;
 use crate::rows::MEMBERS_AT;
@@ -154,4 +154,12 @@ pub fn put_element(rows: &mut [u32], e: TypeKey)
     raise(rows);
     rows[ELEMENTS_AT + n as usize] = e.0;
     rows[3] = n + 1;
+}
+
+// The rank of a type, which the check for containment by value (10) leaves behind.
+pub fn put_rank(rows: &mut [u32], t: TypeKey, rank: u32)
+    requires { ⌜ Laid (now rows) × (t .0 < typeCount (now rows)) ⌝ }
+    ensures { λ _. ⌜ RankPut (now (rows .entry)) t rank (now (rows .exit)) ⌝ }
+{
+    rows[TYPES_AT + ROW_WORDS * (t.0 as usize) + 7] = rank;
 }
