@@ -36,7 +36,7 @@ unfolding isBlank
 not-blank name h e = clash (subst (λ n. isBlank n ≡ true) (sym e) (same-refl blank)) h
 
 -- a name is asked for by itself
-asked-blank : (T : Table) (name : Bytes) (pkg : Option PackageKey) (b : Bool) → isBlank name ≡ b → isBlank (asked T name pkg .name) ≡ b
+pub asked-blank : (T : Table) (name : Bytes) (pkg : Option PackageKey) (b : Bool) → isBlank name ≡ b → isBlank (asked T name pkg .name) ≡ b
 unfolding identityFrom
 asked-blank T name pkg b h = h
 
