@@ -10,7 +10,7 @@ use native.Mathlib.Omega.{arith}
 use Rattle.objects.specs.Lists.{Bytes}
 use Rattle.objects.specs.declared.TypeKey.{TypeKey}
 use Rattle.objects.specs.declared.PackageKey.{PackageKey}
-use Rattle.objects.specs.Table.{Table, size, typeKey, objKey, Member, Field, isMethod, kindNumber, isPointer, Basic, Struct, Named, Pointer, kindAt, under}
+use Rattle.objects.specs.Table.{Table, size, typeKey, objKey, Member, Field, isMethod, kindNumber, isPointer, Basic, Struct, Named, Pointer, kindAt}
 use Rattle.objects.proofs.ListLaws.{cases, clash}
 use Rattle.objects.proofs.KindLaws.{pointer-is}
 use Rattle.text.specs.Bytes.{ascii, isBlank}
@@ -22,7 +22,6 @@ use Rattle.rules.specs.Ways.{Selected, notfound, badreceiver, entry, ambiguous,
 use Rattle.rules.proofs.Sounds.{loads-sound}
 use Rattle.gospec.specs.GoSelectors.{underlying, Denotes, shorthand, Several, OneStar, Text}
 use Rattle.gospec.specs.Says.{Says, legal-field, legal-method, nothing, forget}
-use Rattle.gospec.proofs.Found.{asked}
 use Rattle.gospec.proofs.Results.{inner-denotes, inner-several}
 use Rattle.gospec.proofs.SelectGo.{blank-is, asked-blank, selection-is-go, go-is-selection, go-is-select, as-text}
 

@@ -1,6 +1,6 @@
 -- N with s 1 IS GO'S "Implementing an interface": it answers `satisfied` exactly if t implements i.
 use mathlib.Core.Path.{_≡_, refl, sym, ap, _∙_, subst}
-use mathlib.Core.Bool.{Bool, true, false, cond, not}
+use mathlib.Core.Bool.{Bool, true, false}
 use mathlib.Core.List.{List, [], _∷_}
 use mathlib.Core.Logic.{inl, inr, _↔_}
 use mathlib.Core.Option.{Option, none, some}
@@ -8,10 +8,10 @@ use Prim.Native.Nat.{ℕ, _<_}
 use Rattle.objects.specs.Lists.{Bytes, In, Sorted, keep}
 use Rattle.objects.specs.declared.TypeKey.{TypeKey}
 use Rattle.objects.specs.declared.PackageKey.{PackageKey}
-use Rattle.objects.specs.Table.{Table, size, Member, isMethod, Kind, Iface, isIface, allMethodsOf, allMethods, kindAt, under, ifaceUnder}
+use Rattle.objects.specs.Table.{Table, size, Member, isMethod, Kind, Iface, isIface, allMethodsOf, allMethods, under, ifaceUnder}
 use Rattle.objects.proofs.ListLaws.{cases, clash, either, In-keep, keep-In-to}
 use Rattle.objects.proofs.KindLaws.{iface-is}
-use Rattle.rules.specs.Members.{identityOf, identityFrom, sameMember}
+use Rattle.rules.specs.Members.{identityOf, sameMember}
 use Rattle.rules.specs.Identity.{identical}
 use Rattle.rules.specs.Sound.{Sound, Lower}
 use Rattle.rules.specs.Ways.{Selected, notfound, badreceiver, entry, ambiguous, select}

@@ -32,7 +32,7 @@ pub record ListsMethod (T : Table) (ns : List Member) (m : Member) : Type 0 wher
 -- "A type T implements an interface I if
 pub data Implements (T : Table) (R : TypeKey → Type 0) (t i : TypeKey) : Type 0 where
   --  T is not an interface and is an element of the type set of I; or
-  --  ["the type set .. is the set of all non-interface types whose method sets include" each method]
+  --  (The type set of an interface that has methods only: the types whose method sets include each of them.)
   an-element : {ms : List Member} → underlying T i ≡ Iface ms → ((ns : List Member) → underlying T t ≡ Iface ns → ⊥) → ((m : Member) → In m ms → HasMethod T R t m) → Implements T R t i
   --  T is an interface and the type set of T is a subset of the type set of I."
   a-subset : {ms ns : List Member} → underlying T i ≡ Iface ms → underlying T t ≡ Iface ns → ((m : Member) → In m ms → ListsMethod T ns m) → Implements T R t i
