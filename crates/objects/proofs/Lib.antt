@@ -6,3 +6,8 @@ pub mod Settle
 pub mod KeyLaws
 pub mod PartLaws
 pub mod KindLaws
+pub mod Reading
+pub mod Numbers
+pub mod RowLaws
+pub mod Stores
+pub mod Keeping
