@@ -10,3 +10,5 @@ pub mod AllWays
 pub mod Early
 pub mod SearchRows
 pub mod Room
+pub mod TableLaws
+pub mod Selects
