@@ -1,15 +1,15 @@
 -- Calls: the call of a method that is found is valid exactly if it is no method with pointer receiver, or a pointer lies on the way, or the operand is addressable.
-use mathlib.Core.Path.{_≡_, refl, sym, ap, _∙_, subst}
+use mathlib.Core.Path.{_≡_, refl, sym, ap, subst}
 use mathlib.Core.Bool.{Bool, true, false, not, _&&_, _||_}
 use mathlib.Core.List.{List, [], _∷_, cons≢nil}
 use mathlib.Core.Logic.{_⊎_, inl, inr}
 use mathlib.Core.Option.{Option}
-use Prim.Native.Nat.{ℕ, zero, suc}
+use Prim.Native.Nat.{ℕ}
 use borrow.Author.Tests.{not-false, not-true}
 use Rattle.objects.specs.Lists.{Bytes, headOr, In}
 use Rattle.objects.specs.declared.TypeKey.{TypeKey}
 use Rattle.objects.specs.declared.PackageKey.{PackageKey}
-use Rattle.objects.specs.Table.{Table, Entity, Field, Method, Member, isMethod, hasPtr, Kind, Pointer, Struct, Iface, Named, isFunc, membersOf, kindAt, under}
+use Rattle.objects.specs.Table.{Table, Entity, Field, Method, Member, isMethod, hasPtr, Kind, Pointer, Struct, Iface, isFunc, membersOf, kindAt, under}
 use Rattle.objects.proofs.ListLaws.{cases, clash, either, or-true, and-r}
 use Rattle.rules.specs.Load.{stands}
 use Rattle.rules.specs.Checks.{memberAllowed, mayHave}

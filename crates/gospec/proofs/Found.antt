@@ -1,22 +1,22 @@
 -- What is found in a type: the ways of the table's graph are the occurrences of the Go spec, so that `select` tells none, one or several of them.
-use mathlib.Core.Path.{_≡_, refl, sym, ap, ap₂, _∙_, subst}
-use mathlib.Core.Bool.{Bool, true, false, cond, not, _&&_, _||_}
-use mathlib.Core.List.{List, [], _∷_, _++_, map, append-assoc}
+use mathlib.Core.Path.{_≡_, refl, sym, ap, _∙_, subst}
+use mathlib.Core.Bool.{Bool, false, cond, not, _&&_, _||_}
+use mathlib.Core.List.{List, [], _∷_, _++_, append-assoc}
 use mathlib.Core.Logic.{_⊎_, inl, inr}
 use mathlib.Core.Option.{Option}
 use Prim.Native.Nat.{ℕ, zero, suc, _+_, _<_}
 use native.Mathlib.Omega.{arith}
-use Rattle.objects.specs.Lists.{Bytes, keep, flat, In, Sorted}
+use Rattle.objects.specs.Lists.{Bytes, In, Sorted}
 use Rattle.objects.specs.declared.TypeKey.{TypeKey}
 use Rattle.objects.specs.declared.PackageKey.{PackageKey}
-use Rattle.objects.specs.Table.{Table, size, Member, isEmbedded, hasPtr, Kind, Pointer, Struct, Iface, Named, isPointer, isStruct, isIface, isNamed, fieldsOf, declaredOf, allMethodsOf, allMethods, kindAt, under, bare, pointerAt}
+use Rattle.objects.specs.Table.{Table, size, Member, isEmbedded, hasPtr, Kind, Struct, Iface, Named, isPointer, isStruct, isIface, isNamed, fieldsOf, declaredOf, allMethodsOf, allMethods, kindAt, bare, pointerAt}
 use Rattle.objects.proofs.ListLaws.{cases, clash, either, or-assoc, or-false, In-keep, In-append, In-append-l, In-append-r, In-map, In-flat, map-In-to, flat-In-to, keep-In-to}
 use Rattle.objects.proofs.KindLaws.{pointer-is, struct-is, iface-is, named-is, bare-plain, bare-pointer}
 use Rattle.text.specs.Bytes.{isBlank}
 use Rattle.rules.specs.Members.{Identity, identityFrom, identityOf, sameId}
 use Rattle.rules.specs.Sound.{Sound}
 use Rattle.rules.specs.Ways.{Place, placesFrom, Walk, Way, placesOf, Selected, notfound, badreceiver, entry, ambiguous, single, owned, fieldPlaces}
-use Rattle.ways.specs.Graph.{Graph, Step, along, onward, walks, matching, ends, ways, judge, start, select}
+use Rattle.ways.specs.Graph.{Step, along, onward, walks, matching, ends, ways, judge, start, select}
 use Rattle.ways.specs.OfTable.{graph, stepOf}
 use Rattle.ways.proofs.Order.{before-irrefl}
 use Rattle.ways.proofs.Least.{Least, least-or-none, select-least, select-none}

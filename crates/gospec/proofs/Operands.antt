@@ -1,16 +1,16 @@
 -- Operands of a selector: which kinds they are of, that an operand's type and its shallowest depth are one, and what its selector denotes (`view`).
 use mathlib.Core.Path.{_≡_, refl, sym, ap, _∙_, subst}
-use mathlib.Core.Bool.{Bool, true, false, _||_}
-use mathlib.Core.List.{List, [], _∷_}
+use mathlib.Core.Bool.{Bool, false, _||_}
+use mathlib.Core.List.{List}
 use mathlib.Core.Option.{Option}
-use Prim.Native.Nat.{ℕ, zero, suc, _<_}
+use Prim.Native.Nat.{ℕ, _<_}
 use native.Mathlib.Omega.{arith}
 use native.Mathlib.Decide.{decLt}
-use Rattle.objects.specs.Lists.{Bytes, headOr, In}
+use Rattle.objects.specs.Lists.{Bytes, headOr}
 use Rattle.objects.specs.declared.TypeKey.{TypeKey}
 use Rattle.objects.specs.declared.PackageKey.{PackageKey}
-use Rattle.objects.specs.Table.{Table, size, Member, Kind, Pointer, Struct, Iface, Named, isPointer, isIface, isNamed, refs, fieldsOf, kindAt, under, bare, pointerAt}
-use Rattle.objects.proofs.ListLaws.{cases, clash}
+use Rattle.objects.specs.Table.{Table, size, Member, Kind, Pointer, Iface, Named, isPointer, isIface, isNamed, refs, fieldsOf, kindAt, bare, pointerAt}
+use Rattle.objects.proofs.ListLaws.{clash}
 use Rattle.objects.proofs.KindLaws.{under-plain, under-named}
 use Rattle.text.specs.Bytes.{isBlank}
 use Rattle.rules.specs.Sound.{Sound}
@@ -18,7 +18,7 @@ use Rattle.rules.specs.Ways.{Selected, notfound, ambiguous}
 use Rattle.ways.specs.Graph.{select}
 use Rattle.ways.specs.OfTable.{graph}
 use Rattle.gospec.specs.Go.{At}
-use Rattle.gospec.specs.GoSelectors.{underlying, Stars, Embeds, embeds, Occurs, Base, Operand, of-type, of-pointer, NoneShallower, Denotes, shallowest, dynamic, shorthand, Several, several, several-shorthand}
+use Rattle.gospec.specs.GoSelectors.{underlying, Embeds, embeds, Occurs, Base, Operand, of-type, of-pointer, NoneShallower, Denotes, shallowest, dynamic, shorthand, Several, several, several-shorthand}
 use Rattle.gospec.proofs.Places.{At-one}
 use Rattle.gospec.proofs.Found.{asked, stars-bare, outcome, Found, absent, alone, crowd, finds}
 

@@ -5,13 +5,13 @@ use mathlib.Core.List.{List, [], _∷_}
 use mathlib.Core.Logic.{_⊎_, inl, inr}
 use mathlib.Core.Option.{Option}
 use Prim.Native.Nat.{ℕ, zero, suc, _<_}
-use Rattle.objects.specs.Lists.{Bytes, In, Sorted}
+use Rattle.objects.specs.Lists.{Bytes, Sorted}
 use Rattle.objects.specs.declared.TypeKey.{TypeKey}
 use Rattle.objects.specs.declared.PackageKey.{PackageKey}
-use Rattle.objects.specs.Table.{Table, size, Entity, Field, Method, Member, isMethod, hasPtr, Kind, Pointer, Struct, Iface, Named, isPointer, isIface, allMethodsOf, kindAt, under}
+use Rattle.objects.specs.Table.{Table, size, Entity, Field, Method, Member, isMethod, hasPtr, Kind, Pointer, Iface, Named, isPointer, isIface, allMethodsOf, kindAt, under}
 use Rattle.objects.proofs.ListLaws.{cases, clash, either}
 use Rattle.text.specs.Bytes.{isBlank}
-use Rattle.rules.specs.Members.{identityOf, identityFrom}
+use Rattle.rules.specs.Members.{identityOf}
 use Rattle.rules.specs.Sound.{Sound, Lower}
 use Rattle.rules.specs.Ways.{Selected, notfound, badreceiver, entry, ambiguous, noMethod}
 use Rattle.rules.proofs.MemberLaws.{sameId-true}
@@ -20,13 +20,13 @@ use Rattle.ways.specs.Graph.{select}
 use Rattle.ways.specs.OfTable.{graph}
 use Rattle.ways.proofs.TableLaws.{names-neither}
 use Rattle.gospec.specs.Go.{At, SameIds}
-use Rattle.gospec.specs.GoSelectors.{underlying, a-field, a-method, of-interface, Embeds, embeds, Occurs, declared, promoted, Base, Operand, of-type, of-pointer, Denotes, shallowest, dynamic, shorthand, Several, several, several-shorthand, interface-set, Callable, in-set}
+use Rattle.gospec.specs.GoSelectors.{underlying, a-field, a-method, of-interface, embeds, Occurs, declared, promoted, Base, Operand, of-type, of-pointer, Denotes, shallowest, dynamic, shorthand, Several, several, several-shorthand, interface-set, Callable, in-set}
 use Rattle.gospec.specs.Says.{blank, Says, legal-field, legal-method, no-call, not-one, nothing, forget}
 use Rattle.gospec.proofs.Names.{go-hit}
 use Rattle.gospec.proofs.Places.{At-In, at-head, at-tail}
 use Rattle.gospec.proofs.Found.{asked, outcome, Found, absent, alone, crowd, finds}
 use Rattle.gospec.proofs.Operands.{base-one, under-pointer, under-defined, operand-iface, operand-defined, View, none-at, one-at, many-at, view}
-use Rattle.gospec.proofs.Calls.{field-sort, method-sort, call-needs, call-has}
+use Rattle.gospec.proofs.Calls.{method-sort, call-needs, call-has}
 
 -- what a denotation is answered
 pub record Given (T : Table) (x : TypeKey) (a : Bool) (r : Selected) (ps : List ℕ) (m : Member) (b : Bool) : Type 0 where

@@ -1,15 +1,15 @@
 -- SELECTION IS GO'S: what S answers is what the Go spec says of x.f, and of a call of it (`selection-is-go`), and the Go spec says nothing else but for the
 -- places of `ambiguous` (`go-is-selection`). `select-is-go` and `go-is-select` are the two for document 01's reading of (*x).f, with no side condition.
 use mathlib.Core.Path.{_≡_, refl, sym, ap, _∙_, subst}
-use mathlib.Core.Bool.{Bool, true, false, cond, _&&_}
-use mathlib.Core.List.{List, [], _∷_}
-use mathlib.Core.Logic.{_⊎_, inl, inr}
+use mathlib.Core.Bool.{Bool, true, false, cond}
+use mathlib.Core.List.{List}
+use mathlib.Core.Logic.{inl}
 use mathlib.Core.Option.{Option}
-use Prim.Native.Nat.{ℕ, _<_}
-use Rattle.objects.specs.Lists.{Bytes, In}
+use Prim.Native.Nat.{_<_}
+use Rattle.objects.specs.Lists.{Bytes}
 use Rattle.objects.specs.declared.TypeKey.{TypeKey}
 use Rattle.objects.specs.declared.PackageKey.{PackageKey}
-use Rattle.objects.specs.Table.{Table, size, Member, Pointer, Named, isPointer, isIface, isNamed, refs, kindAt, under, bare, pointerAt, ifaceUnder, namedPointer}
+use Rattle.objects.specs.Table.{Table, size, Member, Pointer, Named, isPointer, isIface, isNamed, kindAt, under, pointerAt, ifaceUnder, namedPointer}
 use Rattle.objects.proofs.ListLaws.{cases, clash, and-l, and-r}
 use Rattle.objects.proofs.KindLaws.{pointer-is, iface-is, named-is, under-plain, under-named, bare-plain, bare-pointer}
 use Rattle.text.specs.Bytes.{isBlank}
@@ -22,7 +22,7 @@ use Rattle.ways.proofs.Selects.{select-says}
 use Rattle.gospec.specs.GoSelectors.{underlying, of-type, of-pointer, Base, OneStar, Text}
 use Rattle.gospec.specs.Says.{blank, Says, legal-field, legal-method, no-call, not-one, nothing, forget, Reading}
 use Rattle.gospec.proofs.Found.{asked}
-use Rattle.gospec.proofs.Operands.{under-pointer, base-of}
+use Rattle.gospec.proofs.Operands.{base-of}
 use Rattle.gospec.proofs.Results.{sel, Result, r-none, result-says, says-result, direct, star-denotes, star-several, dead-sel, faces, iface-several, inner-denotes, inner-several, no-field, short}
 
 -- ---- the blank name
@@ -36,7 +36,7 @@ unfolding isBlank
 not-blank name h e = clash (subst (λ n. isBlank n ≡ true) (sym e) (same-refl blank)) h
 
 -- a name is asked for by itself
-asked-blank : (T : Table) (name : Bytes) (pkg : Option PackageKey) (b : Bool) → isBlank name ≡ b → isBlank (asked T name pkg .name) ≡ b
+pub asked-blank : (T : Table) (name : Bytes) (pkg : Option PackageKey) (b : Bool) → isBlank name ≡ b → isBlank (asked T name pkg .name) ≡ b
 unfolding identityFrom
 asked-blank T name pkg b h = h
 

@@ -11,3 +11,6 @@ pub mod Numbers
 pub mod RowLaws
 pub mod Stores
 pub mod Keeping
+pub mod Growing
+pub mod Writing
+pub mod Ranks

@@ -6,6 +6,7 @@ pub mod StepIdentity
 pub mod Checks
 pub mod Load
 pub mod Stages
+pub mod Library
 pub mod Sound
 pub mod Comparable
 pub mod Ways

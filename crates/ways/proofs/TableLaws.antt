@@ -3,20 +3,18 @@
 use mathlib.Core.Path.{_≡_, refl, sym, ap, ap₂, _∙_, subst}
 use mathlib.Core.Bool.{Bool, true, false, cond, not, _&&_, _||_}
 use mathlib.Core.List.{List, [], _∷_, _++_, map, append-nil}
-use mathlib.Core.Logic.{_⊎_, inl, inr}
-use Prim.Native.Nat.{ℕ, zero, suc, _+_, _≤_, _<_}
+use mathlib.Core.Logic.{inl, inr}
+use Prim.Native.Nat.{ℕ, suc, _+_, _≤_, _<_}
 use native.Mathlib.Omega.{arith}
-use lib.Dec.{eqb}
 use lib.ListN.{length}
-use borrow.Author.Tests.{eqb-true}
-use Rattle.objects.specs.Lists.{any, every, keep, flat, In, Sorted}
-use Rattle.objects.proofs.ListLaws.{cases, clash, either, any-append, keep-append, keep-none, any-none, some-In, In-append, In-keep, In-map, and-l, and-r, or-r}
+use Rattle.objects.specs.Lists.{any, keep, In, Sorted}
+use Rattle.objects.proofs.ListLaws.{cases, clash, either, any-append, keep-append, keep-none, any-none, some-In, In-keep, In-map, and-r}
 use Rattle.objects.proofs.BoolLaws.{iff-eq}
 use Rattle.objects.proofs.PairLaws.{AllPairs}
 use Rattle.objects.proofs.KeyLaws.{key-eq, same-key, same-self}
 use Rattle.objects.proofs.KindLaws.{if-In, pointer-is, struct-is, named-is, fields-or-methods, under-plain, under-named, bare-plain, bare-pointer}
 use Rattle.objects.specs.declared.TypeKey.{TypeKey}
-use Rattle.objects.specs.Table.{Table, size, sameType, Entity, Field, Method, Member, isEmbedded, Kind, Named, Pointer, Struct, kindNumber, isPointer, isFunc, isStruct, isIface, isNamed, refs, membersOf, fieldsOf, declaredOf, allMethodsOf, allMethods, kindAt, under, bare, pointerAt}
+use Rattle.objects.specs.Table.{Table, size, sameType, Entity, Field, Method, Member, isEmbedded, Kind, Named, Pointer, Struct, kindNumber, isPointer, isFunc, isStruct, isIface, isNamed, membersOf, fieldsOf, declaredOf, allMethodsOf, allMethods, kindAt, under, bare}
 use Rattle.text.specs.Bytes.{isBlank}
 use Rattle.rules.specs.Members.{Identity, identityOf, sameId, sameMember}
 use Rattle.rules.specs.Identity.{identical, ownNumber, parts}
@@ -28,7 +26,7 @@ use Rattle.rules.proofs.MemberLaws.{Alike, sameId-true, sameId-self}
 use Rattle.rules.proofs.StepLaws.{Agree}
 use Rattle.rules.proofs.IdentityLaws.{identical-self, identical-turn, identical-trans, identical-parts}
 use Rattle.ways.specs.Graph as over
-use Rattle.ways.specs.Graph.{Graph, Step, matching}
+use Rattle.ways.specs.Graph.{Step, matching}
 use Rattle.ways.specs.Levels.{raw, found}
 use Rattle.ways.specs.OfTable.{graph, stepOf}
 use Rattle.ways.proofs.Merge.{Lawful}
