@@ -6,4 +6,6 @@ pub mod GrowSelect
 pub mod GrowMissing
 pub mod Promised
 pub mod Computed
+pub mod Shown
 pub mod Disk
+pub mod Growths
