@@ -7,7 +7,7 @@ use Prim.Native.Nat.{ℕ, _≤_, _<_}
 use lib.Dec.{leb, eqb}
 use lib.ListN.{length}
 use borrow.Author.Tests.{ltb-true, le-ltb}
-use Rattle.objects.specs.Bounds.{maxQuestion}
+use Rattle.objects.specs.Bounds.{maxQuestion, workWords}
 use Rattle.objects.specs.Lists.{Bytes}
 use Rattle.objects.proofs.ListLaws.{cases, clash, and-l, and-r}
 use Rattle.objects.specs.declared.TypeKey.{TypeKey}
@@ -20,10 +20,10 @@ use Rattle.rules.specs.Sound.{Sound}
 use Rattle.rules.proofs.Sounds.{loads-sound}
 use Rattle.rules.specs.Question.{Question, askS, askM, askN, askI, askC, askV, questionForm, inTable, known, questionOf}
 use Rattle.rules.specs.Answer.{answer, answerBytes, selectedBytes}
-use Rattle.rules.specs.Asked.{say, wrongSecond, outcomeOf, outcome}
+use Rattle.rules.specs.Asked.{say, wrongSecond, outcomeOf, outcome, numberOf, written, asked}
 use Rattle.growth.specs.Grown.{Numbers, Grown, GrownTexts}
 use Rattle.growth.specs.Promise.{Shortest, carrySelected, newWay, oldName, newName, oldAnswer, Promised}
-use Rattle.growth.specs.Calls.{carryQuestion, PutAgain, Said}
+use Rattle.growth.specs.Calls.{carryQuestion, Lent, called, answersWith, oldBytes, newBytes, PutAgain, Said}
 use Rattle.growth.proofs.GrowKinds.{kind-kept}
 use Rattle.growth.proofs.GrowSelect.{promise-S}
 use Rattle.growth.proofs.GrowMissing.{promise-N}
@@ -70,10 +70,15 @@ asked-in T line q e =
     go none h = clash refl (ap hasQuestion (sym h))
     go (some p) h = cases (inTable T p) (λ z. let same : p ≡ q = ap (from p) (rw z at h) in ap (inTable T) (sym same) ∙ z) (λ z. clash refl (ap hasQuestion (sym (rw z at h))))
 
-pub call-says : (text line : Bytes) (room : ℕ) (T : Table) (q : Question) → load text ≡ loaded T → questionOf T line ≡ some q → wrongSecond T q ≡ false → length (answerBytes (answer T q)) ≤ room
+pub outcome-says : (text line : Bytes) (room : ℕ) (T : Table) (q : Question) → load text ≡ loaded T → questionOf T line ≡ some q → wrongSecond T q ≡ false → length (answerBytes (answer T q)) ≤ room
     → outcome text line room ≡ say (answerBytes (answer T q))
 unfolding outcome outcomeOf
-call-says text line room T q l e s f = rw (l, outcomeOf, e, s, le-ltb room (length (answerBytes (answer T q))) f)
+outcome-says text line room T q l e s f = rw (l, outcomeOf, e, s, le-ltb room (length (answerBytes (answer T q))) f)
+
+-- an outcome that is an answer, with words enough
+pub call-says : (text bytes : Bytes) (c : Lent) → outcome text (c .line) (length (c .buffer)) ≡ say bytes → workWords ≤ length (c .work) → called text c ≡ answersWith bytes c
+unfolding asked numberOf written
+call-says text bytes c e w = rw (le-ltb (length (c .work)) workWords w, e)
 
 -- ---- THE THEOREM
 
@@ -89,22 +94,27 @@ module _ (a b : Bytes) (g : GrownTexts a b) where
   grown = promised (g .numbers) (g .old) (g .new) oldSound newSound (g .grown)
 
   -- THE GROWTH PROMISE, of what the two calls say
-  pub grown-calls : (q : Question) (line again : Bytes) (room newRoom : ℕ) → PutAgain g q line again room newRoom → Said g q line again room newRoom
-  grown-calls q line again room newRoom put =
-      let i = asked-in (g .old) line q (put .asks) in
+  pub grown-calls : (q : Question) (old new : Lent) → PutAgain g q old new → Said g q old new
+  grown-calls q old new put =
+      let i = asked-in (g .old) (old .line) q (put .asks) in
+      let before = outcome-says a (old .line) (length (old .buffer)) (g .old) q (g .oldLoads) (put .asks) (put .second) (put .fits) in
+      let after = outcome-says b (new .line) (length (new .buffer)) (g .new) (carryQuestion (g .numbers) q) (g .newLoads) (put .asksAgain)
+      (second-kept (g .numbers) (g .old) (g .new) oldSound newSound (g .grown) q i ∙ put .second) (put .fitsAgain) in
       record {
-        before = call-says a line room (g .old) q (g .oldLoads) (put .asks) (put .second) (put .fits);
-        after = call-says b again newRoom (g .new) (carryQuestion (g .numbers) q) (g .newLoads) (put .asksAgain) (second-kept (g .numbers) (g .old) (g .new) oldSound newSound (g .grown) q i ∙ put .second) (put .fitsAgain);
+        outcomeBefore = before;
+        outcomeAfter = after;
+        before = call-says a (oldBytes g q) old before (put .words);
+        after = call-says b (newBytes g q) new after (put .wordsAgain);
         promised = grown q i;
       }
 
   -- where no new way is as short as the old one or shorter, the second call says the old answer with the member's new number
-  pub same-said : (t : TypeKey) (addressable : Bool) (pkg : Option PackageKey) (name line again : Bytes) (room newRoom d : ℕ)
-      → PutAgain g (askS t addressable pkg name) line again room newRoom
+  pub same-said : (t : TypeKey) (addressable : Bool) (pkg : Option PackageKey) (name : Bytes) (old new : Lent) (d : ℕ)
+      → PutAgain g (askS t addressable pkg name) old new
       → Shortest (g .old) (oldName (g .numbers) (g .old) (g .new) t addressable pkg name) t d
       → ((j : ℕ) → j ≤ d → newWay (g .numbers) (g .old) (g .new) (newName (g .numbers) (g .old) (g .new) t addressable pkg name) t j ≡ false)
-      → outcome b again newRoom ≡ say (selectedBytes (carrySelected (g .numbers) (oldAnswer (g .numbers) (g .old) (g .new) t addressable pkg name)))
+      → called b new ≡ answersWith (selectedBytes (carrySelected (g .numbers) (oldAnswer (g .numbers) (g .old) (g .new) t addressable pkg name))) new
   unfolding answer answerBytes
-  same-said t addressable pkg name line again room newRoom d put shortest none-new =
-      let said = grown-calls (askS t addressable pkg name) line again room newRoom put in
-      said .after ∙ ap (λ r. say (selectedBytes r)) (said .promised .same d shortest none-new)
+  same-said t addressable pkg name old new d put shortest none-new =
+      let said = grown-calls (askS t addressable pkg name) old new put in
+      said .after ∙ ap (λ r. answersWith (selectedBytes r) new) (said .promised .same d shortest none-new)
