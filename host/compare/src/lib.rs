@@ -1,8 +1,11 @@
 //! goscript's own functions over type tables: what the answers of document 01 are compared with.
 
 pub mod engine;
+pub mod prng;
 pub mod question;
+pub mod random;
 pub mod table;
+pub mod tables;
 pub mod typeask;
 
 #[cfg(goscript)]
@@ -14,7 +17,7 @@ mod standin;
 
 /// goscript's files, as they are.
 #[cfg(goscript)]
-#[allow(warnings)]
+#[allow(warnings, clippy::all)]
 mod goscript {
     include!(concat!(env!("OUT_DIR"), "/goscript.rs"));
 }

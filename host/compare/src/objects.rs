@@ -49,8 +49,8 @@ impl Goscript {
         // A reference ahead finds its type here; other types take their own place as they come.
         let nowhere = *self.objs.universe().byte();
         self.types = early.iter().map(|key| key.unwrap_or(nowhere)).collect();
-        for t in 0..early.len() {
-            if early[t].is_none() {
+        for (t, key) in early.iter().enumerate() {
+            if key.is_none() {
                 self.types[t] = self.late_type(table, t);
             }
         }

@@ -82,14 +82,16 @@ impl Table {
     pub fn members_of(&self, t: usize) -> &[Member] {
         &self.members[self.types[t].members.clone()]
     }
+}
 
-    /// The id of a member: "the name if exported, otherwise path (`_` if none), a dot, name".
-    pub fn id(&self, member: &Member) -> String {
-        if go_parser::ast::is_exported(&member.name) {
-            return member.name.clone();
+impl Member {
+    /// "Its id is the name if exported, otherwise path (`_` if none), a dot, name".
+    pub fn id(&self, packages: &[String]) -> String {
+        if go_parser::ast::is_exported(&self.name) {
+            return self.name.clone();
         }
-        let path = member.package.map_or("_", |p| &self.packages[p]);
-        format!("{path}.{}", member.name)
+        let path = self.package.map_or("_", |p| &packages[p]);
+        format!("{path}.{}", self.name)
     }
 }
 
