@@ -12,3 +12,4 @@ pub mod SearchRows
 pub mod Room
 pub mod TableLaws
 pub mod Selects
+pub mod Loaded
