@@ -1,7 +1,7 @@
 -- Laws of decimal digits (crate text, specs/Bytes.antt): how many there are, that they are a numeral, and that they read back as the number.
-use mathlib.Core.Path.{_≡_, refl, sym, ap, _∙_}
-use mathlib.Core.Bool.{Bool, true, false, not, _&&_, _||_}
-use mathlib.Core.List.{List, [], _∷_, _++_}
+use mathlib.Core.Path.{_≡_, refl, ap, _∙_}
+use mathlib.Core.Bool.{true, false, not, _&&_, _||_}
+use mathlib.Core.List.{[], _∷_}
 use mathlib.Core.Option.{some}
 use Prim.Native.Nat.{ℕ, zero, suc, _+_, _*_, _-_, _/_, _%_, _^_, _≤_, _<_}
 use native.Mathlib.Nat.{pow-suc}
@@ -42,10 +42,9 @@ not-few n h t = omega (arith, h, t)
 
 -- ---- how many
 
-module _ (n : ℕ) (acc : Bytes) where
-  -- the last digit, put before acc
-  abbrev next : Bytes
-  next = (48 + n % 10) ∷ acc
+-- the last digit, put before acc
+abbrev next : ℕ → Bytes → Bytes
+next n acc = (48 + n % 10) ∷ acc
 
 pub digits-few : (k j n : ℕ) (acc : Bytes) → n < 10 ^ suc j → length (digitsOn k n acc) ≤ suc j + length acc
 digits-few zero j n acc h = rw (digits-none n acc) (omega arith)

@@ -1,7 +1,7 @@
 -- Laws of the lines of numbers (specs/Written.antt): number after number, how long they are, and how they are written.
 use mathlib.Core.Path.{_≡_, refl, sym, ap, _∙_}
 use mathlib.Core.List.{List, [], _∷_, _++_, map, append-assoc}
-use Prim.Native.Nat.{ℕ, zero, suc, _+_, _*_, _≤_, _<_}
+use Prim.Native.Nat.{ℕ, suc, _+_, _*_, _≤_, _<_}
 use native.Mathlib.Numerals.{add-one}
 use native.Mathlib.Omega.{arith}
 use lib.ListN.{length, getD, drop, take, set, drop-of-length-le, length-append, length-take}
@@ -33,7 +33,7 @@ pub end-next : (ns : List ℕ) (n j : ℕ) → n ≤ length ns → j < n
 end-next ns n j h t =
     let k : j < length (take n ns) = rw (length-take n ns) (omega arith) in
     let e : drop j (take n ns) ≡ getD ns j 0 ∷ drop (j + 1) (take n ns) =
-        rw (add-one j) (drop-cons (take n ns) j 0 k ∙ ap (λ x. x ∷ drop (suc j) (take n ns)) (getD-take n ns j 0 t)) in
+    rw (add-one j) (drop-cons (take n ns) j 0 k ∙ ap (λ x. x ∷ drop (suc j) (take n ns)) (getD-take n ns j 0 t)) in
     ap lineEnd e ∙ end-some (getD ns j 0) (drop (j + 1) (take n ns))
 
 pub end-last : (ns : List ℕ) (n j : ℕ) → n ≤ j → lineEnd (drop j (take n ns)) ≡ 10 ∷ []
@@ -83,6 +83,11 @@ fields-end ns n j o at out i t e l = record {
   past = omega (arith, l, last-length ns n j t);
   text = sym (e ∙ ap (written out i) (end-last ns n j t) ∙ written-byte out i 10 [] ∙ written-nothing (set out i 10) (i + 1));
 }
+
+-- room for the line is room for what is left of it
+pub line-room : (word : Bytes) (ns rest : List ℕ) {o o₁ : Bytes} {at i₀ : ℕ} (i : ℕ) (out : Bytes) → at + length (numberLine word ns) ≤ length o
+    → Wrote o at word o₁ i₀ → i + length (lineEnd rest) ≡ i₀ + length (lineEnd ns) → length out ≡ length o₁ → i + length (lineEnd rest) ≤ length out
+line-room word ns rest i out h d l e = omega (arith, h, d .past, wrote-length d, l, e, line-length word ns)
 
 pub line-wrote : (word : Bytes) (ns : List ℕ) {o o₁ o₂ : Bytes} {at i r : ℕ} → Wrote o at word o₁ i → Wrote o₁ i (lineEnd ns) o₂ r
     → Wrote o at (numberLine word ns) o₂ r

@@ -1,6 +1,6 @@
 -- Laws of writing (specs/Written.antt): what is written and what is still to be, and one write after another.
 use mathlib.Core.Path.{_≡_, refl, sym, ap, _∙_}
-use mathlib.Core.List.{List, [], _∷_, _++_}
+use mathlib.Core.List.{[], _∷_, _++_}
 use Prim.Native.Nat.{ℕ, zero, suc, _+_, _-_, _/_, _%_, _≤_, _<_}
 use native.Mathlib.Numerals.{add-one}
 use native.Mathlib.Nat.{add-zero, not-suc-le-zero}
@@ -8,7 +8,7 @@ use native.Mathlib.Omega.{arith}
 use lib.ListN.{length, getD, drop, take, set, drop-of-length-le, length-append, length-drop, length-set}
 use lib.Seq.{drop-cons, sets-eq, length-sets, getD-set-same, drop-set-lt, take-all}
 use Rattle.objects.specs.Lists.{Bytes}
-use Rattle.text.specs.Bytes.{digitsOn, decimal}
+use Rattle.text.specs.Bytes.{digitsOn}
 use Rattle.rules.specs.Asked.{say, written as writtenAnswer}
 use Rattle.print.specs.Written.{written, Wrote}
 use Rattle.print.proofs.DecimalLaws.{digits-one, digits-more, digits-none}

@@ -1,7 +1,7 @@
 // Writes answer lines into a buffer: each is a word and decimal numbers. A function that writes takes the place to write at and answers the place
 // behind what it wrote; there must be room.
 ghost use mathlib.Core.Path.{_≡_};
-ghost use mathlib.Core.List.{[], _∷_};
+ghost use mathlib.Core.List.{_∷_};
 ghost use Prim.Native.Nat.{_+_, _≤_};
 ghost use lib.ListN.{length, take};
 ghost use Rattle.text.specs.Bytes.{decimal};

@@ -1,7 +1,7 @@
 use native.Mathlib.Omega.{arith}
-use Prim.Native.Nat.{ℕ, _+_, _-_, _≤_}
-use mathlib.Core.Path.{_≡_, refl, sym, ap, _∙_}
-use lib.ListN.{length, drop, length-set, length-take}
+use Prim.Native.Nat.{_≤_}
+use mathlib.Core.Path.{_≡_, refl, _∙_}
+use lib.ListN.{length, drop, length-set}
 use Rattle.text.specs.Bytes.{decimal, digitsOn}
 use Rattle.print.proofs.WrittenLaws.{digits-part, digits-next, digits-full, wrote-as, room-as}
 use borrow.Author.Needs.{needs}

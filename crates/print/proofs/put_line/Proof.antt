@@ -1,9 +1,9 @@
 use native.Mathlib.Omega.{arith}
-use Prim.Native.Nat.{ℕ, _+_, _-_, _≤_}
-use mathlib.Core.Path.{_≡_, refl, sym, ap, _∙_}
+use Prim.Native.Nat.{_+_, _-_, _≤_}
+use mathlib.Core.Path.{_≡_, refl, _∙_}
 use lib.ListN.{length, take, drop, length-set}
-use Rattle.print.specs.Written.{written, lineEnd, numberLine}
-use Rattle.print.proofs.LineLaws.{line-length, next-length, last-length, fields-next, fields-end, line-wrote}
+use Rattle.print.specs.Written.{written, lineEnd}
+use Rattle.print.proofs.LineLaws.{line-length, next-length, last-length, fields-next, fields-end, line-room, line-wrote}
 use Rattle.print.proofs.WrittenLaws.{wrote-length}
 use borrow.Author.Needs.{needs}
 use Rattle.print.proofs.put_line.Statement.{statement}
@@ -29,7 +29,7 @@ shared-slice-read-put-field : tie.Need-shared-slice-read-put-field Inv-loop μ-l
 shared-slice-read-put-field c = search needs
 
 put-field-requires : tie.Need-put-field-requires Inv-loop μ-loop
-put-field-requires c κs = omega (arith, (c .before .before .before .loop .inv .1), (c .before .before .before .loop .inv .3), next-length (c .before .before .before .before .before .before .before .before .before .before .before .args .ns .now) (c .before .before .before .before .before .before .before .before .before .before .before .args .n) (c .before .before .before .loop .j) (omega arith) (c .before .before .loop-test .taken), (c .before .before .before .before .before .before .put-word .ensures .past), wrote-length (c .before .before .before .before .before .before .put-word .ensures), line-length (c .before .before .before .before .before .before .before .before .before .before .before .args .word .now) (take (c .before .before .before .before .before .before .before .before .before .before .before .args .n) (c .before .before .before .before .before .before .before .before .before .before .before .args .ns .now)))
+put-field-requires c κs = omega (arith, next-length (c .before .before .before .before .before .before .before .before .before .before .before .args .ns .now) (c .before .before .before .before .before .before .before .before .before .before .before .args .n) (c .before .before .before .loop .j) (omega arith) (c .before .before .loop-test .taken), line-room (c .before .before .before .before .before .before .before .before .before .before .before .args .word .now) (take (c .before .before .before .before .before .before .before .before .before .before .before .args .n) (c .before .before .before .before .before .before .before .before .before .before .before .args .ns .now)) (drop (c .before .before .before .loop .j) (take (c .before .before .before .before .before .before .before .before .before .before .before .args .n) (c .before .before .before .before .before .before .before .before .before .before .before .args .ns .now))) (c .before .before .before .loop .i) (c .before .before .before .loop .out) (omega arith) (c .before .before .before .before .before .before .put-word .ensures) (c .before .before .before .loop .inv .1) (c .before .before .before .loop .inv .3))
 
 add-j : tie.Need-add-j Inv-loop μ-loop
 add-j c = search needs
@@ -41,10 +41,10 @@ loop-again : tie.Need-loop-again Inv-loop μ-loop
 loop-again c = ((c .before .before .before .before .before .before .loop .inv .0) ∙ fields-next (c .before .before .before .before .before .before .before .before .before .before .before .before .before .before .args .ns .now) _ (c .before .before .before .before .before .before .loop .j) (omega arith) (c .before .before .before .before .before .loop-test .taken) (c .before .before .put-field .ensures), omega (arith, (c .before .before .before .before .before .before .loop .inv .1), next-length (c .before .before .before .before .before .before .before .before .before .before .before .before .before .before .args .ns .now) (c .before .before .before .before .before .before .before .before .before .before .before .before .before .before .args .n) (c .before .before .before .before .before .before .loop .j) (omega arith) (c .before .before .before .before .before .loop-test .taken), (c .before .before .put-field .ensures .past)), omega arith, wrote-length (c .before .before .put-field .ensures) ∙ (c .before .before .before .before .before .before .loop .inv .3))
 
 slice-write-out : tie.Need-slice-write-out Inv-loop μ-loop
-slice-write-out c = omega (arith, (c .before .loop .inv .1), (c .before .loop .inv .3), last-length (c .before .before .before .before .before .before .before .before .before .args .ns .now) (c .before .before .before .before .before .before .before .before .before .args .n) (c .before .loop .j) (c .loop-test .left), (c .before .before .before .before .put-word .ensures .past), wrote-length (c .before .before .before .before .put-word .ensures), line-length (c .before .before .before .before .before .before .before .before .before .args .word .now) (take (c .before .before .before .before .before .before .before .before .before .args .n) (c .before .before .before .before .before .before .before .before .before .args .ns .now)))
+slice-write-out c = omega (arith, last-length (c .before .before .before .before .before .before .before .before .before .args .ns .now) (c .before .before .before .before .before .before .before .before .before .args .n) (c .before .loop .j) (c .loop-test .left), line-room (c .before .before .before .before .before .before .before .before .before .args .word .now) (take (c .before .before .before .before .before .before .before .before .before .args .n) (c .before .before .before .before .before .before .before .before .before .args .ns .now)) (drop (c .before .loop .j) (take (c .before .before .before .before .before .before .before .before .before .args .n) (c .before .before .before .before .before .before .before .before .before .args .ns .now))) (c .before .loop .i) (c .before .loop .out) (omega arith) (c .before .before .before .before .put-word .ensures) (c .before .loop .inv .1) (c .before .loop .inv .3))
 
 add-result : tie.Need-add-result Inv-loop μ-loop
-add-result c = omega (arith, (c .before .loop .inv .1), (c .before .loop .inv .3), last-length (c .before .before .before .before .before .before .before .before .before .args .ns .now) (c .before .before .before .before .before .before .before .before .before .args .n) (c .before .loop .j) (c .loop-test .left), (c .before .before .before .before .put-word .ensures .past), wrote-length (c .before .before .before .before .put-word .ensures), line-length (c .before .before .before .before .before .before .before .before .before .args .word .now) (take (c .before .before .before .before .before .before .before .before .before .args .n) (c .before .before .before .before .before .before .before .before .before .args .ns .now)))
+add-result c = omega (arith, last-length (c .before .before .before .before .before .before .before .before .before .args .ns .now) (c .before .before .before .before .before .before .before .before .before .args .n) (c .before .loop .j) (c .loop-test .left), line-room (c .before .before .before .before .before .before .before .before .before .args .word .now) (take (c .before .before .before .before .before .before .before .before .before .args .n) (c .before .before .before .before .before .before .before .before .before .args .ns .now)) (drop (c .before .loop .j) (take (c .before .before .before .before .before .before .before .before .before .args .n) (c .before .before .before .before .before .before .before .before .before .args .ns .now))) (c .before .loop .i) (c .before .loop .out) (omega arith) (c .before .before .before .before .put-word .ensures) (c .before .loop .inv .1) (c .before .loop .inv .3))
 
 same-length : tie.Need-same-length Inv-loop μ-loop
 same-length c = simp length-set ((c .before .loop .inv .3) ∙ wrote-length (c .before .before .before .before .put-word .ensures))
