@@ -11,7 +11,7 @@ use Rattle.text.specs.Bytes.{decimal}
 use Rattle.rules.specs.Answer.{tabbed}
 use Rattle.print.specs.Written.{maxWord, maxFields, numberLine, lineEnd, written, Wrote}
 use Rattle.print.proofs.DecimalLaws.{decimal-any}
-use Rattle.print.proofs.WrittenLaws.{written-more, written-nothing, written-byte, wrote-length, then-wrote, wrote-as}
+use Rattle.print.proofs.WrittenLaws.{written-more, written-nothing, written-byte, then-wrote, wrote-as}
 
 -- ---- number after number
 
@@ -83,11 +83,6 @@ fields-end ns n j o at out i t e l = record {
   past = omega (arith, l, last-length ns n j t);
   text = sym (e ∙ ap (written out i) (end-last ns n j t) ∙ written-byte out i 10 [] ∙ written-nothing (set out i 10) (i + 1));
 }
-
--- room for the line is room for what is left of it
-pub line-room : (word : Bytes) (ns rest : List ℕ) {o o₁ : Bytes} {at i₀ : ℕ} (i : ℕ) (out : Bytes) → at + length (numberLine word ns) ≤ length o
-    → Wrote o at word o₁ i₀ → i + length (lineEnd rest) ≡ i₀ + length (lineEnd ns) → length out ≡ length o₁ → i + length (lineEnd rest) ≤ length out
-line-room word ns rest i out h d l e = omega (arith, h, d .past, wrote-length d, l, e, line-length word ns)
 
 pub line-wrote : (word : Bytes) (ns : List ℕ) {o o₁ o₂ : Bytes} {at i r : ℕ} → Wrote o at word o₁ i → Wrote o₁ i (lineEnd ns) o₂ r
     → Wrote o at (numberLine word ns) o₂ r

@@ -5,7 +5,7 @@ ghost use mathlib.Core.List.{_∷_};
 ghost use Prim.Native.Nat.{_+_, _≤_};
 ghost use lib.ListN.{length, take};
 ghost use Rattle.text.specs.Bytes.{decimal};
-ghost use Rattle.print.specs.Written.{maxWord, maxFields, numberLine, Wrote};
+ghost use Rattle.print.specs.Written.{maxWord, maxFields, numberLine, lineEnd, Wrote};
 
 pub fn decimal_length(n: u32) -> usize
     ensures { λ r. ⌜ r ≡ length (decimal n) ⌝ }
@@ -77,12 +77,12 @@ fn put_field(out: &mut [u8], at: usize, n: u32) -> usize
     put_decimal(out, at + 1, n)
 }
 
-// The line of the word and the first n numbers.
-pub fn put_line(out: &mut [u8], at: usize, word: &[u8], ns: &[u32], n: usize) -> usize
-    requires { ⌜ (n ≤ length (now ns)) × (at + length (numberLine (now word) (take n (now ns))) ≤ length (now out)) ⌝ }
-    ensures { λ r. ⌜ Wrote (now (out .entry)) at (numberLine (now (word .entry)) (take n (now (ns .entry)))) (now (out .exit)) r ⌝ }
+// What stands behind the word in the line of the first n numbers.
+fn put_fields(out: &mut [u8], at: usize, ns: &[u32], n: usize) -> usize
+    requires { ⌜ (n ≤ length (now ns)) × (at + length (lineEnd (take n (now ns))) ≤ length (now out)) ⌝ }
+    ensures { λ r. ⌜ Wrote (now (out .entry)) at (lineEnd (take n (now (ns .entry)))) (now (out .exit)) r ⌝ }
 {
-    let mut i = put_word(out, at, word);
+    let mut i = at;
     let mut j: usize = 0;
     while j < n {
         i = put_field(out, i, ns[j]);
@@ -90,6 +90,15 @@ pub fn put_line(out: &mut [u8], at: usize, word: &[u8], ns: &[u32], n: usize) ->
     }
     out[i] = 10;
     i + 1
+}
+
+// The line of the word and the first n numbers.
+pub fn put_line(out: &mut [u8], at: usize, word: &[u8], ns: &[u32], n: usize) -> usize
+    requires { ⌜ (n ≤ length (now ns)) × (at + length (numberLine (now word) (take n (now ns))) ≤ length (now out)) ⌝ }
+    ensures { λ r. ⌜ Wrote (now (out .entry)) at (numberLine (now (word .entry)) (take n (now (ns .entry)))) (now (out .exit)) r ⌝ }
+{
+    let i = put_word(out, at, word);
+    put_fields(out, i, ns, n)
 }
 
 // The digit of a number below ten.

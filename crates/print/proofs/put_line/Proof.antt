@@ -1,72 +1,28 @@
 use native.Mathlib.Omega.{arith}
-use Prim.Native.Nat.{_+_, _-_, _≤_}
-use mathlib.Core.Path.{_≡_, refl, _∙_}
-use lib.ListN.{length, take, drop, length-set}
-use Rattle.print.specs.Written.{written, lineEnd}
-use Rattle.print.proofs.LineLaws.{line-length, next-length, last-length, fields-next, fields-end, line-room, line-wrote}
+use lib.ListN.{take}
+use Rattle.print.proofs.LineLaws.{line-length, line-wrote}
 use Rattle.print.proofs.WrittenLaws.{wrote-length}
 use borrow.Author.Needs.{needs}
 use Rattle.print.proofs.put_line.Statement.{statement}
 use Rattle.print.proofs.put_line.Tie as tie
 
-abbrev Inv-loop : tie.InvT-loop
-Inv-loop out₀ at word ns n i₀ j₀ out i j = (written out₀ i₀ (lineEnd (take n ns)) ≡ written out i (lineEnd (drop j (take n ns))))
-    × (i + length (lineEnd (drop j (take n ns))) ≡ i₀ + length (lineEnd (take n ns))) × (j ≤ n) × (length out ≡ length out₀)
-
-abbrev μ-loop : tie.MeasureT-loop
-μ-loop out₀ at word ns n i₀ j₀ out i j = n - j
-
-put-word-requires : tie.Need-put-word-requires Inv-loop μ-loop
+put-word-requires : tie.Need-put-word-requires
 put-word-requires c κs = omega (arith, line-length (c .before .before .before .before .args .word .now) (take (c .before .before .before .before .args .n) (c .before .before .before .before .args .ns .now)))
 
-loop-holds : tie.Need-loop-holds Inv-loop μ-loop
-loop-holds c = (refl, refl, omega arith, refl)
+put-fields-requires : tie.Need-put-fields-requires
+put-fields-requires c κs = (omega arith, omega (arith, line-length (c .before .before .before .before .before .before .before .before .args .word .now) (take (c .before .before .before .before .before .before .before .before .args .n) (c .before .before .before .before .before .before .before .before .args .ns .now)), (c .before .before .before .put-word .ensures .past), wrote-length (c .before .before .before .put-word .ensures)))
 
-mul-put-field : tie.Need-mul-put-field Inv-loop μ-loop
-mul-put-field c = search needs
+same-length : tie.Need-same-length
+same-length c = search needs
 
-shared-slice-read-put-field : tie.Need-shared-slice-read-put-field Inv-loop μ-loop
-shared-slice-read-put-field c = search needs
-
-put-field-requires : tie.Need-put-field-requires Inv-loop μ-loop
-put-field-requires c κs = omega (arith, next-length (c .before .before .before .before .before .before .before .before .before .before .before .args .ns .now) (c .before .before .before .before .before .before .before .before .before .before .before .args .n) (c .before .before .before .loop .j) (omega arith) (c .before .before .loop-test .taken), line-room (c .before .before .before .before .before .before .before .before .before .before .before .args .word .now) (take (c .before .before .before .before .before .before .before .before .before .before .before .args .n) (c .before .before .before .before .before .before .before .before .before .before .before .args .ns .now)) (drop (c .before .before .before .loop .j) (take (c .before .before .before .before .before .before .before .before .before .before .before .args .n) (c .before .before .before .before .before .before .before .before .before .before .before .args .ns .now))) (c .before .before .before .loop .i) (c .before .before .before .loop .out) (omega arith) (c .before .before .before .before .before .before .put-word .ensures) (c .before .before .before .loop .inv .1) (c .before .before .before .loop .inv .3))
-
-add-j : tie.Need-add-j Inv-loop μ-loop
-add-j c = search needs
-
-loop-less : tie.Need-loop-less Inv-loop μ-loop
-loop-less c = search needs
-
-loop-again : tie.Need-loop-again Inv-loop μ-loop
-loop-again c = ((c .before .before .before .before .before .before .loop .inv .0) ∙ fields-next (c .before .before .before .before .before .before .before .before .before .before .before .before .before .before .args .ns .now) _ (c .before .before .before .before .before .before .loop .j) (omega arith) (c .before .before .before .before .before .loop-test .taken) (c .before .before .put-field .ensures), omega (arith, (c .before .before .before .before .before .before .loop .inv .1), next-length (c .before .before .before .before .before .before .before .before .before .before .before .before .before .before .args .ns .now) (c .before .before .before .before .before .before .before .before .before .before .before .before .before .before .args .n) (c .before .before .before .before .before .before .loop .j) (omega arith) (c .before .before .before .before .before .loop-test .taken), (c .before .before .put-field .ensures .past)), omega arith, wrote-length (c .before .before .put-field .ensures) ∙ (c .before .before .before .before .before .before .loop .inv .3))
-
-slice-write-out : tie.Need-slice-write-out Inv-loop μ-loop
-slice-write-out c = omega (arith, last-length (c .before .before .before .before .before .before .before .before .before .args .ns .now) (c .before .before .before .before .before .before .before .before .before .args .n) (c .before .loop .j) (c .loop-test .left), line-room (c .before .before .before .before .before .before .before .before .before .args .word .now) (take (c .before .before .before .before .before .before .before .before .before .args .n) (c .before .before .before .before .before .before .before .before .before .args .ns .now)) (drop (c .before .loop .j) (take (c .before .before .before .before .before .before .before .before .before .args .n) (c .before .before .before .before .before .before .before .before .before .args .ns .now))) (c .before .loop .i) (c .before .loop .out) (omega arith) (c .before .before .before .before .put-word .ensures) (c .before .loop .inv .1) (c .before .loop .inv .3))
-
-add-result : tie.Need-add-result Inv-loop μ-loop
-add-result c = omega (arith, last-length (c .before .before .before .before .before .before .before .before .before .args .ns .now) (c .before .before .before .before .before .before .before .before .before .args .n) (c .before .loop .j) (c .loop-test .left), line-room (c .before .before .before .before .before .before .before .before .before .args .word .now) (take (c .before .before .before .before .before .before .before .before .before .args .n) (c .before .before .before .before .before .before .before .before .before .args .ns .now)) (drop (c .before .loop .j) (take (c .before .before .before .before .before .before .before .before .before .args .n) (c .before .before .before .before .before .before .before .before .before .args .ns .now))) (c .before .loop .i) (c .before .loop .out) (omega arith) (c .before .before .before .before .put-word .ensures) (c .before .loop .inv .1) (c .before .loop .inv .3))
-
-same-length : tie.Need-same-length Inv-loop μ-loop
-same-length c = simp length-set ((c .before .loop .inv .3) ∙ wrote-length (c .before .before .before .before .put-word .ensures))
-
-returns : tie.Need-returns Inv-loop μ-loop
-returns c = line-wrote _ _ (c .before .before .before .before .put-word .ensures) (fields-end (c .before .before .before .before .before .before .before .before .before .args .ns .now) _ (c .before .loop .j) _ _ (c .before .loop .out) _ (c .loop-test .left) (c .before .loop .inv .0) (c .before .loop .inv .1))
+returns : tie.Need-returns
+returns c = line-wrote _ _ (c .before .before .before .before .before .before .put-word .ensures) (c .before .before .put-fields .ensures)
 
 pub put-line-spec : {M : Type 1} → statement M
 put-line-spec =
     tie.close
     (tie.spec
-    Inv-loop
-    μ-loop
     put-word-requires
-    loop-holds
-    mul-put-field
-    shared-slice-read-put-field
-    put-field-requires
-    add-j
-    loop-less
-    loop-again
-    slice-write-out
-    add-result
+    put-fields-requires
     same-length
     returns)
