@@ -7,7 +7,7 @@ use native.Mathlib.Omega.{arith}
 use lib.Dec.{eqb}
 use lib.ListN.{length, getD, set, List·getD-eq-default}
 use lib.Seq.{set-getD, sets}
-use Rattle.objects.specs.Table.{typeKey, bit}
+use Rattle.objects.specs.Table.{bit}
 use Rattle.objects.specs.Rows.{Words, wordAt}
 use Rattle.objects.proofs.ListLaws.{either}
 use Rattle.objects.proofs.Stores.{word-put, word-kept, run-put}
@@ -25,10 +25,11 @@ read-bit zero h = refl
 read-bit (suc zero) h = refl
 read-bit (suc (suc n)) h = absurd (omega arith)
 
--- ---- a record
-
+-- the place from which a record's words are counted
 first-word : (ws : Words) (at : ℕ) → wordAt ws (at + 0) ≡ wordAt ws at
 first-word ws at = ap (wordAt ws) (omega arith)
+
+-- ---- a record
 
 module _ (ws : Words) (at : ℕ) where
   pub beyond : length ws ≤ at → zeroRec ≡ recOf ws at
@@ -44,16 +45,21 @@ module _ (ws : Words) (at : ℕ) where
       let put : (j : ℕ) → j < 5 → wordAt (sets ws at (wordsOf e)) (at + j) ≡ getD (wordsOf e) j 0 = λ j l. run-put (wordsOf e) ws at j h l in
       rw (sym (first-word (sets ws at (wordsOf e)) at) ∙ put 0 (omega arith), put 1 (omega arith), put 2 (omega arith), put 3 (omega arith), put 4 (omega arith), bit-read (e .indirect), bit-read (e .multiples))
 
-  -- the mark changes one word
-  pub mark-words : wordAt ws (at + 3) ≤ 1 → sets ws at (wordsOf (marked (recOf ws at))) ≡ set ws (at + 4) 1
-  unfolding recOf wordAt
-  mark-words h =
+  -- a record is saved by five stores
+  pub stores : (e : EmbeddedType) → sets ws at (wordsOf e) ≡ set (set (set (set (set ws at (e .typ .0)) (at + 1) (e .parent)) (at + 2) (e .place)) (at + 3) (bit (e .indirect))) (at + 4) (bit (e .multiples))
+  stores e =
       let e1 : at + 1 ≡ suc at = omega arith in
       let e2 : at + 2 ≡ suc (suc at) = omega arith in
       let e3 : at + 3 ≡ suc (suc (suc at)) = omega arith in
       let e4 : at + 4 ≡ suc (suc (suc (suc at))) = omega arith in
+      rw (e1, e2, e3, e4)
+
+  -- the mark changes one word
+  pub mark-words : wordAt ws (at + 3) ≤ 1 → sets ws at (wordsOf (marked (recOf ws at))) ≡ set ws (at + 4) 1
+  unfolding recOf wordAt
+  mark-words h =
       let same = set-getD ws in
-      rw (read-bit (wordAt ws (at + 3)) h, e1, e2, e3, e4, same at 0, same (suc at) 0, same (suc (suc at)) 0, same (suc (suc (suc at))) 0)
+      stores (marked (recOf ws at)) ∙ rw (read-bit (wordAt ws (at + 3)) h, same at 0, same (at + 1) 0, same (at + 2) 0, same (at + 3) 0)
 
   pub marked-there : at + 5 ≤ length ws → recOf (set ws (at + 4) 1) at ≡ marked (recOf ws at)
   unfolding recOf

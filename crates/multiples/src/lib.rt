@@ -55,7 +55,7 @@ pub fn load(work: &[u32], at: usize) -> EmbeddedType
 {
     if at < work.len() {
         EmbeddedType {
-            typ: TypeKey(work[at]),
+            typ: TypeKey(word(work, at)),
             parent: word(work, at + 1),
             place: word(work, at + 2),
             indirect: word(work, at + 3) == 1,

@@ -1,4 +1,4 @@
--- `multiples::mark_one` meets its contract. Assumes nothing.
+-- `multiples::mark_one` meets its contract.
 use mathlib.Core.Path.{ap}
 use mathlib.Core.List.{List}
 use Rattle.multiples.specs.declared.EmbeddedType.{EmbeddedType}
@@ -6,9 +6,6 @@ use Rattle.multiples.specs.Records.{recAt}
 use borrow.Author.Needs.{needs}
 use Rattle.multiples.proofs.mark_one.Statement.{statement}
 use Rattle.multiples.proofs.mark_one.Tie as tie
-use Rattle.multiples.proofs.mark_one.Reads as reads
-use Rattle.multiples.proofs.mark_one.Lts as lts
-use Rattle.multiples.proofs.marked_row.Reads as marked-row-reads
 
 marked-row-requires : tie.Need-marked-row-requires
 marked-row-requires c κs = search needs
