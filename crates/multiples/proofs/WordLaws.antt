@@ -12,7 +12,7 @@ use Rattle.objects.specs.Rows.{Words, wordAt}
 use Rattle.objects.proofs.ListLaws.{either}
 use Rattle.objects.proofs.Stores.{word-put, word-kept, run-put}
 use Rattle.multiples.specs.declared.EmbeddedType.{EmbeddedType}
-use Rattle.multiples.specs.Records.{marked, zeroRec, wordsOf, recOf}
+use Rattle.multiples.specs.Records.{marked, zeroRec, recordWords, wordsOf, recOf}
 
 -- ---- a mark in a word
 
@@ -32,6 +32,7 @@ first-word ws at = ap (wordAt ws) (omega arith)
 -- ---- a record
 
 module _ (ws : Words) (at : ℕ) where
+  -- past the end every word reads as 0
   pub beyond : length ws ≤ at → zeroRec ≡ recOf ws at
   unfolding recOf wordAt
   beyond h =
@@ -39,10 +40,11 @@ module _ (ws : Words) (at : ℕ) where
       let none0 : wordAt ws at ≡ 0 = List·getD-eq-default ws 0 h in
       rw (none0, none 1, none 2, none 3, none 4)
 
-  pub saved : (e : EmbeddedType) → at + 5 ≤ length ws → recOf (sets ws at (wordsOf e)) at ≡ e
+  -- what was saved is loaded again
+  pub saved : (e : EmbeddedType) → at + recordWords ≤ length ws → recOf (sets ws at (wordsOf e)) at ≡ e
   unfolding recOf
   saved e h =
-      let put : (j : ℕ) → j < 5 → wordAt (sets ws at (wordsOf e)) (at + j) ≡ getD (wordsOf e) j 0 = λ j l. run-put (wordsOf e) ws at j h l in
+      let put : (j : ℕ) → j < recordWords → wordAt (sets ws at (wordsOf e)) (at + j) ≡ getD (wordsOf e) j 0 = λ j l. run-put (wordsOf e) ws at j h l in
       rw (sym (first-word (sets ws at (wordsOf e)) at) ∙ put 0 (omega arith), put 1 (omega arith), put 2 (omega arith), put 3 (omega arith), put 4 (omega arith), bit-read (e .indirect), bit-read (e .multiples))
 
   -- a record is saved by five stores
@@ -61,16 +63,17 @@ module _ (ws : Words) (at : ℕ) where
       let same = set-getD ws in
       stores (marked (recOf ws at)) ∙ rw (read-bit (wordAt ws (at + 3)) h, same at 0, same (at + 1) 0, same (at + 2) 0, same (at + 3) 0)
 
-  pub marked-there : at + 5 ≤ length ws → recOf (set ws (at + 4) 1) at ≡ marked (recOf ws at)
+  -- the record that was marked
+  pub marked-there : at + recordWords ≤ length ws → recOf (set ws (at + 4) 1) at ≡ marked (recOf ws at)
   unfolding recOf
   marked-there h =
       let k : (i : ℕ) → i ≢ at + 4 → wordAt (set ws (at + 4) 1) i ≡ wordAt ws i = word-kept ws (at + 4) 1 in
       rw (k at (λ e. omega arith), k (at + 1) (λ e. omega arith), k (at + 2) (λ e. omega arith), k (at + 3) (λ e. omega arith), word-put ws (at + 4) 1 (omega arith))
 
   -- a record in other words
-  pub marked-kept : (b : ℕ) → (b + 5 ≤ at) ⊎ (at + 5 ≤ b) → recOf (set ws (at + 4) 1) b ≡ recOf ws b
+  pub marked-kept : (b : ℕ) → (b + recordWords ≤ at) ⊎ (at + recordWords ≤ b) → recOf (set ws (at + 4) 1) b ≡ recOf ws b
   unfolding recOf
   marked-kept b apart =
-      let other : (j : ℕ) → j < 5 → b + j ≢ at + 4 = λ j l e. either apart (λ h. omega arith) (λ h. omega arith) in
-      let k : (j : ℕ) → j < 5 → wordAt (set ws (at + 4) 1) (b + j) ≡ wordAt ws (b + j) = λ j l. word-kept ws (at + 4) 1 (b + j) (other j l) in
+      let other : (j : ℕ) → j < recordWords → b + j ≢ at + 4 = λ j l e. either apart (λ h. omega arith) (λ h. omega arith) in
+      let k : (j : ℕ) → j < recordWords → wordAt (set ws (at + 4) 1) (b + j) ≡ wordAt ws (b + j) = λ j l. word-kept ws (at + 4) 1 (b + j) (other j l) in
       rw (sym (first-word (set ws (at + 4) 1) b) ∙ k 0 (omega arith) ∙ first-word ws b, k 1 (omega arith), k 2 (omega arith), k 3 (omega arith), k 4 (omega arith))

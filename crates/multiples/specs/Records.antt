@@ -22,6 +22,9 @@ recAt l i = getD l i zeroRec
 
 -- ---- in words
 
+abbrev pub recordWords : ℕ
+recordWords = 5
+
 abbrev pub wordsOf : EmbeddedType → Words
 wordsOf e = e .typ .0 ∷ e .parent ∷ e .place ∷ bit (e .indirect) ∷ bit (e .multiples) ∷ []
 

@@ -6,7 +6,7 @@ ghost use lib.ListN.{length, set};
 ghost use lib.Seq.{sets};
 ghost use Rattle.objects.specs.Table.{bit};
 ghost use Rattle.objects.specs.Rows.{wordAt};
-ghost use Rattle.multiples.specs.Records.{marked, recAt, recOf, wordsOf};
+ghost use Rattle.multiples.specs.Records.{marked, recAt, recordWords, recOf, wordsOf};
 use objects::TypeKey;
 use objects::rows::word;
 
@@ -31,11 +31,10 @@ pub fn consolidate_multiples(level: &mut [EmbeddedType], i: usize)
 }
 
 // A row of one record is lent to it.
-fn marked_row(mut row: [EmbeddedType; 1], i: usize) -> [EmbeddedType; 1]
-    requires { ⌜ i < 1 ⌝ }
-    ensures { λ r. ⌜ r ≡ set row i (marked (recAt row i)) ⌝ }
+fn marked_row(mut row: [EmbeddedType; 1]) -> [EmbeddedType; 1]
+    ensures { λ r. ⌜ r ≡ set row 0 (marked (recAt row 0)) ⌝ }
 {
-    consolidate_multiples(&mut row, i);
+    consolidate_multiples(&mut row, 0);
     row
 }
 
@@ -43,13 +42,13 @@ pub fn mark_one(e: EmbeddedType) -> EmbeddedType
     ensures { λ r. ⌜ r ≡ marked e ⌝ }
 {
     let row = [e];
-    let out = marked_row(row, 0);
+    let out = marked_row(row);
     out[0]
 }
 
 // ---- records in lent words
 
-// The record in the five words from a place on. A word that is not there reads as 0.
+// The record in the words from a place on. A word that is not there reads as 0.
 pub fn load(work: &[u32], at: usize) -> EmbeddedType
     ensures { λ r. ⌜ r ≡ recOf (now (work .entry)) at ⌝ }
 {
@@ -79,7 +78,7 @@ fn bit_of(b: bool) -> u32
 }
 
 pub fn save(work: &mut [u32], at: usize, e: EmbeddedType)
-    requires { ⌜ at + 5 ≤ length (now work) ⌝ }
+    requires { ⌜ at + recordWords ≤ length (now work) ⌝ }
     ensures { λ _. ⌜ now (work .exit) ≡ sets (now (work .entry)) at (wordsOf e) ⌝ }
 {
     work[at] = e.typ.0;
@@ -89,9 +88,10 @@ pub fn save(work: &mut [u32], at: usize, e: EmbeddedType)
     work[at + 4] = bit_of(e.multiples);
 }
 
-// The mark of a record in lent words: its last word is 1, and every other word is as it was.
+// The mark of a record in lent words, through a lent row of one: its last word is 1, and every other word is as it was. The word before the last, which
+// says whether a pointer was removed, is saved again as 0 or 1, so it is one of them before.
 pub fn mark_at(work: &mut [u32], at: usize)
-    requires { ⌜ (at + 5 ≤ length (now work)) × (wordAt (now work) (at + 3) ≤ 1) ⌝ }
+    requires { ⌜ (at + recordWords ≤ length (now work)) × (wordAt (now work) (at + 3) ≤ 1) ⌝ }
     ensures { λ _. ⌜ now (work .exit) ≡ set (now (work .entry)) (at + 4) 1 ⌝ }
 {
     let e = load(work, at);
