@@ -7,3 +7,5 @@ pub mod Extra
 pub mod Bridge
 pub mod LevelTest
 pub mod AllWays
+pub mod MethodSets
+pub mod GivenWays
