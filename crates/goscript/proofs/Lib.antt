@@ -1,0 +1,5 @@
+pub mod Consolidating
+pub mod Scans
+pub mod ScanLevels
+pub mod LookupSame
+pub mod LookupIs

@@ -1,0 +1,2 @@
+pub mod Consolidate
+pub mod Lookup
