@@ -1,7 +1,9 @@
--- Laws of conjunction and of equality of Booleans, beside those of ListLaws.
+-- Laws of conjunction, of two and of a list, and of equality of Booleans, beside those of ListLaws and PartLaws.
 use mathlib.Core.Path.{_≡_, refl, sym}
 use mathlib.Core.Bool.{Bool, true, false, _&&_, Bool·beq}
+use mathlib.Core.List.{List, [], _∷_}
 use mathlib.Core.Logic.{_⊎_, inl, inr}
+use Rattle.objects.specs.Lists.{every, In}
 use Rattle.objects.proofs.ListLaws.{clash}
 
 pub and-i : {a b : Bool} → a ≡ true → b ≡ true → a && b ≡ true
@@ -10,6 +12,10 @@ and-i p q = rw p q
 pub and-no : (a b : Bool) → a && b ≡ false → (a ≡ false) ⊎ (b ≡ false)
 and-no true b h = inr h
 and-no false b h = inl refl
+
+pub every-from : {A : Type 0} (p : A → Bool) (l : List A) → ((x : A) → In x l → p x ≡ true) → every p l ≡ true
+every-from p [] h = refl
+every-from p (x ∷ xs) h = and-i (h x (inl refl)) (every-from p xs (λ y i. h y (inr i)))
 
 -- two tests that imply each other are one
 pub iff-eq : (a b : Bool) → (a ≡ true → b ≡ true) → (b ≡ true → a ≡ true) → a ≡ b

@@ -9,3 +9,5 @@ pub mod LevelTest
 pub mod AllWays
 pub mod MethodSets
 pub mod GivenWays
+pub mod TableLaws
+pub mod Selects

@@ -37,7 +37,7 @@ Before [] (y ∷ ys) = Unit {0}
 Before (x ∷ xs) [] = ⊥
 Before (x ∷ xs) (y ∷ ys) = (x < y) ⊎ ((x ≡ y) × Before xs ys)
 
-before-snoc : (p q : List ℕ) (i j : ℕ) → length p ≡ length q → Before p q → Before (p ++ (i ∷ [])) (q ++ (j ∷ []))
+pub before-snoc : (p q : List ℕ) (i j : ℕ) → length p ≡ length q → Before p q → Before (p ++ (i ∷ [])) (q ++ (j ∷ []))
 before-snoc [] [] i j e b = absurd b
 before-snoc [] (y ∷ q) i j e b = absurd (omega arith)
 before-snoc (x ∷ p) [] i j e b = absurd b
