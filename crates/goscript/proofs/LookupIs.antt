@@ -1,4 +1,4 @@
--- `lookup_field_or_method` gives the rules' S: on every table whose graph has the laws of identity, for every type of it, name and a.
+-- `lookup_field_or_method` gives the rules' S: on every sound table, for every type of it, name and a.
 use mathlib.Core.Path.{_≡_, refl, sym, ap, _∙_, subst}
 use mathlib.Core.Bool.{Bool, true, false, cond, not, _&&_, _||_}
 use mathlib.Core.List.{List, [], _∷_}
@@ -8,8 +8,12 @@ use Rattle.objects.specs.Lists.{flat, In}
 use Rattle.objects.proofs.ListLaws.{cases, clash, or-true, In-flat, In-map, and-r}
 use Rattle.text.specs.Bytes.{isBlank}
 use Rattle.objects.specs.declared.TypeKey.{TypeKey}
-use Rattle.objects.specs.Table.{Table, size, kindNumber, hasPtr, isNamed, isPointer, kindAt, under, bare, pointerAt, ifaceUnder, namedPointer}
+use Rattle.objects.specs.Table.{Table, size, Member, Named, kindNumber, hasPtr, isNamed, isPointer, kindAt, under, bare, pointerAt, ifaceUnder, namedPointer}
+use Rattle.objects.proofs.KindLaws.{named-is, under-plain, under-named}
 use Rattle.rules.specs.Members.{Identity}
+use Rattle.rules.specs.Sound.{Sound}
+use Rattle.rules.proofs.IdentityLaws.{identical-parts}
+use Rattle.ways.proofs.TableLaws.{closed, lawful, keyed, bare-in}
 use Rattle.rules.specs.Identity.{identical}
 use Rattle.rules.specs.Ways.{Walk, Way, memberOf, Selected, notfound, single, noMethod, start, judged, shortest, searched, select}
 use Rattle.ways.specs.Graph as over
@@ -76,3 +80,34 @@ module _ (T : Table) (law : Lawful (graph T)) (closed : Closed (graph T)) (kinds
     searched-pointer : pointerAt T t ≡ true → (a b : Bool) → searched T q t a ≡ searched T q t b
     unfolding searched
     searched-pointer p a b = rw (pointer-flag p a b)
+
+-- ---- every sound table
+
+under-in : (T : Table) → Sound T → (t : TypeKey) → t .0 < size T → under T t .0 < size T
+under-in T sound t h = cases (isNamed (kindAt T t)) (λ e. let n = named-is (kindAt T t) e in named (n .0) (n .1) (n .2)) (λ e. rw (under-plain T t e) h)
+  where
+    named : (u : TypeKey) (ms : List Member) → kindAt T t ≡ Named u ms → under T t .0 < size T
+    named u ms e = rw (under-named T t u ms e) (sound .refers t u (rw e (inl refl)))
+
+module _ (T : Table) (sound : Sound T) (q : Identity) (t : TypeKey) (in0 : t .0 < size T) (a : Bool) (k : ℕ) (le : size T ≤ k) where
+  kinds : (x y : TypeKey) → identical T x y ≡ true → kindNumber (kindAt T x) ≡ kindNumber (kindAt T y)
+  kinds x y h = identical-parts T sound x y .0 h .kinds
+
+  impl-at : isBlank (q .name) ≡ false → (u : TypeKey) → u .0 < size T → (b : Bool) → lookupImpl T q k u b ≡ searched T q u b
+  impl-at real u h b = impl-is T (lawful T sound) (closed T sound) kinds q real (keyed T sound q real) u (bare-in T sound u h) b k le
+
+  through-pointer : isBlank (q .name) ≡ false → namedPointer T t ≡ true → lookupImpl T q k (under T t) false ≡ searched T q (under T t) a
+  unfolding namedPointer pointerAt
+  through-pointer real n =
+      impl-at real (under T t) (under-in T sound t in0) false
+      ∙ searched-pointer T (lawful T sound) (closed T sound) kinds q real (keyed T sound q real) (under T t) (bare-in T sound (under T t) (under-in T sound t in0)) (and-r (isNamed (kindAt T t)) (isPointer (kindAt T (under T t))) n) false a
+
+  -- GOSCRIPT'S LOOKUP GIVES WHAT S SAYS, after as many turns of its while as there are types and after any more.
+  pub lookup-is-goscript : lookupFieldOrMethod T q k t a ≡ select T q t a
+  unfolding select
+  lookup-is-goscript =
+      cases (isBlank (q .name))
+      (λ e. cases (namedPointer T t) (λ n. rw (e, n)) (λ n. rw (e, n)))
+      (λ e. cases (namedPointer T t)
+      (λ n. rw n (ap noMethod (through-pointer e n) ∙ rw e))
+      (λ n. rw n (impl-at e t in0 a ∙ rw e)))

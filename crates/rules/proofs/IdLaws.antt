@@ -4,13 +4,13 @@ use mathlib.Core.Bool.{Bool, true, false, cond, not, _&&_}
 use mathlib.Core.List.{List, [], _∷_, _++_, append-assoc, tail}
 use mathlib.Core.Logic.{_⊎_, inl, inr}
 use mathlib.Core.Option.{Option, none, some}
-use Prim.Native.Nat.{ℕ, zero, suc, _<_}
-use native.Mathlib.Omega.{arith}
+use Prim.Native.Nat.{ℕ}
 use lib.Dec.{ltb}
 use lib.ListN.{length, getD}
 use borrow.Author.Tests.{ltb-true}
 use Rattle.objects.specs.Lists.{Bytes, every, In, headOr}
 use Rattle.objects.proofs.ListLaws.{cases, clash, and-l, and-r, In-append-r}
+use Rattle.objects.proofs.PartLaws.{every-In, getD-In}
 use Rattle.objects.specs.declared.TypeKey.{TypeKey}
 use Rattle.objects.specs.declared.PackageKey.{PackageKey}
 use Rattle.objects.specs.Table.{Table, Member, hasPackage, pathOf}
@@ -30,10 +30,6 @@ pub record Proper (a : Identity) : Type 0 where
 
 abbrev dot : ℕ
 dot = 46
-
-pub every-In : (p : ℕ → Bool) (l : Bytes) (x : ℕ) → every p l ≡ true → In x l → p x ≡ true
-every-In p (y ∷ ys) x h (inl e) = rw e (and-l (p y) (every p ys) h)
-every-In p (y ∷ ys) x h (inr i) = every-In p ys x (and-r (p y) (every p ys) h) i
 
 name-dotless : (s : Bytes) → isName s ≡ true → In dot s → ⊥
 unfolding isName
@@ -94,11 +90,6 @@ id-injective a b pa pb h =
     both n p = ap₂ (λ (n : Bytes) (p : Option Bytes). record { name = n; path = p }) n p
 
 -- ---- a table's members
-
-pub getD-In : {A : Type 0} (l : List A) (n : ℕ) (d : A) → n < length l → In (getD l n d) l
-getD-In [] n d h = absurd (omega arith)
-getD-In (x ∷ l) zero d h = inl refl
-getD-In (x ∷ l) (suc n) d h = inr (getD-In l n d (omega arith))
 
 module _ (T : Table) (sound : Sound T) where
   paths-are : (pkg : Option PackageKey) → hasPackage T pkg ≡ true → (p : Bytes) → pathOf T pkg ≡ some p → isPath p ≡ true

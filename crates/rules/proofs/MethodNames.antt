@@ -9,6 +9,7 @@ use native.Mathlib.Decide.{decLt}
 use lib.ListN.{length, getD, List·getD-eq-default}
 use Rattle.objects.specs.Lists.{keep, flat, In, Sorted}
 use Rattle.objects.proofs.ListLaws.{cases, clash, either, In-keep, In-map, In-flat, map-In-to, flat-In-to, keep-In-to}
+use Rattle.objects.proofs.PartLaws.{getD-In}
 use Rattle.objects.specs.declared.TypeKey.{TypeKey}
 use Rattle.objects.specs.Table.{Table, typeKey, Member, Kind, Basic, isMethod, membersOf, kindAt}
 use Rattle.text.specs.Bytes.{belowBytes}
@@ -17,7 +18,7 @@ use Rattle.rules.specs.Members.{Identity, identityOf, sameId, idBytes}
 use Rattle.rules.specs.MethodSet.{insert, ascending, methodNames}
 use Rattle.rules.specs.Sound.{Sound, MemberOf}
 use Rattle.rules.proofs.MemberLaws.{sameId-true, sameId-self}
-use Rattle.rules.proofs.IdLaws.{Proper, id-injective, member-proper, getD-In}
+use Rattle.rules.proofs.IdLaws.{Proper, id-injective, member-proper}
 
 -- a comes before b
 abbrev pub Lower : Identity → Identity → Type 0
