@@ -3,3 +3,5 @@ pub mod Scans
 pub mod ScanLevels
 pub mod LookupSame
 pub mod LookupIs
+pub mod MapLaws
+pub mod Visits

@@ -55,7 +55,7 @@ module _ (T : Table) (law : Lawful (graph T)) where
   unlike r x false seen h = refl
 
   -- a type that is visited does not make others of its level known
-  kept-on : (r : EmbeddedType) (seen : List TypeKey) (L : List EmbeddedType) → any (twin (graph T) r) L ≡ false → kept T (sawNamed T r seen) L ≡ kept T seen L
+  pub kept-on : (r : EmbeddedType) (seen : List TypeKey) (L : List EmbeddedType) → any (twin (graph T) r) L ≡ false → kept T (sawNamed T r seen) L ≡ kept T seen L
   kept-on r seen L h =
       keep-In-ext _ _ L (λ x i. rw (unlike r x (isNamed (kindAt T (at r))) seen (none-In (twin (graph T) r) L x h i)))
 

@@ -19,6 +19,10 @@ use Rattle.ways.specs.OfTable.{graph, stepOf}
 use Rattle.ways.proofs.Same.{One}
 use Rattle.goscript.specs.Lookup.{Scan, Turn, returned, going, isNone, wayOf, onFound, ifFound, searchable, matches, firstMatch, lookupMethod, pushes, embed, pushed, visitField, visitUnder, saw, visit}
 
+-- no struct is an interface
+pub not-both : (k : Kind) → isStruct k ≡ true → isIface k ≡ false
+not-both k e = rw (eqb-true (kindNumber k) 8 e)
+
 module _ (T : Table) (q : Identity) where
   -- ---- the first match of a list
 
@@ -78,9 +82,6 @@ module _ (T : Table) (q : Identity) where
         (λ e. rw e (fields-hit fs (pushed T q et st f) (rw e at h) (rw e at o)))
 
   -- ---- the type itself, or what lies under a named one
-
-  not-both : (k : Kind) → isStruct k ≡ true → isIface k ≡ false
-  not-both k e = rw (eqb-true (kindNumber k) 8 e)
 
   module _ (et : EmbeddedType) (real : isBlank (q .name) ≡ false) where
     under-miss : (k : Kind) (st : Scan) → any (matches T q) (placesFrom 0 (fieldsOf k)) ≡ false → any (matches T q) (placesFrom 0 (allMethodsOf k)) ≡ false

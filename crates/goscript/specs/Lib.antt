@@ -1,2 +1,4 @@
 pub mod Consolidate
 pub mod Lookup
+pub mod Maps
+pub mod MethodSets
