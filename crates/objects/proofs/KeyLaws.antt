@@ -13,12 +13,3 @@ same-key t u e = key-eq t u (eqb-true (t .0) (u .0) e)
 
 pub same-self : (t : TypeKey) → sameType t t ≡ true
 same-self t = eq-eqb (t .0) (t .0) refl
-
-pub type-key : (t u : TypeKey) → t .0 ≡ u .0 → t ≡ u
-type-key = key-eq
-
-pub sameType-true : (t u : TypeKey) → sameType t u ≡ true → t ≡ u
-sameType-true = same-key
-
-pub sameType-self : (t : TypeKey) → sameType t t ≡ true
-sameType-self = same-self

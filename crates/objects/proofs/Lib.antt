@@ -1,8 +1,13 @@
 pub mod ListLaws
-pub mod Pigeons
-pub mod PartLaws
 pub mod BoolLaws
 pub mod PairLaws
-pub mod KeyLaws
-pub mod KindLaws
+pub mod Pigeons
 pub mod Settle
+pub mod KeyLaws
+pub mod PartLaws
+pub mod KindLaws
+pub mod Reading
+pub mod Numbers
+pub mod RowLaws
+pub mod Stores
+pub mod Keeping

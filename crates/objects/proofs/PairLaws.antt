@@ -1,7 +1,7 @@
 -- Two lists side by side: what holds of each two that stand at the same place, with nothing left over.
 use mathlib.Core.Path.{_≡_, refl, sym, ap, subst}
 use mathlib.Core.List.{List, [], _∷_}
-use mathlib.Core.Logic.{_⊎_, inl, inr}
+use mathlib.Core.Logic.{inl, inr}
 use Prim.Native.Nat.{suc}
 use lib.ListN.{length}
 use Rattle.objects.specs.Lists.{In}

@@ -1,13 +1,15 @@
 -- Laws of the parts of a list: what stands before a member, the last, places, and lists in order (specs/Lists.antt).
-use mathlib.Core.Path.{_≡_, refl, sym, ap, ap₂, _∙_, subst}
-use mathlib.Core.Bool.{Bool, true, false, _&&_}
+use mathlib.Core.Path.{_≡_, refl, sym, ap, _∙_}
+use mathlib.Core.Bool.{Bool, true}
 use mathlib.Core.List.{List, [], _∷_, _++_, append-assoc, append-nil, cons≢nil}
 use mathlib.Core.Logic.{_⊎_, inl, inr}
 use Prim.Native.Nat.{ℕ, zero, suc, _<_, _≤_}
 use native.Mathlib.Omega.{arith}
+use lib.Dec.{ltb}
 use lib.ListN.{length, getD}
+use borrow.Author.Tests.{ltb-true}
 use Rattle.objects.specs.Lists.{every, lastOr, lastOf, onLast, flat, In, Sorted}
-use Rattle.objects.proofs.ListLaws.{clash, and-l, and-r, either}
+use Rattle.objects.proofs.ListLaws.{and-l, and-r, either}
 
 module _ {A : Type 0} where
   pub every-In : (p : A → Bool) (l : List A) (x : A) → every p l ≡ true → In x l → p x ≡ true
@@ -47,12 +49,31 @@ module _ {A : Type 0} where
       first rest x (inl e) = rw e next
       first rest x (inr i) = trans y z x next (rest x i)
 
+  -- ---- one more at the end
+
+  pub all-snoc : (P : A → Type 0) (l : List A) (y : A) → ((x : A) → In x l → P x) → P y → (x : A) → In x (l ++ (y ∷ [])) → P x
+  all-snoc P [] y h k x (inl e) = rw e k
+  all-snoc P (z ∷ l) y h k x (inl e) = h x (inl e)
+  all-snoc P (z ∷ l) y h k x (inr i) = all-snoc P l y (λ w j. h w (inr j)) k x i
+
+  pub length-snoc : (l : List A) (y : A) → length (l ++ (y ∷ [])) ≡ suc (length l)
+  length-snoc [] y = refl
+  length-snoc (x ∷ l) y = ap suc (length-snoc l y)
+
+  pub few-snoc : (l : List A) (y : A) (max : ℕ) → ltb (length l) max ≡ true → length (l ++ (y ∷ [])) ≤ max
+  few-snoc l y max h = rw (length-snoc l y) (ltb-true (length l) max h)
+
   -- ---- places
 
   pub getD-In : (l : List A) (n : ℕ) (d : A) → n < length l → In (getD l n d) l
   getD-In [] n d h = absurd (omega arith)
   getD-In (x ∷ xs) zero d h = inl refl
   getD-In (x ∷ xs) (suc n) d h = inr (getD-In xs n d (omega arith))
+
+  pub getD-all : (P : A → Type 0) (l : List A) (n : ℕ) (d : A) → ((x : A) → In x l → P x) → P d → P (getD l n d)
+  getD-all P [] n d h k = k
+  getD-all P (x ∷ xs) zero d h k = h x (inl refl)
+  getD-all P (x ∷ xs) (suc n) d h k = getD-all P xs n d (λ y i. h y (inr i)) k
 
   -- ---- the last
 

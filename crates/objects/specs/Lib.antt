@@ -2,3 +2,5 @@ pub mod Bounds
 pub mod Lists
 pub mod Table
 pub mod Rows
+pub mod Types
+pub mod Laid

@@ -1,5 +1,7 @@
-// The keys of a type table, as goscript's objects.rs has them, and the direction of a channel. A type number, a member number and a package number
-// are each a kind of their own, so that none is read as another.
+// The keys of a type table, as goscript's objects.rs has them, the direction of a channel, and what a type's row says. A type number, a member number
+// and a package number are each a kind of their own, so that none is read as another.
+
+pub mod rows; // the readers of a loaded table
 
 pub struct TypeKey(pub u32);
 
@@ -12,4 +14,19 @@ pub enum Dir {
     Both,
     Send,
     Receive,
+}
+
+// The eleven kinds, in the order of document 01. Members and elements of a tuple are said by the first and their count.
+pub enum Type {
+    Basic(u32),
+    Array(u32, TypeKey),
+    Slice(TypeKey),
+    Pointer(TypeKey),
+    Map(TypeKey, TypeKey),
+    Chan(Dir, TypeKey),
+    Tuple(u32, u32),
+    Func(bool, TypeKey, TypeKey),
+    Struct(u32, u32),
+    Iface(u32, u32),
+    Named(TypeKey, u32, u32),
 }

@@ -12,7 +12,7 @@ use Rattle.objects.specs.declared.TypeKey.{TypeKey}
 use Rattle.objects.specs.Table.{sameType}
 use Rattle.objects.proofs.ListLaws.{cases, clash, either, none-In, some-In, In-keep, In-append, In-append-l, In-append-r, In-map}
 use Rattle.objects.proofs.Pigeons.{Distinct, pigeons}
-use Rattle.objects.proofs.KeyLaws.{type-key, sameType-true, sameType-self}
+use Rattle.objects.proofs.KeyLaws.{key-eq, same-key, same-self}
 use Rattle.rules.specs.Chains.{without, leads, Chain, here, there}
 
 -- a chain from one of the list
@@ -163,10 +163,10 @@ module _ {N : ℕ} {A : Type 0} {same : A → A → Bool} {next : A → List A} 
 -- `leads-iff` at types: steps lead to types that the table has
 pub types-few : (N : ℕ) (next : TypeKey → List TypeKey) → ((x y : TypeKey) → In y (next x) → y .0 < N) → AtMost N sameType next (λ t. t .0 < N)
 types-few N next inside = record {
-  equal = sameType-true;
-  self = sameType-self;
+  equal = same-key;
+  self = same-self;
   closed = λ x y h i. inside x y i;
   number = λ t. t .0;
   below = λ t h. h;
-  one = λ t u h k e. type-key t u e;
+  one = λ t u h k e. key-eq t u e;
 }

@@ -1,29 +1,29 @@
 -- IDENTITY (I): `identical` is the paper's sentence, "yes unless some finite chain of corresponding parts reaches a mismatch", whatever the chain's length
 -- (`identical-chain`); it holds exactly if two types agree at every number of steps (`identical-steps`); it is an equivalence; and it is one step of
 -- itself (`identical-parts`, `identical-step`). For every key of a sound table, also for one that the table lacks.
-use mathlib.Core.Path.{_≡_, refl, sym, ap, ap₂, _∙_}
-use mathlib.Core.Bool.{Bool, true, false, not}
-use mathlib.Core.List.{List, [], _∷_, _++_, map}
+use mathlib.Core.Path.{_≡_, refl, sym, ap₂}
+use mathlib.Core.Bool.{Bool, true, false}
+use mathlib.Core.List.{List, [], _∷_}
 use mathlib.Core.Logic.{_⊎_, inl, inr, _↔_}
-use Prim.Native.Nat.{ℕ, zero, suc, _+_, _*_, _≤_, _<_}
+use Prim.Native.Nat.{ℕ, zero, suc, _+_, _*_, _<_}
 use native.Mathlib.Omega.{arith}
 use native.Mathlib.Decide.{decLt}
 use native.Mathlib.Nat.{suc-mul, mul-le-mul-right}
-use borrow.Author.Tests.{not-true, not-false}
+use borrow.Author.Tests.{not-false}
 use Rattle.objects.specs.Lists.{In}
 use Rattle.objects.specs.declared.TypeKey.{TypeKey}
 use Rattle.objects.specs.Table.{Table, size, sameType, kindAt}
 use Rattle.objects.proofs.ListLaws.{cases, clash, and-l, and-r}
 use Rattle.objects.proofs.BoolLaws.{and-i, iff-eq}
 use Rattle.objects.proofs.PairLaws.{AllPairs}
-use Rattle.objects.proofs.KeyLaws.{type-key, sameType-true, sameType-self}
+use Rattle.objects.proofs.KeyLaws.{key-eq, same-key, same-self as type-self}
 use Rattle.rules.specs.Chains.{leads, Chain, here, there}
-use Rattle.rules.specs.Identity.{realType, ownNumber, parts, Pair, samePair, corresponding, mismatched, mismatch, pairParts, identical}
+use Rattle.rules.specs.Identity.{realType, ownNumber, parts, Pair, samePair, corresponding, mismatch, pairParts, identical}
 use Rattle.rules.specs.StepIdentity.{sameStep, sameIn}
 use Rattle.rules.specs.Sound.{Sound}
 use Rattle.rules.proofs.RangeLaws.{kind-out, part-in}
 use Rattle.rules.proofs.ChainLaws.{AtMost, leads-sound, leads-iff}
-use Rattle.rules.proofs.StepLaws.{Holds, Agree, AgreeKinds, step-agree, agree-map, same-zero, same-split, same-join, same-self, same-turn, same-trans, corr-from, Differ, chain-false, false-chain}
+use Rattle.rules.proofs.StepLaws.{Holds, Agree, step-agree, agree-map, same-zero, same-split, same-join, same-self, same-turn, same-trans, corr-from, chain-false, false-chain}
 
 abbrev pub pair : TypeKey → TypeKey → Pair
 pair x y = record { left = x; right = y }
@@ -32,7 +32,7 @@ pair x y = record { left = x; right = y }
 
 samePair-true : (p q : Pair) → samePair p q ≡ true → p ≡ q
 samePair-true p q h =
-    ap₂ pair (sameType-true (p .left) (q .left) (and-l (sameType (p .left) (q .left)) (sameType (p .right) (q .right)) h)) (sameType-true (p .right) (q .right) (and-r (sameType (p .left) (q .left)) (sameType (p .right) (q .right)) h))
+    ap₂ pair (same-key (p .left) (q .left) (and-l (sameType (p .left) (q .left)) (sameType (p .right) (q .right)) h)) (same-key (p .right) (q .right) (and-r (sameType (p .left) (q .left)) (sameType (p .right) (q .right)) h))
 
 -- a number in base n has one first digit
 high : (n a b c d : ℕ) → b < n → a * n + b ≡ c * n + d → a < c → ⊥
@@ -53,11 +53,11 @@ pairs-few : (T : Table) → Sound T → AtMost (size T * size T) samePair (pairP
 unfolding pairParts
 pairs-few T s = record {
   equal = samePair-true;
-  self = λ p. and-i (sameType-self (p .left)) (sameType-self (p .right));
+  self = λ p. and-i (type-self (p .left)) (type-self (p .right));
   closed = λ p q h i. let r = corr-from (parts (kindAt T (p .left))) (parts (kindAt T (p .right))) q i in (part-in T s (p .left) (q .left) (r .0), part-in T s (p .right) (q .right) (r .1));
   number = λ p. p .left .0 * size T + p .right .0;
   below = λ p h. fits (size T) (p .left .0) (p .right .0) (h .0) (h .1);
-  one = λ p q h k e. let d = digits (size T) (p .left .0) (p .right .0) (q .left .0) (q .right .0) (h .1) (k .1) e in ap₂ pair (type-key (p .left) (q .left) (d .0)) (type-key (p .right) (q .right) (d .1));
+  one = λ p q h k e. let d = digits (size T) (p .left .0) (p .right .0) (q .left .0) (q .right .0) (h .1) (k .1) e in ap₂ pair (key-eq (p .left) (q .left) (d .0)) (key-eq (p .right) (q .right) (d .1));
 }
 
 -- ---- keys that the table lacks

@@ -1,6 +1,6 @@
 -- Laws of the identity of members (specs/Members.antt, specs/Identity.antt): the test is equality, for an identity holds no more than what counts.
-use mathlib.Core.Path.{_≡_, refl, ap, ap₂, subst}
-use mathlib.Core.Bool.{Bool, true, false, _&&_, Bool·beq}
+use mathlib.Core.Path.{_≡_, refl, ap, ap₂}
+use mathlib.Core.Bool.{true, _&&_, Bool·beq}
 use mathlib.Core.List.{List, [], _∷_}
 use mathlib.Core.Option.{Option, none, some}
 use Rattle.objects.specs.Lists.{Bytes}

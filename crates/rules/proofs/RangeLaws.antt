@@ -1,13 +1,13 @@
 -- What the lines of a sound table refer to is in the table; a key that the table lacks counts as `T basic 0`.
-use mathlib.Core.Path.{_≡_, refl}
-use mathlib.Core.Bool.{Bool, true, false, cond, _||_}
-use mathlib.Core.List.{List, [], _∷_, _++_, map}
-use Prim.Native.Nat.{ℕ, _<_}
+use mathlib.Core.Path.{_≡_}
+use mathlib.Core.Bool.{_||_}
+use mathlib.Core.List.{[], map}
+use Prim.Native.Nat.{_<_}
 use native.Mathlib.Omega.{arith}
 use lib.ListN.{List·getD-eq-default}
 use Rattle.objects.specs.Lists.{In}
 use Rattle.objects.specs.declared.TypeKey.{TypeKey}
-use Rattle.objects.specs.Table.{Table, size, Member, Kind, Basic, isArray, isStruct, isNamed, refs, membersOf, fieldsOf, byValue, kindAt}
+use Rattle.objects.specs.Table.{Table, size, Member, Basic, isArray, isStruct, isNamed, refs, membersOf, byValue, kindAt}
 use Rattle.objects.proofs.ListLaws.{cases, either, In-append, In-map}
 use Rattle.rules.specs.Identity.{parts}
 use Rattle.rules.specs.Sound.{Sound}

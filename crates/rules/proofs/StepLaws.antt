@@ -1,20 +1,20 @@
 -- Laws of identity step by step (specs/StepIdentity.antt): one step unfolded (`Agree`), an equivalence at every number of steps, and what it has to do
 -- with chains of corresponding parts. All on every key: what the table lacks counts as `T basic 0`.
 use mathlib.Core.Path.{_≡_, refl, sym, ap, _∙_}
-use mathlib.Core.Bool.{Bool, true, false, cond, not, _&&_, _||_}
-use mathlib.Core.List.{List, [], _∷_, _++_, map}
+use mathlib.Core.Bool.{Bool, true, false, cond, _&&_, _||_}
+use mathlib.Core.List.{List, [], _∷_}
 use mathlib.Core.Logic.{_⊎_, inl, inr, _↔_}
 use Prim.Native.Nat.{ℕ, zero, suc, _+_}
 use native.Mathlib.Omega.{arith}
 use lib.Dec.{eqb}
 use lib.ListN.{length, length-map}
-use borrow.Author.Tests.{eqb-true, eqb-false, eq-eqb, not-true, not-false}
+use borrow.Author.Tests.{eqb-true, eq-eqb}
 use Rattle.objects.specs.Lists.{In}
 use Rattle.objects.specs.declared.TypeKey.{TypeKey}
-use Rattle.objects.specs.Table.{Table, Member, Kind, Basic, Array, Slice, Pointer, Map, Chan, Tuple, Func, Struct, Iface, Named, kindNumber, membersOf, kindAt}
+use Rattle.objects.specs.Table.{Table, Kind, Basic, Array, Slice, Pointer, Map, Chan, Tuple, Func, Struct, Iface, Named, kindNumber, membersOf, kindAt}
 use Rattle.objects.proofs.ListLaws.{cases, clash, either, and-l, and-r}
-use Rattle.objects.proofs.BoolLaws.{and-i, and-no, iff-eq, false-of}
-use Rattle.objects.proofs.PairLaws.{AllPairs, pairs-map, pairs-self, pairs-turn, pairs-trans, pairs-long}
+use Rattle.objects.proofs.BoolLaws.{and-i, and-no, false-of}
+use Rattle.objects.proofs.PairLaws.{AllPairs, pairs-map, pairs-self, pairs-turn, pairs-trans}
 use Rattle.rules.specs.Chains.{Chain, here, there}
 use Rattle.rules.specs.Identity.{ownNumber, parts, Pair, corresponding, alike, mismatched, mismatch, pairParts}
 use Rattle.rules.specs.StepIdentity.{pairwise, stepKinds, sameStep, sameIn}
@@ -50,7 +50,7 @@ Agree T R x y = AgreeKinds T R x (kindAt T x) y (kindAt T y)
 
 module _ (T : Table) where
   -- what a pair that is no mismatch has in common
-  abbrev Matched : TypeKey → Kind → TypeKey → Kind → Type 0
+  abbrev pub Matched : TypeKey → Kind → TypeKey → Kind → Type 0
   Matched x k y l = (kindNumber k ≡ kindNumber l) × (ownNumber x k ≡ ownNumber y l) × AllPairs (Alike T) (membersOf k) (membersOf l)
 
   pub matched : (x y : TypeKey) (k l : Kind) → eqb (kindNumber k) (kindNumber l) && eqb (ownNumber x k) (ownNumber y l) && alike T (membersOf k) (membersOf l) ≡ true → Matched x k y l

@@ -5,6 +5,8 @@ pub mod Identity
 pub mod StepIdentity
 pub mod Checks
 pub mod Load
+pub mod Stages
+pub mod Library
 pub mod Sound
 pub mod Comparable
 pub mod Ways
@@ -16,3 +18,5 @@ pub mod Asked
 pub mod Typeask
 pub mod Rows
 pub mod Worked
+pub mod Refusals
+pub mod Traps

@@ -59,10 +59,15 @@ case table question due = record { table = table; question = spaced question; du
 abbrev pub buffer : Bytes
 buffer = replicate 32 46
 
+-- the call, with all that it takes
+unfoldable pub calling : Bytes → Bytes → Bytes → List ℕ → Asked
+unfolding opened
+calling table question answer work = asked table question answer work
+
 -- all that the call gives: number, buffer, work area
 unfoldable pub called : Case → Asked
-unfolding opened
-called c = asked (c .table) (c .question) buffer (replicate workWords 7)
+unfolding calling
+called c = calling (c .table) (c .question) buffer (replicate workWords 7)
 
 -- what is due: the answer's length, the answer in front of what is left of the buffer, a clear work area
 unfoldable pub owed : Case → Asked

@@ -37,6 +37,11 @@ Before [] (y ∷ ys) = Unit {0}
 Before (x ∷ xs) [] = ⊥
 Before (x ∷ xs) (y ∷ ys) = (x < y) ⊎ ((x ≡ y) × Before xs ys)
 
+pub before-irrefl : (p : List ℕ) → Before p p → ⊥
+before-irrefl [] b = b
+before-irrefl (x ∷ p) (inl h) = omega arith
+before-irrefl (x ∷ p) (inr h) = before-irrefl p (h .1)
+
 pub before-snoc : (p q : List ℕ) (i j : ℕ) → length p ≡ length q → Before p q → Before (p ++ (i ∷ [])) (q ++ (j ∷ []))
 before-snoc [] [] i j e b = absurd b
 before-snoc [] (y ∷ q) i j e b = absurd (omega arith)

@@ -1,19 +1,22 @@
 -- What S searches, without its bound: the rules' shortest ways are those of the least length that has any, among all lengths, or there is no way at all.
 use mathlib.Core.Path.{_≡_, refl, sym, ap, _∙_}
 use mathlib.Core.Bool.{Bool, true, false, cond, _&&_}
-use mathlib.Core.List.{List, []}
+use mathlib.Core.List.{[]}
 use mathlib.Core.Logic.{_⊎_, inl, inr}
 use Prim.Native.Nat.{ℕ, _<_}
 use Rattle.objects.specs.declared.TypeKey.{TypeKey}
-use Rattle.objects.specs.Table.{Table, size, bare, pointerAt, ifaceUnder}
+use Rattle.objects.specs.Lists.{any}
+use Rattle.objects.specs.Table.{Table, size, sameType, isNamed, kindAt, bare, pointerAt, ifaceUnder}
 use Rattle.objects.proofs.ListLaws.{either}
 use Rattle.text.specs.Bytes.{isBlank}
 use Rattle.rules.specs.Members.{Identity}
 use Rattle.rules.specs.Sound.{Sound}
-use Rattle.rules.specs.Ways.{Selected, notfound, judged, ways, shortest, searched, start}
+use Rattle.rules.specs.Ways.{notfound, judged, ways, shortest, searched, start}
 use Rattle.ways.specs.Graph as over
 use Rattle.ways.specs.OfTable.{graph}
-use Rattle.ways.proofs.Least.{Least, least-or-none, shortest-least, shortest-nothing}
+use Rattle.ways.specs.Levels.{lookup}
+use Rattle.ways.proofs.Same.{lookup-is-select, named-skips}
+use Rattle.ways.proofs.Least.{least-or-none, shortest-least, shortest-nothing}
 use Rattle.ways.proofs.Bridge.{ways-are, judged-is}
 use Rattle.ways.proofs.LevelTest.{shortest-are}
 use Rattle.ways.proofs.TableLaws.{lawful, keyed, closed, bare-in}
@@ -59,3 +62,7 @@ module _ (T : Table) (sound : Sound T) (q : Identity) (nb : isBlank (q .name) �
       either-way : (b : Bool) → cond b notfound (judged T a []) ≡ notfound
       either-way true = refl
       either-way false = refl
+
+  -- the search level by level, that leaves out a named type once it was seen, gives what the ways say
+  pub levels-are-ways : (f a : Bool) → lookup (graph T) (λ seen u. isNamed (kindAt T u) && any (λ v. sameType v u) seen) q t f a ≡ over.select (graph T) q t f a
+  levels-are-ways f a = lookup-is-select (graph T) (lawful T sound) (λ seen u. isNamed (kindAt T u) && any (λ v. sameType v u) seen) (named-skips (graph T) (lawful T sound) (λ u. isNamed (kindAt T u))) q (keyed T sound q nb) t f a

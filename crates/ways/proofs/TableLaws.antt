@@ -3,20 +3,18 @@
 use mathlib.Core.Path.{_≡_, refl, sym, ap, ap₂, _∙_, subst}
 use mathlib.Core.Bool.{Bool, true, false, cond, not, _&&_, _||_}
 use mathlib.Core.List.{List, [], _∷_, _++_, map, append-nil}
-use mathlib.Core.Logic.{_⊎_, inl, inr}
-use Prim.Native.Nat.{ℕ, zero, suc, _+_, _≤_, _<_}
+use mathlib.Core.Logic.{inl, inr}
+use Prim.Native.Nat.{ℕ, suc, _+_, _≤_, _<_}
 use native.Mathlib.Omega.{arith}
-use lib.Dec.{eqb}
 use lib.ListN.{length}
-use borrow.Author.Tests.{eqb-true}
-use Rattle.objects.specs.Lists.{any, every, keep, flat, In, Sorted}
-use Rattle.objects.proofs.ListLaws.{cases, clash, either, any-append, keep-append, keep-none, any-none, some-In, In-append, In-keep, In-map, and-l, and-r, or-r}
+use Rattle.objects.specs.Lists.{any, keep, In, Sorted}
+use Rattle.objects.proofs.ListLaws.{cases, clash, either, any-append, keep-append, keep-none, any-none, some-In, In-keep, In-map, and-r}
 use Rattle.objects.proofs.BoolLaws.{iff-eq}
 use Rattle.objects.proofs.PairLaws.{AllPairs}
 use Rattle.objects.proofs.KeyLaws.{key-eq, same-key, same-self}
-use Rattle.objects.proofs.KindLaws.{pointer-is, struct-is, named-is, fields-or-methods, under-plain, under-named, bare-plain, bare-pointer}
+use Rattle.objects.proofs.KindLaws.{if-In, pointer-is, struct-is, named-is, fields-or-methods, under-plain, under-named, bare-plain, bare-pointer}
 use Rattle.objects.specs.declared.TypeKey.{TypeKey}
-use Rattle.objects.specs.Table.{Table, size, sameType, Entity, Field, Method, Member, isEmbedded, Kind, Named, Pointer, Struct, kindNumber, isPointer, isFunc, isStruct, isIface, isNamed, refs, membersOf, fieldsOf, declaredOf, allMethodsOf, allMethods, kindAt, under, bare, pointerAt}
+use Rattle.objects.specs.Table.{Table, size, sameType, Entity, Field, Method, Member, isEmbedded, Kind, Named, Pointer, Struct, kindNumber, isPointer, isFunc, isStruct, isIface, isNamed, membersOf, fieldsOf, declaredOf, allMethodsOf, allMethods, kindAt, under, bare}
 use Rattle.text.specs.Bytes.{isBlank}
 use Rattle.rules.specs.Members.{Identity, identityOf, sameId, sameMember}
 use Rattle.rules.specs.Identity.{identical, ownNumber, parts}
@@ -28,7 +26,7 @@ use Rattle.rules.proofs.MemberLaws.{Alike, sameId-true, sameId-self}
 use Rattle.rules.proofs.StepLaws.{Agree}
 use Rattle.rules.proofs.IdentityLaws.{identical-self, identical-turn, identical-trans, identical-parts}
 use Rattle.ways.specs.Graph as over
-use Rattle.ways.specs.Graph.{Graph, Step, matching}
+use Rattle.ways.specs.Graph.{Step, matching}
 use Rattle.ways.specs.Levels.{raw, found}
 use Rattle.ways.specs.OfTable.{graph, stepOf}
 use Rattle.ways.proofs.Merge.{Lawful}
@@ -66,9 +64,9 @@ placed T t = sorted-keep-map Nearer (λ (a b : Step). a .place < b .place) (step
 
 module _ (T : Table) (sound : Sound T) where
   fields-in : (t : TypeKey) (f : Member) → In f (fieldsOf (kindAt T t)) → In f (membersOf (kindAt T t))
-  fields-in t f i = cases (isStruct (kindAt T t)) (λ e. rw e at i) (λ e. absurd (rw e at i))
+  fields-in t f i = if-In (isStruct (kindAt T t)) (membersOf (kindAt T t)) f i .1
 
-  base-in : (t e : TypeKey) → kindAt T t ≡ Pointer e → e .0 < size T
+  pub base-in : (t e : TypeKey) → kindAt T t ≡ Pointer e → e .0 < size T
   base-in t e h = sound .refers t e (rw h (inl refl))
 
   pub bare-in : (t : TypeKey) → t .0 < size T → bare T t .0 < size T
@@ -134,30 +132,27 @@ module _ (T : Table) where
   apart-if true ms a = a
   apart-if false ms a = tt
 
-  none-if : (b : Bool) (m : Member) (ms : List Member) → In m (cond b ms []) → (b ≡ true) × In m ms
-  none-if true m ms i = (refl, i)
-  none-if false m ms i = absurd i
-
--- a named type that has a method names no interface
 module _ (T : Table) (sound : Sound T) where
-  no-iface : (t u : TypeKey) (ms : List Member) (m : Member) → kindAt T t ≡ Named u ms → In m ms → isIface (kindAt T u) ≡ false
-  no-iface t u ms m k i = go (m .entity) (subst (λ z. stands (m .entity) z ≡ true) k (sound .standing t m (rw k i))) (subst (λ z. memberAllowed T t z (m .type) (m .entity) ≡ true) k (sound .allowedMember t m (rw k i)))
+  -- "with methods it is neither pointer nor iface": what a named type with a method names
+  pub names-neither : (t u : TypeKey) (ms : List Member) (m : Member) → kindAt T t ≡ Named u ms → In m ms → (isPointer (kindAt T u) ≡ false) × (isIface (kindAt T u) ≡ false)
+  names-neither t u ms m k i =
+      go (m .entity) (subst (λ z. stands (m .entity) z ≡ true) k (sound .standing t m (rw k i))) (subst (λ z. memberAllowed T t z (m .type) (m .entity) ≡ true) k (sound .allowedMember t m (rw k i)))
     where
-      go : (e : Entity) → stands e (Named u ms) ≡ true → memberAllowed T t (Named u ms) (m .type) e ≡ true → isIface (kindAt T u) ≡ false
+      go : (e : Entity) → stands e (Named u ms) ≡ true → memberAllowed T t (Named u ms) (m .type) e ≡ true → (isPointer (kindAt T u) ≡ false) × (isIface (kindAt T u) ≡ false)
       go (Field emb tag) s a = clash s refl
-      go (Method ptr) s a = last (isPointer (kindAt T u)) (isIface (kindAt T u)) (and-r (isFunc (kindAt T (m .type))) (mayHave T (Named u ms) ptr) a)
+      go (Method ptr) s a = neither (isPointer (kindAt T u)) (isIface (kindAt T u)) (and-r (isFunc (kindAt T (m .type))) (mayHave T (Named u ms) ptr) a)
         where
-          last : (p b : Bool) → not (p || b) && true ≡ true → b ≡ false
-          last p false h = refl
-          last true true h = clash h refl
-          last false true h = clash h refl
+          neither : (p b : Bool) → not (p || b) && true ≡ true → (p ≡ false) × (b ≡ false)
+          neither false false h = (refl, refl)
+          neither true b h = clash h refl
+          neither false true h = clash h refl
 
   declared-alone : (t : TypeKey) (m : Member) → In m (declaredOf (kindAt T t)) → allMethods T t ≡ []
   unfolding allMethods
   declared-alone t m i =
-      let d = none-if T (isNamed (kindAt T t)) m (membersOf (kindAt T t)) i in
+      let d = if-In (isNamed (kindAt T t)) (membersOf (kindAt T t)) m i in
       let n = named-is (kindAt T t) (d .0) in
-      let no : isIface (kindAt T (under T t)) ≡ false = rw (under-named T t (n .0) (n .1) (n .2)) (no-iface t (n .0) (n .1) m (n .2) (subst (λ k. In m (membersOf k)) (n .2) (d .1))) in
+      let no : isIface (kindAt T (under T t)) ≡ false = rw (under-named T t (n .0) (n .1) (n .2)) (names-neither t (n .0) (n .1) m (n .2) (subst (λ k. In m (membersOf k)) (n .2) (d .1)) .1) in
       rw no
 
   module _ (q : Identity) (t : TypeKey) where
@@ -313,12 +308,13 @@ module _ (T : Table) (sound : Sound T) where
 
 -- ---- what the laws of ways ask for
 
+-- the order of places
+abbrev pub Earlier : Way → Way → Type 0
+Earlier v w = Before (placesOf v) (placesOf w)
+
 module _ (T : Table) (sound : Sound T) (q : Identity) (nb : isBlank (q .name) ≡ false) where
   pub keyed : Keyed (graph T) q
   keyed = record { alike = λ a b e. has-alike T sound q a b (identical-parts T sound a b .0 e); one = λ t. one T sound q t nb }
-
-  abbrev pub Earlier : Way → Way → Type 0
-  Earlier v w = Before (placesOf v) (placesOf w)
 
   sorted-found : (n : ℕ) (W : List Walk) → ((w : Walk) → In w W → length (w .places) ≡ n) → Sorted Sooner W
       → Sorted Earlier (map (λ w. found (graph T) q (raw w)) (keep (λ w. has (graph T) q (w .at)) W))
@@ -334,8 +330,12 @@ module _ (T : Table) (sound : Sound T) (q : Identity) (nb : isBlank (q .name) �
           let j = In-keep (λ w. has (graph T) q (w .at)) W (r .0) (r .1) .0 in
           rw (r .2) (before-snoc (w .places) (r .0 .places) (found (graph T) q (raw w) .last .place) (found (graph T) q (raw (r .0)) .last .place) (h w (inl refl) ∙ sym (h (r .0) (inr j))) (s .0 (r .0) j))
 
-  -- the rules list ways in the order of their places, no two of the same
+  -- ways come in the order of their places, no two of the same, from any walk on
+  pub ways-ascend : (r0 : Walk) (d : ℕ) → Sorted Earlier (over.ways (graph T) q r0 d)
+  ways-ascend r0 d =
+      rw (hits (graph T) q (over.walks (graph T) r0 d) keyed)
+      (sorted-found (length (r0 .places) + d) (over.walks (graph T) r0 d) (long (graph T) r0 d) (sorted (graph T) (placed T) r0 d))
+
+  -- so does the rules' list
   pub ways-sorted : (t : TypeKey) (d : ℕ) → Sorted Earlier (ways T q t d)
-  ways-sorted t d =
-      rw (ways-are T q t d, hits (graph T) q (over.walks (graph T) (start T t) d) keyed)
-      (sorted-found (length (start T t .places) + d) (over.walks (graph T) (start T t) d) (long (graph T) (start T t) d) (sorted (graph T) (placed T) (start T t) d))
+  ways-sorted t d = rw (ways-are T q t d) (ways-ascend (start T t) d)

@@ -1,0 +1,4 @@
+pub mod Go
+pub mod GoSelectors
+pub mod Says
+pub mod GoImplements

@@ -1,0 +1,94 @@
+-- How rows are laid while a table is written, and the table that holds one line more. Each writer (src/writers.rt) keeps `Laid` and says what table the
+-- rows then hold.
+use mathlib.Core.Path.{_≡_}
+use mathlib.Core.Bool.{cond}
+use mathlib.Core.List.{List, [], _∷_, _++_}
+use Prim.Native.Nat.{ℕ, suc, _+_, _*_, _-_, _≤_, _<_}
+use lib.Dec.{eqb}
+use lib.ListN.{length, set}
+use Rattle.objects.specs.declared.TypeKey.{TypeKey}
+use Rattle.objects.specs.Bounds.{maxTypes, maxPackages, maxMembers, maxElements, rowWords, typesAt, allWords}
+use Rattle.objects.specs.Lists.{Bytes, onLast}
+use Rattle.objects.specs.Table.{Table, Member, Kind, Basic, Array, Slice, Pointer, Map, Chan, Tuple, Func, Struct, Iface, Named, typeKey, objKey}
+use Rattle.objects.specs.Rows.{Words, wordAt, packageCount, typeCount, memberCountOf, elementCount, typeWord, bytesAt, pkgOf, entityOf, tableOf}
+
+-- ---- rows in order
+
+-- where the members of a type of this kind end while it is the last: behind all members, a tuple's elements (kind 6) behind all elements
+unfoldable pub endOf : Words → ℕ → ℕ
+endOf rows kind = cond (eqb kind 6) (elementCount rows) (memberCountOf rows)
+
+-- the type above: the last so far
+abbrev pub lastType : Words → TypeKey
+lastType rows = typeKey (typeCount rows - 1)
+
+-- All counts are within bounds, and no type has members or elements that are not there yet.
+pub record Laid (rows : Words) : Type 0 where
+  pub long : allWords ≤ length rows
+  pub packages : packageCount rows ≤ maxPackages
+  pub types : typeCount rows ≤ maxTypes
+  pub members : memberCountOf rows ≤ maxMembers
+  pub elements : elementCount rows ≤ maxElements
+  pub within : (t : TypeKey) → t .0 < typeCount rows → typeWord rows t 4 + typeWord rows t 5 ≤ endOf rows (typeWord rows t 0)
+  pub last : (t : TypeKey) → suc (t .0) ≡ typeCount rows → typeWord rows t 4 + typeWord rows t 5 ≡ endOf rows (typeWord rows t 0)
+
+-- Rows in order that hold a table, whatever the text.
+pub record Holds (rows : Words) (table : Bytes → Table) : Type 0 where
+  pub laid : Laid rows
+  pub held : (text : Bytes) → tableOf text rows ≡ table text
+
+-- the last type's count is raised by one
+unfoldable pub raised : Words → Words
+raised rows = set rows (typesAt + rowWords * (typeCount rows - 1) + 5) (typeWord rows (lastType rows) 5 + 1)
+
+-- ---- a table with one line more
+
+-- the member with this key that a row with these words says
+abbrev pub memberOf : Bytes → (key name len pkg type form tag tagLen : ℕ) → Member
+memberOf text key name len pkg type form tag tagLen = record {
+  key = objKey key;
+  name = bytesAt text name len;
+  pkg = pkgOf pkg;
+  type = typeKey type;
+  entity = entityOf form (bytesAt text tag tagLen);
+}
+
+-- a kind with one member more under its T line
+abbrev pub memberAdded : Member → Kind → Kind
+memberAdded m (Basic k) = Basic k
+memberAdded m (Array n e) = Array n e
+memberAdded m (Slice e) = Slice e
+memberAdded m (Pointer e) = Pointer e
+memberAdded m (Map k e) = Map k e
+memberAdded m (Chan d e) = Chan d e
+memberAdded m (Tuple es) = Tuple es
+memberAdded m (Func v p r) = Func v p r
+memberAdded m (Struct ms) = Struct (ms ++ (m ∷ []))
+memberAdded m (Iface ms) = Iface (ms ++ (m ∷ []))
+memberAdded m (Named u ms) = Named u (ms ++ (m ∷ []))
+
+-- a kind with one element more on its T line
+abbrev pub elementAdded : TypeKey → Kind → Kind
+elementAdded t (Basic k) = Basic k
+elementAdded t (Array n e) = Array n e
+elementAdded t (Slice e) = Slice e
+elementAdded t (Pointer e) = Pointer e
+elementAdded t (Map k e) = Map k e
+elementAdded t (Chan d e) = Chan d e
+elementAdded t (Tuple es) = Tuple (es ++ (t ∷ []))
+elementAdded t (Func v p r) = Func v p r
+elementAdded t (Struct ms) = Struct ms
+elementAdded t (Iface ms) = Iface ms
+elementAdded t (Named u ms) = Named u ms
+
+unfoldable pub plusPackage : Table → Bytes → Table
+plusPackage T path = record { packages = T .packages ++ (path ∷ []); types = T .types; typeLines = T .typeLines; memberLines = T .memberLines }
+
+unfoldable pub plusType : Table → ℕ → Kind → Table
+plusType T line k = record { packages = T .packages; types = T .types ++ (k ∷ []); typeLines = T .typeLines ++ (line ∷ []); memberLines = T .memberLines }
+
+unfoldable pub plusMember : Table → ℕ → Member → Table
+plusMember T line m = record { packages = T .packages; types = onLast (memberAdded m) (T .types); typeLines = T .typeLines; memberLines = T .memberLines ++ (line ∷ []) }
+
+unfoldable pub plusElement : Table → TypeKey → Table
+plusElement T e = record { packages = T .packages; types = onLast (elementAdded e) (T .types); typeLines = T .typeLines; memberLines = T .memberLines }

@@ -1,0 +1,132 @@
+-- What the checks of a whole table say of each of its lines (7 to 10), and the refusals that loading gives.
+use mathlib.Core.Path.{_≡_, refl}
+use mathlib.Core.Bool.{Bool, true, false}
+use mathlib.Core.List.{List, [], _∷_, _++_, append-assoc, append-nil}
+use mathlib.Core.Logic.{inl, inr}
+use Prim.Native.Nat.{ℕ, zero, suc, _+_, _≤_, _<_}
+use native.Mathlib.Omega.{arith}
+use lib.Dec.{ltb}
+use lib.ListN.{length, getD}
+use borrow.Author.Tests.{ltb-false}
+use Rattle.objects.specs.Bounds.{maxText, refusalUnit}
+use Rattle.objects.specs.Lists.{Bytes, In}
+use Rattle.objects.specs.declared.TypeKey.{TypeKey}
+use Rattle.objects.specs.Table.{Table, size, typeKey, Member, Kind, Basic, membersOf, kindAt}
+use Rattle.objects.proofs.ListLaws.{cases, In-append-l, In-append-r}
+use Rattle.objects.proofs.PartLaws.{getD-all}
+use Rattle.text.specs.Bytes.{ascii, sameBytes}
+use Rattle.text.specs.Lines.{split, pieces}
+use Rattle.text.proofs.PieceLaws.{split-few}
+use Rattle.rules.specs.Checks.{Item, typeItem, memberItem, memberItems, itemsFrom, items, lineOfItem, lacking, forbidden, clashing, containing}
+use Rattle.rules.specs.Load.{Loaded, refused, loaded, linesFrom, unless, checked, thenChecked, noTable, headed, load}
+use Rattle.rules.proofs.LoadLaws.{Built, Read, none-built, read-later, lines-read}
+
+-- ---- the lines of the table are its items
+
+types-from : (n i : ℕ) (ks : List Kind) → i < length ks → In (typeItem (typeKey (n + i)) (getD ks i (Basic 0))) (itemsFrom n ks)
+unfolding itemsFrom
+types-from n i [] h = absurd (omega arith)
+types-from n zero (k ∷ ks) h = let e : n + 0 ≡ n = omega arith in inl (rw e)
+types-from n (suc i) (k ∷ ks) h =
+    let e : n + suc i ≡ suc n + i = omega arith in
+    inr (In-append-r (memberItems (typeKey n) k [] (membersOf k)) (itemsFrom (suc n) ks) _ (rw e (types-from (suc n) i ks (omega arith))))
+
+members-items : (t : TypeKey) (k : Kind) (above before : List Member) (m : Member) (after ms : List Member) → ms ≡ before ++ (m ∷ after)
+    → In (memberItem t k (above ++ before) m) (memberItems t k above ms)
+members-items t k above before m after ms e = rw e (go above before)
+  where
+    go : (a b : List Member) → In (memberItem t k (a ++ b) m) (memberItems t k a (b ++ (m ∷ after)))
+    go a [] = inl (rw (append-nil a))
+    go a (x ∷ b) = inr (rw (← append-assoc a (x ∷ []) b) (go (a ++ (x ∷ [])) b))
+
+members-from : (n i : ℕ) (ks : List Kind) (before : List Member) (m : Member) (after : List Member) → i < length ks → membersOf (getD ks i (Basic 0)) ≡ before ++ (m ∷ after)
+    → In (memberItem (typeKey (n + i)) (getD ks i (Basic 0)) before m) (itemsFrom n ks)
+unfolding itemsFrom
+members-from n i [] b m a h e = absurd (omega arith)
+members-from n zero (k ∷ ks) b m a h e =
+    let z : n + 0 ≡ n = omega arith in
+    inr (In-append-l (memberItems (typeKey n) k [] (membersOf k)) (itemsFrom (suc n) ks) _ (rw z (members-items (typeKey n) k [] b m a (membersOf k) e)))
+members-from n (suc i) (k ∷ ks) b m a h e =
+    let z : n + suc i ≡ suc n + i = omega arith in
+    inr (In-append-r (memberItems (typeKey n) k [] (membersOf k)) (itemsFrom (suc n) ks) _ (rw z (members-from (suc n) i ks b m a (omega arith) e)))
+
+module _ (T : Table) where
+  -- each type is judged
+  pub type-item : (t : TypeKey) → t .0 < size T → In (typeItem t (kindAt T t)) (items T)
+  unfolding kindAt
+  type-item t h = let e : 0 + t .0 ≡ t .0 = omega arith in rw e at (types-from 0 (t .0) (T .types) h)
+
+  -- and each member, with those before it
+  pub member-item : (t : TypeKey) (before : List Member) (m : Member) (after : List Member) → t .0 < size T → membersOf (kindAt T t) ≡ before ++ (m ∷ after)
+      → In (memberItem t (kindAt T t) before m) (items T)
+  unfolding kindAt
+  member-item t b m a h e = let z : 0 + t .0 ≡ t .0 = omega arith in rw z at (members-from 0 (t .0) (T .types) b m a h e)
+
+-- ---- the stages
+
+-- what holds of the refusal at each line that fails, and of the rest if none does, holds of the stage
+unless-is : (P : Loaded → Type 0) (T : Table) (bad : Item → Bool) (n : ℕ) (is : List Item) (rest : Loaded)
+    → ((i : Item) → In i is → P (refused n (lineOfItem T i))) → (((i : Item) → In i is → bad i ≡ false) → P rest) → P (unless T bad n is rest)
+unfolding unless
+unless-is P T bad n [] rest fails passes = passes (λ i j. absurd j)
+unless-is P T bad n (i ∷ is) rest fails passes =
+    go (bad i) refl (fails i (inl refl)) (λ e. unless-is P T bad n is rest (λ j k. fails j (inr k)) (λ f. passes (all e f)))
+  where
+    all : bad i ≡ false → ((j : Item) → In j is → bad j ≡ false) → (j : Item) → In j (i ∷ is) → bad j ≡ false
+    all e f j (inl q) = rw q e
+    all e f j (inr k) = f j k
+
+    go : (b : Bool) → bad i ≡ b → P (refused n (lineOfItem T i)) → (bad i ≡ false → P (unless T bad n is rest))
+        → P (elim b [ true ↦ refused n (lineOfItem T i) | false ↦ unless T bad n is rest ])
+    go true e r s = r
+    go false e r s = s e
+
+-- no line of the table fails one of the four tests
+pub record Passed (T : Table) : Type 0 where
+  pub lacks : (i : Item) → In i (items T) → lacking T i ≡ false
+  pub forbids : (i : Item) → In i (items T) → forbidden T i ≡ false
+  pub clashes : (i : Item) → In i (items T) → clashing T i ≡ false
+  pub contains : (i : Item) → In i (items T) → containing T i ≡ false
+
+-- a table that was built from the lines before a line and passed, or a refusal at one of them
+abbrev pub Right : ℕ → Loaded → Type 0
+Right line (refused n at) = (2 ≤ n) × (n ≤ 10) × (at < line)
+Right line (loaded T) = Built line T × Passed T
+
+item-line : (line : ℕ) (T : Table) → 0 < line → Built line T → (i : Item) → lineOfItem T i < line
+unfolding lineOfItem
+item-line line T h b (typeItem t k) = getD-all (λ n. n < line) (T .typeLines) (t .0) 0 (b .typesAbove) h
+item-line line T h b (memberItem t k before m) = getD-all (λ n. n < line) (T .memberLines) (m .key .0) 0 (b .membersAbove) h
+
+checked-right : (line : ℕ) (T : Table) → 0 < line → Built line T → Right line (checked T)
+unfolding checked
+checked-right line T h b =
+    unless-is (Right line) T (lacking T) 7 (items T) _ (λ i j. (omega arith, omega arith, item-line line T h b i)) (λ lack.
+    unless-is (Right line) T (forbidden T) 8 (items T) _ (λ i j. (omega arith, omega arith, item-line line T h b i)) (λ forbid.
+    unless-is (Right line) T (clashing T) 9 (items T) _ (λ i j. (omega arith, omega arith, item-line line T h b i)) (λ clash.
+    unless-is (Right line) T (containing T) 10 (items T) (loaded T) (λ i j. (omega arith, omega arith, item-line line T h b i)) (λ contain.
+    (b, record { lacks = lack; forbids = forbid; clashes = clash; contains = contain })))))
+
+then-right : (line : ℕ) (L : Loaded) → 0 < line → Read line L → Right line (thenChecked L)
+then-right line (refused n at) h r = let a = r .0 in let b = r .1 in (omega arith, omega arith, r .2)
+then-right line (loaded T) h r = checked-right line T h r
+
+-- ---- the whole
+
+headed-right : (ps : List Bytes) → length ps ≤ suc maxText → Right refusalUnit (headed ps)
+headed-right [] h = (omega arith, omega arith, omega arith)
+headed-right (first ∷ []) h = (omega arith, omega arith, omega arith)
+headed-right (first ∷ next ∷ rest) h =
+    cases (sameBytes first (ascii "typetable\t1"))
+    (λ e. rw e (then-right refusalUnit (linesFrom 2 noTable (next ∷ rest)) (omega arith) body))
+    (λ e. rw e (omega arith, omega arith, omega arith))
+  where
+    body : Read refusalUnit (linesFrom 2 noTable (next ∷ rest))
+    body = read-later (2 + length (next ∷ rest)) refusalUnit (linesFrom 2 noTable (next ∷ rest)) (omega arith) (lines-read 2 noTable (next ∷ rest) (none-built 2))
+
+pub load-right : (text : Bytes) → Right refusalUnit (load text)
+unfolding load pieces
+load-right text =
+    cases (ltb maxText (length text))
+    (λ e. rw e (omega arith, omega arith, omega arith))
+    (λ e. rw e (headed-right (split 10 text) (let h = ltb-false maxText (length text) e in let k = split-few 10 text in omega arith)))

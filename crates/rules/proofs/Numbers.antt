@@ -1,0 +1,134 @@
+-- The numbers and lines of refusals, and the answer buffer: what a call's number can be, and what a refusal leaves alone.
+use mathlib.Core.Path.{_≡_, refl, sym, ap, _∙_}
+use mathlib.Core.List.{List}
+use mathlib.Core.Option.{Option, none, some}
+use Prim.Native.Nat.{ℕ, zero, suc, _+_, _*_, _^_, _≤_, _<_}
+use native.Mathlib.Omega.{arith}
+use lib.Dec.{ltb}
+use lib.IntN.{ℤ, pos, negsuc, negℤ, negℤ-negℤ, pos-ne-negsuc}
+use lib.ListN.{length, drop, length-append, length-drop}
+use borrow.Author.Tests.{ltb-false}
+use Rattle.objects.specs.Bounds.{workWords, refusalUnit}
+use Rattle.objects.specs.Lists.{Bytes}
+use Rattle.objects.specs.Table.{Table}
+use Rattle.objects.proofs.ListLaws.{cases}
+use Rattle.rules.specs.Load.{Loaded, refused, loaded, load}
+use Rattle.rules.specs.Question.{Question, questionOf}
+use Rattle.rules.specs.Answer.{answer, answerBytes}
+use Rattle.rules.specs.Asked.{Outcome, refuse, say, fitted, wrongSecond, answered, outcomeOf, outcome, refusal, numberOf, written, asked}
+use Rattle.rules.proofs.CheckLaws.{Right, load-right}
+
+-- ---- loading
+
+load-bounds : (text : Bytes) (n line : ℕ) → load text ≡ refused n line → Right refusalUnit (refused n line)
+load-bounds text n line e = rw e at (load-right text)
+
+-- every line that is named is below 65,536
+pub line-bound : (text : Bytes) (n line : ℕ) → load text ≡ refused n line → line < refusalUnit
+line-bound text n line e = load-bounds text n line e .2
+
+-- loading refuses by 2 to 10
+pub refusal-bound : (text : Bytes) (n line : ℕ) → load text ≡ refused n line → (2 ≤ n) × (n ≤ 10)
+refusal-bound text n line e = let r = load-bounds text n line e in (r .0, r .1)
+
+-- ---- outcomes
+
+-- refusals 2 to 13 with a line below 65,536, or an answer for which there is room
+abbrev Bounded : ℕ → Outcome → Type 0
+Bounded room (refuse n line) = (2 ≤ n) × (n ≤ 13) × (line < refusalUnit)
+Bounded room (say bytes) = length bytes ≤ room
+
+answered-bounded : (T : Table) (room : ℕ) (q : Option Question) → Bounded room (answered T room q)
+answered-bounded T room none = (omega arith, omega arith, omega arith)
+answered-bounded T room (some q) =
+    cases (wrongSecond T q)
+    (λ e. rw e (omega arith, omega arith, omega arith))
+    (λ e. rw e (fits (answerBytes (answer T q))))
+  where
+    fits : (bytes : Bytes) → Bounded room (fitted room bytes)
+    fits bytes = cases (ltb room (length bytes)) (λ e. rw e (omega arith, omega arith, omega arith)) (λ e. rw e (ltb-false room (length bytes) e))
+
+outcome-bounded : (table question : Bytes) (room : ℕ) → Bounded room (outcome table question room)
+unfolding outcome outcomeOf
+outcome-bounded table question room = go (load table) (load-right table)
+  where
+    go : (L : Loaded) → Right refusalUnit L → Bounded room (outcomeOf L question room)
+    go (refused n line) r = let h = r .1 in (r .0, omega arith, r .2)
+    go (loaded T) r = answered-bounded T room (questionOf T question)
+
+-- a call that reads the table refuses by 2 to 13
+pub outcome-bound : (table question : Bytes) (room n line : ℕ) → outcome table question room ≡ refuse n line → (2 ≤ n) × (n ≤ 13) × (line < refusalUnit)
+outcome-bound table question room n line e = rw e at (outcome-bounded table question room)
+
+-- an answer is no longer than the room for it
+pub answered-fits : (table question bytes : Bytes) (room : ℕ) → outcome table question room ≡ say bytes → length bytes ≤ room
+answered-fits table question bytes room e = rw e at (outcome-bounded table question room)
+
+-- ---- the number of a call
+
+-- A length up to the room, or minus a refusal: both are in the range of an i64, the one never negative and the other always.
+pub data CallNumber (room : ℕ) : ℤ → Type 0 where
+  length-is : (n : ℕ) → n ≤ room → n < 2 ^ 63 → CallNumber room (pos n)
+  refusal-is : (k : ℕ) → refusalUnit ≤ k → k < 2 ^ 20 → CallNumber room (negℤ (pos k))
+
+refusal-number : (room n line : ℕ) → 1 ≤ n → n ≤ 13 → line < refusalUnit → CallNumber room (refusal n line)
+unfolding refusal
+refusal-number room n line low high h = refusal-is (n * refusalUnit + line) (omega arith) (omega arith)
+
+number-of : (room : ℕ) (o : Outcome) → room < 2 ^ 63 → Bounded room o → CallNumber room (numberOf o)
+unfolding numberOf
+number-of room (refuse n line) fit b = let h = b .0 in refusal-number room n line (omega arith) (b .1) (b .2)
+number-of room (say bytes) fit b = length-is (length bytes) b (omega arith)
+
+-- every call gives such a number, refusal 1 included
+pub asked-number : (table question buffer : Bytes) (work : List ℕ) → length buffer < 2 ^ 63 → CallNumber (length buffer) (asked table question buffer work .number)
+unfolding asked
+asked-number table question buffer work fit =
+    cases (ltb (length work) workWords)
+    (λ e. rw e (refusal-number (length buffer) 1 0 (omega arith) (omega arith) (omega arith)))
+    (λ e. rw e (number-of (length buffer) (outcome table question (length buffer)) fit (outcome-bounded table question (length buffer))))
+
+-- a length is never a refusal
+pub numbers-apart : (n k : ℕ) → refusalUnit ≤ k → pos n ≡ negℤ (pos k) → ⊥
+numbers-apart n zero h e = absurd (omega arith)
+numbers-apart n (suc k) h e = pos-ne-negsuc n k e
+
+-- a number tells the refusal and its line
+pub refusal-tells : (n m line at : ℕ) → line < refusalUnit → at < refusalUnit → refusal n line ≡ refusal m at → (n ≡ m) × (line ≡ at)
+unfolding refusal
+refusal-tells n m line at h k e = let q = minus (n * refusalUnit + line) (m * refusalUnit + at) e in (omega arith, omega arith)
+  where
+    size : ℤ → ℕ
+    size (pos a) = a
+    size (negsuc a) = a
+
+    minus : (a b : ℕ) → negℤ (pos a) ≡ negℤ (pos b) → a ≡ b
+    minus a b q = ap size (sym (negℤ-negℤ (pos a)) ∙ ap negℤ q ∙ negℤ-negℤ (pos b))
+
+-- ---- the answer buffer
+
+written-length : (o : Outcome) (buffer : Bytes) → Bounded (length buffer) o → length (written o buffer) ≡ length buffer
+unfolding written
+written-length (refuse n line) buffer b = refl
+written-length (say bytes) buffer b = rw (length-append bytes (drop (length bytes) buffer), length-drop (length bytes) buffer) (omega arith)
+
+-- the buffer keeps its length
+pub buffer-length : (table question buffer : Bytes) (work : List ℕ) → length (asked table question buffer work .answer) ≡ length buffer
+unfolding asked
+buffer-length table question buffer work =
+    cases (ltb (length work) workWords)
+    (λ e. rw e)
+    (λ e. rw e (written-length (outcome table question (length buffer)) buffer (outcome-bounded table question (length buffer))))
+
+-- a refusal changes none of it
+pub refused-keeps : (o : Outcome) (buffer : Bytes) (k : ℕ) → numberOf o ≡ negsuc k → written o buffer ≡ buffer
+unfolding written numberOf
+refused-keeps (refuse n line) buffer k e = refl
+refused-keeps (say bytes) buffer k e = absurd (pos-ne-negsuc (length bytes) k e)
+
+pub buffer-kept : (table question buffer : Bytes) (work : List ℕ) (k : ℕ) → asked table question buffer work .number ≡ negsuc k → asked table question buffer work .answer ≡ buffer
+unfolding asked
+buffer-kept table question buffer work k h =
+    cases (ltb (length work) workWords)
+    (λ e. rw e)
+    (λ e. rw e (refused-keeps (outcome table question (length buffer)) buffer k (rw e at h)))

@@ -1,0 +1,86 @@
+-- A row or more for each refusal from 2 to 12 with its line, and for what the program reads.
+use mathlib.Core.List.{List, [], _∷_, _++_}
+use Prim.Native.Nat.{ℕ, zero, suc}
+use Prim.Native.String.{String}
+use lib.ListN.{replicate}
+use Rattle.objects.specs.Lists.{Bytes}
+use Rattle.rules.specs.Rows.{Run, run, whole, bad, _⏎_, spaced}
+use Rattle.rules.specs.Worked.{office}
+
+-- a table of these lines
+abbrev table : Bytes → Bytes
+table lines = "typetable 1" ⏎ lines
+
+-- the same line n times
+abbrev times : ℕ → String → Bytes → Bytes
+times zero l rest = rest
+times (suc n) l rest = l ⏎ times n l rest
+
+-- tables and questions that are refused
+abbrev pub refusals : List Run
+refusals =
+    -- 3: another first line; nothing at all
+    bad ("typetable 2" ⏎ "T basic 2" ⏎ []) ("refused 3 1" ⏎ [])
+    ∷ bad [] ("refused 3 1" ⏎ [])
+    -- 4: letter, field count, value outside its range
+    ∷ bad (table ("X basic 2" ⏎ [])) ("refused 4 2" ⏎ [])
+    ∷ bad (table ("T basic 2" ⏎ "T slice" ⏎ [])) ("refused 4 3" ⏎ [])
+    ∷ bad (table ("T basic 28" ⏎ [])) ("refused 4 2" ⏎ [])
+    ∷ bad (table ("T array 4294967296 0" ⏎ [])) ("refused 4 2" ⏎ [])
+    ∷ bad (table ("T pointer 10000" ⏎ [])) ("refused 4 2" ⏎ [])
+    ∷ bad (table ("T basic 02" ⏎ [])) ("refused 4 2" ⏎ [])
+    ∷ bad (table ("P _" ⏎ [])) ("refused 4 2" ⏎ [])
+    ∷ bad (table ("T basic 2 " ⏎ [])) ("refused 4 2" ⏎ [])
+    ∷ bad (table ("T iface" ⏎ "M _ - 0 0" ⏎ [])) ("refused 4 3" ⏎ [])
+    -- 5: P after T, F not under a struct, M not under a named type or interface
+    ∷ bad (table ("T basic 2" ⏎ "P a" ⏎ [])) ("refused 5 3" ⏎ [])
+    ∷ bad (table ("T iface" ⏎ "F X - 0 0" ⏎ [])) ("refused 5 3" ⏎ [])
+    ∷ bad (table ("T struct" ⏎ "M X - 0 0" ⏎ [])) ("refused 5 3" ⏎ [])
+    -- 6: a 65th package, a 257th type, a 256th member of one type
+    ∷ bad (table (times 65 "P a" [])) ("refused 6 66" ⏎ [])
+    ∷ bad (table (times 257 "T struct" [])) ("refused 6 258" ⏎ [])
+    ∷ bad (table ("T struct" ⏎ times 256 "F _ - 0 0" [])) ("refused 6 258" ⏎ [])
+    -- 7: a type and a package that the table lacks
+    ∷ bad (table ("T basic 2" ⏎ "T slice 9999" ⏎ [])) ("refused 7 3" ⏎ [])
+    ∷ bad (table ("P a" ⏎ "T basic 2" ⏎ "T struct" ⏎ "F X 1 0 0" ⏎ [])) ("refused 7 5" ⏎ [])
+    -- 8: a tuple; a number not smaller; func of no tuple; variadic without a slice; named of named; sig no func; an interface's ptr
+    ∷ bad (table ("T tuple" ⏎ "T pointer 0" ⏎ [])) ("refused 8 3" ⏎ [])
+    ∷ bad (table ("T pointer 1" ⏎ "T basic 2" ⏎ [])) ("refused 8 2" ⏎ [])
+    ∷ bad (table ("T basic 2" ⏎ "T func 0 0 0" ⏎ [])) ("refused 8 3" ⏎ [])
+    ∷ bad (table ("T basic 2" ⏎ "T tuple 0" ⏎ "T func 1 1 1" ⏎ [])) ("refused 8 4" ⏎ [])
+    ∷ bad (table ("T basic 2" ⏎ "T named 0" ⏎ "T named 1" ⏎ [])) ("refused 8 4" ⏎ [])
+    ∷ bad (table ("T iface" ⏎ "M X - 0 0" ⏎ [])) ("refused 8 3" ⏎ [])
+    ∷ bad (table ("T tuple" ⏎ "T func 0 0 0" ⏎ "T iface" ⏎ "M X - 1 1" ⏎ [])) ("refused 8 5" ⏎ [])
+    -- 8: a method of a named pointer; an embedded named pointer, and a pointer to a named interface
+    ∷ bad (table ("T basic 2" ⏎ "T pointer 0" ⏎ "T tuple" ⏎ "T func 0 2 2" ⏎ "T named 1" ⏎ "M X - 3 0" ⏎ [])) ("refused 8 7" ⏎ [])
+    ∷ bad (table ("T basic 2" ⏎ "T pointer 0" ⏎ "T named 1" ⏎ "T struct" ⏎ "F X - 2 1" ⏎ [])) ("refused 8 6" ⏎ [])
+    ∷ bad (table ("T iface" ⏎ "T named 0" ⏎ "T pointer 1" ⏎ "T struct" ⏎ "F X - 2 1" ⏎ [])) ("refused 8 6" ⏎ [])
+    -- 9: two fields of one name; methods that do not ascend
+    ∷ bad (table ("T basic 2" ⏎ "T struct" ⏎ "F X - 0 0" ⏎ "F X - 0 0" ⏎ [])) ("refused 9 5" ⏎ [])
+    ∷ bad (table ("T tuple" ⏎ "T func 0 0 0" ⏎ "T iface" ⏎ "M Y - 1 0" ⏎ "M X - 1 0" ⏎ [])) ("refused 9 6" ⏎ [])
+    -- 10: a struct that holds itself
+    ∷ bad (table ("T basic 2" ⏎ "T named 2" ⏎ "T struct" ⏎ "F X - 1 0" ⏎ [])) ("refused 10 3" ⏎ [])
+    -- 11: a letter, a number that the table lacks, a package that it lacks; 12: an N question whose second type is a name of an interface
+    ∷ run office ("Z 0" ⏎ "M 8" ⏎ "S 7 0 1 Close" ⏎ "S 7 2 0 Close" ⏎ "V" ⏎ []) ("refused 11 0" ⏎ "refused 11 0" ⏎ "refused 11 0" ⏎ "refused 11 0" ⏎ "ok 1 8 3" ⏎ [])
+    ∷ run (table ("T iface" ⏎ "T named 0" ⏎ [])) ("N 0 0 0" ⏎ "N 0 1 0" ⏎ "N 0 2 0" ⏎ []) ("satisfied" ⏎ "refused 12 0" ⏎ "refused 11 0" ⏎ [])
+    ∷ []
+
+-- ---- the program
+
+-- what the program reads, from its first byte to its last
+abbrev pub programs : List Run
+programs =
+    -- "without `Q`, one V"; no newline (4) behind the last line
+    whole office ("ok 1 8 3" ⏎ [])
+    ∷ whole ("typetable 1" ⏎ []) ("ok 0 0 0" ⏎ [])
+    ∷ whole ("typetable 1" ⏎ spaced "T basic 2") ("refused 4 2" ⏎ [])
+    -- "The last question may lack its newline; a last `Q` without one is table text."
+    ∷ whole (office ++ "Q" ⏎ spaced "C 0") ("yes" ⏎ [])
+    ∷ whole ("typetable 1" ⏎ spaced "Q") ("refused 4 2" ⏎ [])
+    -- `Q` and nothing behind it; an empty question; a table of no bytes
+    ∷ whole (office ++ "Q" ⏎ []) []
+    ∷ whole (office ++ "Q" ⏎ "" ⏎ "V" ⏎ []) ("refused 11 0" ⏎ "ok 1 8 3" ⏎ [])
+    ∷ whole ("Q" ⏎ "V" ⏎ []) ("refused 3 1" ⏎ [])
+    -- 2: "at most 32,768 bytes in all"
+    ∷ whole (replicate 32_769 120) ("refused 2 0" ⏎ [])
+    ∷ []

@@ -1,0 +1,25 @@
+-- A stage of loading (7 to 10) by what it finds: the line of the first item that fails its test. Code answers this, and `checked` follows from it.
+use mathlib.Core.Bool.{Bool, true, false}
+use mathlib.Core.List.{List, [], _∷_}
+use mathlib.Core.Option.{Option, none, some}
+use Prim.Native.Nat.{ℕ}
+use Rattle.objects.specs.Table.{Table}
+use Rattle.rules.specs.Checks.{Item, lineOfItem}
+use Rattle.rules.specs.Load.{Loaded, refused}
+
+unfoldable pub firstLine : Table → (Item → Bool) → List Item → Option ℕ
+firstLine T bad [] = none
+firstLine T bad (i ∷ is) = elim (bad i) [
+  | true ↦ some (lineOfItem T i)
+  | false ↦ firstLine T bad is
+]
+
+-- refusal n at the line that was found, or the rest
+unfoldable pub staged : ℕ → Option ℕ → Loaded → Loaded
+staged n none rest = rest
+staged n (some line) rest = refused n line
+
+-- the first of two that is there
+unfoldable pub orElse : Option ℕ → Option ℕ → Option ℕ
+orElse none b = b
+orElse (some a) b = some a
