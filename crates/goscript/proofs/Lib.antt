@@ -5,3 +5,5 @@ pub mod LookupSame
 pub mod LookupIs
 pub mod MapLaws
 pub mod Visits
+pub mod MemberSorts
+pub mod Collisions
