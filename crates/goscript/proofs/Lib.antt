@@ -7,3 +7,6 @@ pub mod MapLaws
 pub mod Visits
 pub mod MemberSorts
 pub mod Collisions
+pub mod Values
+pub mod SetsSame
+pub mod SetKeys

@@ -34,7 +34,7 @@ module _ {A B : Type 0} where
   keep-each p f (x ∷ l) = rw (keep-each p f l, keep-append p (f x) (flat f l))
 
   -- those that give nothing may be left out
-  flat-keep : (p : A → Bool) (f : A → List B) → ((x : A) → p x ≡ false → f x ≡ []) → (l : List A) → flat f (keep p l) ≡ flat f l
+  pub flat-keep : (p : A → Bool) (f : A → List B) → ((x : A) → p x ≡ false → f x ≡ []) → (l : List A) → flat f (keep p l) ≡ flat f l
   flat-keep p f h [] = refl
   flat-keep p f h (x ∷ l) = cases (p x) (λ e. rw (e, flat-keep p f h l)) (λ e. rw (e, h x e, flat-keep p f h l))
 
@@ -67,7 +67,7 @@ module _ (T : Table) (u : TypeKey) (named : isNamed (kindAt T u) ≡ true) where
       (λ e. rw e)
       (λ e. rw e (cases (sameType (at r) u) (λ f. clash (ap (λ x. isNamed (kindAt T x)) (same-key (at r) u f) ∙ named) e) (λ f. rw f)))
 
-  saw-all : (K : List EmbeddedType) (s : List TypeKey) → any (λ v. sameType v u) (sawAll T s K) ≡ any (λ r. sameType (at r) u) K || any (λ v. sameType v u) s
+  pub saw-all : (K : List EmbeddedType) (s : List TypeKey) → any (λ v. sameType v u) (sawAll T s K) ≡ any (λ r. sameType (at r) u) K || any (λ v. sameType v u) s
   saw-all [] s = refl
   saw-all (r ∷ K) s =
       saw-all K (sawNamed T r s)

@@ -11,3 +11,4 @@ pub mod Numbers
 pub mod RowLaws
 pub mod Stores
 pub mod Keeping
+pub mod SortedLaws

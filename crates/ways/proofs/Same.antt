@@ -76,7 +76,7 @@ module _ (G : Graph) (r0 : Walk) where
   abbrev pub all : ℕ → List EmbeddedType
   all d = map raw (walks G r0 d)
 
-all-next : (G : Graph) (W : List Walk) → map raw (flat (onward G) W) ≡ flat (next G) (map raw W)
+pub all-next : (G : Graph) (W : List Walk) → map raw (flat (onward G) W) ≡ flat (next G) (map raw W)
 all-next G [] = refl
 all-next G (w ∷ ws) = map-append raw (onward G w) (flat (onward G) ws) ∙ ap₂ (λ x y. x ++ y) (map-map raw (along G w) (G .steps (w .at))) (all-next G ws)
 
