@@ -10,3 +10,5 @@ pub mod Collisions
 pub mod Values
 pub mod SetsSame
 pub mod SetKeys
+pub mod PointerSets
+pub mod MethodSetIs

@@ -1,12 +1,12 @@
 -- The keys of the maps of `MethodSet::new` are identities of the table's members, and under the blank name there is never a method.
 use mathlib.Core.Path.{_≡_, refl, sym, ap, ap₂, _∙_, subst}
 use mathlib.Core.Bool.{Bool, true, false, cond}
-use mathlib.Core.List.{List, [], _∷_, map, foldl}
+use mathlib.Core.List.{List, [], _∷_, _++_, map, foldl}
 use mathlib.Core.Logic.{_⊎_, inl, inr}
 use mathlib.Core.Option.{Option, none, some}
 use Prim.Native.Nat.{ℕ, zero, suc}
 use Rattle.objects.specs.Lists.{any, keep, flat, In}
-use Rattle.objects.proofs.ListLaws.{cases, clash, either, In-keep, In-map, In-flat}
+use Rattle.objects.proofs.ListLaws.{cases, clash, either, In-append, In-keep, In-map, In-flat}
 use Rattle.text.specs.Bytes.{isBlank}
 use Rattle.objects.specs.declared.TypeKey.{TypeKey}
 use Rattle.objects.specs.Table.{Table, Member, isMethod, kindAt, under, allMethods, declaredOf, allMethodsOf}
@@ -23,6 +23,7 @@ use Rattle.goscript.proofs.MapLaws.{orElse}
 use Rattle.goscript.proofs.MemberSorts.{declared-In, iface-In, field-In}
 use Rattle.goscript.proofs.Visits.{msetOn, fsetOn, afterAll}
 use Rattle.goscript.proofs.Collisions.{Hit, addM, hitAt, hitsOf, mset-at}
+use Rattle.goscript.proofs.Values.{put}
 use Rattle.goscript.proofs.SetsSame.{Turn, turn-on, all-visited, loops, base-on, W, K}
 
 -- what each turn of a fold keeps, the fold keeps
@@ -76,3 +77,54 @@ module _ (T : Table) (sound : Sound T) where
     base-keys (suc k) d seen set L turn h =
         subst Keys (sym (base-on T sound t k seen set L))
         (base-keys k (suc d) _ (addCollisions T (visitAll T seen L) (addMethods T (visitAll T seen L) set)) _ (turn-on T sound t d seen L turn) (level-keys d seen L turn set h))
+
+-- ---- the blank name
+
+module _ (T : Table) (sound : Sound T) where
+  -- a type's own member stands under a T line
+  pub owned-member : (u : TypeKey) (p : Place) → In p (owned T u) → (v : TypeKey) × MemberOf T v (p .member)
+  unfolding owned allMethods
+  owned-member u p i =
+      either (In-append (placesFrom 0 (declaredOf (kindAt T u)) ++ fieldPlaces T u) (placesFrom 0 (allMethodsOf (kindAt T (under T u)))) p i)
+      (λ j. either (In-append (placesFrom 0 (declaredOf (kindAt T u))) (fieldPlaces T u) p j) (λ d. (u, declared-In T sound u p d .1)) (λ f. (under T u, field-In T sound u p f .1)))
+      (λ m. (under T u, iface-In T sound u p m .1))
+
+  module _ (q : Identity) (blank : isBlank (q .name) ≡ true) where
+    no-blank-method : (m : Member) (v : TypeKey) → MemberOf T v m → identityOf T m ≡ q → isMethod (m .entity) ≡ false
+    unfolding identityOf identityFrom
+    no-blank-method m v i e = cases (isMethod (m .entity)) (λ h. clash (ap (λ (x : Identity). isBlank (x .name)) e ∙ blank) (sound .methodNamed v m i h)) (λ h. h)
+
+    no-methods : (X : List EmbeddedType) → foldl (addM T) none (flat (hitsOf T q) X) ≡ none
+    no-methods X = fold-keeps (λ (s : Option MethodCollision). s ≡ none) (addM T) (flat (hitsOf T q) X) one none refl
+      where
+        one : (s : Option MethodCollision) (h : Hit) → In h (flat (hitsOf T q) X) → s ≡ none → addM T s h ≡ none
+        one s h i e =
+            let r = In-flat (hitsOf T q) X h i in
+            let m = In-map (hitAt (r .0)) (keep (matches T q) (owned T (at (r .0)))) h (r .2) in
+            let k = In-keep (matches T q) (owned T (at (r .0))) (m .0) (m .1) in
+            let o = owned-member (at (r .0)) (m .0) (k .0) in
+            left (m .0) (ap (λ (x : Hit). x .place) (m .2)) (no-blank-method (m .0 .member) (o .0) (o .1) (sameId-true (identityOf T (m .0 .member)) q (k .1)))
+          where
+            left : (p : Place) → h .place ≡ p → isMethod (p .member .entity) ≡ false → addM T s h ≡ none
+            left p f n = let g : isMethod (h .place .member .entity) ≡ false = ap (λ (x : Place). isMethod (x .member .entity)) f ∙ n in rw g e
+
+    not-selected : (o : Option MethodCollision) (f : Option FieldCollision) → selected o ≡ [] → selected (orElse o (fieldIn f)) ≡ []
+    not-selected none none h = refl
+    not-selected none (some (var m)) h = refl
+    not-selected none (some collided) h = refl
+    not-selected (some c) f h = h
+
+    module _ (t : TypeKey) where
+      blank-turn : (d : ℕ) (seen : List TypeKey) (L : List EmbeddedType) → Turn T sound t d seen L → (set : Map MethodCollision) → selected (get set q) ≡ []
+          → selected (get (addCollisions T (visitAll T seen L) (addMethods T (visitAll T seen L) set)) q) ≡ []
+      blank-turn d seen L turn set h =
+          let none-there : get (visitAll T seen L .mset) q ≡ none =
+              ap (λ (st : Visit). get (st .mset) q) (all-visited T sound t d seen L turn) ∙ mset-at T q sound (K T sound t d seen L turn) [] ∙ no-methods (K T sound t d seen L turn) in
+          ap selected (loops T sound t d seen L turn q set ∙ ap (λ m. orElse (get set q) (put m (get (visitAll T seen L .fset) q))) none-there)
+          ∙ not-selected (get set q) (get (visitAll T seen L .fset) q) h
+
+      pub base-blank : (k d : ℕ) (seen : List TypeKey) (set : Map MethodCollision) (L : List EmbeddedType) → Turn T sound t d seen L → selected (get set q) ≡ [] → selected (get (base T k seen set L) q) ≡ []
+      base-blank zero d seen set L turn h = h
+      base-blank (suc k) d seen set L turn h =
+          ap (λ m. selected (get m q)) (base-on T sound t k seen set L)
+          ∙ base-blank k (suc d) _ (addCollisions T (visitAll T seen L) (addMethods T (visitAll T seen L) set)) _ (turn-on T sound t d seen L turn) (blank-turn d seen L turn set h)

@@ -79,14 +79,14 @@ module _ (T : Table) where
       above : belowBytes (idBytes q) (idBytes p) ≡ false → sameId q p ≡ false → Lower p q
       above e n = either (below-connex (idBytes q) (idBytes p) e) (λ f. clash (subst (λ x. sameId q x ≡ true) (id-injective q p pq (pp p (inl refl)) f) (sameId-self q)) n) (λ f. f)
 
-  ascending-In : (qs : List Identity) (x : Identity) → In x (ascending T qs) ↔ In x qs
+  pub ascending-In : (qs : List Identity) (x : Identity) → In x (ascending T qs) ↔ In x qs
   ascending-In [] x = (λ i. i, λ i. i)
   ascending-In (q ∷ qs) x = (
     λ i. either (inserted q (ascending T qs) x i) (λ e. inl e) (λ j. inr (ascending-In qs x .0 j)),
     λ i. either i (λ e. subst (λ y. In y (insert T q (ascending T qs))) (sym e) (insert-has q (ascending T qs))) (λ j. insert-keeps q (ascending T qs) x (ascending-In qs x .1 j)),
   )
 
-  ascending-sorted : (qs : List Identity) → ((q : Identity) → In q qs → Proper q) → Sorted Lower (ascending T qs)
+  pub ascending-sorted : (qs : List Identity) → ((q : Identity) → In q qs → Proper q) → Sorted Lower (ascending T qs)
   ascending-sorted [] h = tt
   ascending-sorted (q ∷ qs) h = insert-sorted q (ascending T qs) (h q (inl refl)) (λ p i. h p (inr (ascending-In qs p .0 i))) (ascending-sorted qs (λ p i. h p (inr i)))
 
