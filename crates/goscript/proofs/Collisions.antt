@@ -1,15 +1,13 @@
 -- What the maps of a level say of one key: the members of that key which the level has, one after the other.
-use mathlib.Core.Path.{_≡_, refl, sym, ap, ap₂, _∙_, subst}
+use mathlib.Core.Path.{_≡_, refl, sym, ap, _∙_}
 use mathlib.Core.Bool.{Bool, true, false, cond, not, _&&_, _||_}
-use mathlib.Core.List.{List, [], _∷_, _++_, map, foldl, append-assoc}
-use mathlib.Core.Logic.{_⊎_, inl, inr}
-use mathlib.Core.Option.{Option, none, some}
-use Prim.Native.Nat.{ℕ}
-use Rattle.objects.specs.Lists.{any, keep, flat, In}
-use Rattle.objects.proofs.ListLaws.{cases, clash, keep-append, map-append, any-yes}
-use Rattle.objects.specs.declared.TypeKey.{TypeKey}
-use Rattle.objects.specs.Table.{Table, Member, isMethod, hasPtr, declaredOf, fieldsOf, allMethodsOf, allMethods, kindAt, under}
-use Rattle.rules.specs.Members.{Identity, identityOf, sameId}
+use mathlib.Core.List.{List, [], _∷_, _++_, map, foldl}
+use mathlib.Core.Logic.{inl, inr}
+use mathlib.Core.Option.{Option, some}
+use Rattle.objects.specs.Lists.{keep, flat, In}
+use Rattle.objects.proofs.ListLaws.{cases, keep-append, map-append, any-yes}
+use Rattle.objects.specs.Table.{Table, isMethod, hasPtr, declaredOf, allMethodsOf, allMethods, kindAt, under}
+use Rattle.rules.specs.Members.{Identity, identityOf}
 use Rattle.rules.proofs.MemberLaws.{sameId-true}
 use Rattle.rules.specs.Sound.{Sound}
 use Rattle.rules.specs.Ways.{Place, placesFrom, Way, memberOf, placesOf, fieldPlaces, owned}
@@ -18,7 +16,7 @@ use Rattle.ways.specs.Graph as over
 use Rattle.ways.specs.Levels.{EmbeddedType, at, hit, firstOf}
 use Rattle.ways.specs.OfTable.{graph}
 use Rattle.ways.proofs.Same.{Keyed, One}
-use Rattle.goscript.specs.Maps.{Map, get, isSome, contains}
+use Rattle.goscript.specs.Maps.{Map, get, isSome}
 use Rattle.goscript.specs.Lookup.{wayOf, matches}
 use Rattle.goscript.specs.MethodSets.{Selection, MethodCollision, method, collision, FieldCollision, var, collided, addMethod, addToFieldSet}
 use Rattle.goscript.proofs.MemberSorts.{declared-method, declared-flag, iface-method, iface-flag, field-no-method}

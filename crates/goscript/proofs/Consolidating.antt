@@ -1,10 +1,9 @@
 -- `consolidate_multiples` merges: identical types become the first of them, marked.
-use mathlib.Core.Path.{_≡_, refl, ap, _∙_}
-use mathlib.Core.Bool.{true, false}
+use mathlib.Core.Path.{_≡_, refl, _∙_}
 use mathlib.Core.List.{List, [], _∷_, _++_, append-nil, append-assoc, foldl}
 use Rattle.objects.proofs.ListLaws.{or-true, cases}
 use Rattle.objects.specs.Table.{Table}
-use Rattle.ways.specs.Levels.{EmbeddedType, at, twin, merge}
+use Rattle.ways.specs.Levels.{EmbeddedType, twin, merge}
 use Rattle.ways.specs.OfTable.{graph}
 use Rattle.ways.proofs.Merge.{Lawful}
 use Rattle.ways.proofs.Extra.{addFirst, add-first, merge-apart, merge-snoc}

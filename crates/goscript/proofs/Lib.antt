@@ -12,3 +12,4 @@ pub mod SetsSame
 pub mod SetKeys
 pub mod PointerSets
 pub mod MethodSetIs
+pub mod MissingIs

@@ -1,23 +1,23 @@
 -- `lookup_field_or_method` gives the rules' S: on every sound table, for every type of it, name and a.
-use mathlib.Core.Path.{_≡_, refl, sym, ap, _∙_, subst}
-use mathlib.Core.Bool.{Bool, true, false, cond, not, _&&_, _||_}
+use mathlib.Core.Path.{_≡_, refl, sym, ap, _∙_}
+use mathlib.Core.Bool.{Bool, true, false}
 use mathlib.Core.List.{List, [], _∷_}
 use mathlib.Core.Logic.{_⊎_, inl, inr}
 use Prim.Native.Nat.{ℕ, zero, suc, _≤_, _<_}
-use Rattle.objects.specs.Lists.{flat, In}
-use Rattle.objects.proofs.ListLaws.{cases, clash, or-true, In-flat, In-map, and-r}
+use Rattle.objects.specs.Lists.{In}
+use Rattle.objects.proofs.ListLaws.{cases, clash, In-flat, In-map, and-r}
 use Rattle.text.specs.Bytes.{isBlank}
 use Rattle.objects.specs.declared.TypeKey.{TypeKey}
-use Rattle.objects.specs.Table.{Table, size, Member, Named, kindNumber, hasPtr, isNamed, isPointer, kindAt, under, bare, pointerAt, ifaceUnder, namedPointer}
+use Rattle.objects.specs.Table.{Table, size, Member, Named, kindNumber, hasPtr, isNamed, isPointer, kindAt, under, bare, pointerAt, namedPointer}
 use Rattle.objects.proofs.KindLaws.{named-is, under-plain, under-named}
 use Rattle.rules.specs.Members.{Identity}
 use Rattle.rules.specs.Sound.{Sound}
 use Rattle.rules.proofs.IdentityLaws.{identical-parts}
 use Rattle.ways.proofs.TableLaws.{closed, lawful, keyed, bare-in}
 use Rattle.rules.specs.Identity.{identical}
-use Rattle.rules.specs.Ways.{Walk, Way, memberOf, Selected, notfound, single, noMethod, start, judged, shortest, searched, select}
+use Rattle.rules.specs.Ways.{Walk, Way, memberOf, single, noMethod, start, judged, shortest, searched, select}
 use Rattle.ways.specs.Graph as over
-use Rattle.ways.specs.Levels.{raw, search-levels}
+use Rattle.ways.specs.Levels.{raw}
 use Rattle.ways.specs.OfTable.{graph}
 use Rattle.ways.proofs.Merge.{Lawful}
 use Rattle.ways.proofs.Same.{Keyed, search-is, named-skips}
@@ -27,7 +27,7 @@ use Rattle.ways.proofs.Bridge.{judged-is}
 use Rattle.ways.proofs.LevelTest.{shortest-are}
 use Rattle.goscript.specs.Lookup.{turns, lookupImpl, lookupFieldOrMethod}
 use Rattle.goscript.proofs.Scans.{skipped}
-use Rattle.goscript.proofs.LookupSame.{Tied, turns-are}
+use Rattle.goscript.proofs.LookupSame.{turns-are}
 
 -- ---- from a pointer on, the flag is set, and a does not matter
 

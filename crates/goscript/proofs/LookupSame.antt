@@ -1,27 +1,26 @@
 -- goscript's lookup gives what the rules' S says, with as many turns of its while as there are types, or any more.
-use mathlib.Core.Path.{_≡_, refl, sym, ap, ap₂, _∙_, subst}
-use mathlib.Core.Bool.{Bool, true, false, cond, not, _&&_, _||_, or-comm}
-use mathlib.Core.List.{List, [], _∷_, _++_, map, append-nil, foldl}
-use mathlib.Core.Option.{Option, none, some}
-use Prim.Native.Nat.{ℕ, zero, suc, _≤_, _<_}
+use mathlib.Core.Path.{_≡_, refl, sym, ap, ap₂, _∙_}
+use mathlib.Core.Bool.{Bool, true, false, not, _||_}
+use mathlib.Core.List.{List, [], _∷_, _++_, map}
+use Prim.Native.Nat.{ℕ, zero, suc}
 use lib.Dec.{eqb}
 use Rattle.objects.specs.Lists.{any, keep, flat}
-use Rattle.objects.proofs.ListLaws.{cases, clash, or-assoc, or-l, or-r, any-append, any-map, any-keep, keep-append, keep-swap, keep-ext, keep-weaker}
+use Rattle.objects.proofs.ListLaws.{cases, clash, or-l, or-r, any-append, any-map, any-keep, keep-append, keep-swap, keep-ext, keep-weaker}
 use Rattle.objects.proofs.KeyLaws.{same-key}
 use Rattle.text.specs.Bytes.{isBlank}
 use Rattle.objects.specs.declared.TypeKey.{TypeKey}
-use Rattle.objects.specs.Table.{Table, size, sameType, kindNumber, isStruct, isIface, isNamed, kindAt, under, bare, pointerAt, allMethods, fieldsOf, allMethodsOf, isEmbedded}
+use Rattle.objects.specs.Table.{Table, sameType, kindNumber, isStruct, isIface, isNamed, kindAt, under, allMethods}
 use Rattle.rules.specs.Members.{Identity}
 use Rattle.rules.specs.Identity.{identical}
-use Rattle.rules.specs.Ways.{Place, Walk, Way, Selected, notfound, owned, embedded, fieldPlaces, start}
+use Rattle.rules.specs.Ways.{notfound, owned}
 use Rattle.ways.specs.Graph as over
-use Rattle.ways.specs.Levels.{EmbeddedType, at, raw, merge, next, hit, verdict, unseen, search-levels}
-use Rattle.ways.specs.OfTable.{graph, stepOf}
+use Rattle.ways.specs.Levels.{EmbeddedType, at, merge, next, hit, unseen, search-levels}
+use Rattle.ways.specs.OfTable.{graph}
 use Rattle.ways.proofs.Merge.{Lawful, Class, merge-keep}
 use Rattle.ways.proofs.Same.{Keyed}
 use Rattle.ways.proofs.Extra.{Apart, merge-apart}
 use Rattle.goscript.specs.Consolidate.{consolidateMultiples}
-use Rattle.goscript.specs.Lookup.{Scan, searchable, scanned, ended, turns}
+use Rattle.goscript.specs.Lookup.{searchable, scanned, ended, turns}
 use Rattle.goscript.proofs.Consolidating.{consolidate-is}
 use Rattle.goscript.proofs.Scans.{skipped, sawNamed}
 use Rattle.goscript.proofs.ScanLevels.{live, kept, sawAll, liveNext, firstly, scan-none}

@@ -1,13 +1,13 @@
 -- What a map says of one key after a loop that inserts under keys that it lacks.
 use mathlib.Core.Path.{_≡_, refl, sym, ap, _∙_, subst}
-use mathlib.Core.Bool.{Bool, true, false, cond, _||_}
+use mathlib.Core.Bool.{Bool, true, false, cond}
 use mathlib.Core.List.{List, [], _∷_, foldl}
 use mathlib.Core.Option.{Option, none, some}
 use Rattle.objects.specs.Lists.{any}
-use Rattle.objects.proofs.ListLaws.{cases, clash}
+use Rattle.objects.proofs.ListLaws.{cases}
 use Rattle.rules.specs.Members.{Identity, sameId}
 use Rattle.rules.proofs.MemberLaws.{sameId-true, sameId-self}
-use Rattle.goscript.specs.Maps.{Entry, Map, insert, get, isSome, contains, keys, insertSome, insertNew}
+use Rattle.goscript.specs.Maps.{Map, get, contains, keys, insertNew}
 
 module _ {A : Type 0} where
   abbrev pub orElse : Option A → Option A → Option A

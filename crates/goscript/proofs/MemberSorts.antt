@@ -2,11 +2,11 @@
 use mathlib.Core.Path.{_≡_, refl, sym, ap, _∙_, subst}
 use mathlib.Core.Bool.{Bool, true, false, cond, _||_}
 use mathlib.Core.List.{List, [], _∷_}
-use mathlib.Core.Logic.{_⊎_, inl, inr}
+use mathlib.Core.Logic.{inl, inr}
 use Prim.Native.Nat.{ℕ, suc}
 use borrow.Author.Tests.{eqb-true}
 use Rattle.objects.specs.Lists.{In}
-use Rattle.objects.proofs.ListLaws.{cases, clash, or-true}
+use Rattle.objects.proofs.ListLaws.{clash, or-true}
 use Rattle.objects.proofs.KindLaws.{named-is, under-named}
 use Rattle.objects.specs.declared.TypeKey.{TypeKey}
 use Rattle.objects.specs.Table.{Table, Entity, Field, Method, Member, isMethod, Kind, Named, kindNumber, isStruct, isIface, isNamed, membersOf, fieldsOf, declaredOf, allMethodsOf, kindAt, under, ifaceUnder}
@@ -31,6 +31,16 @@ stands-method (Method ptr) k h s = refl
 stands-field : (e : Entity) (k : Kind) → stands e k ≡ true → isStruct k ≡ true → isMethod e ≡ false
 stands-field (Field emb tag) k h s = refl
 stands-field (Method ptr) k h s = clash h (rw (eqb-true (kindNumber k) 8 s))
+
+module _ (T : Table) (sound : Sound T) (u : TypeKey) (m : Member) where
+  -- a member of an interface's list
+  pub listed-In : In m (allMethodsOf (kindAt T (under T u))) → (isIface (kindAt T (under T u)) ≡ true) × In m (membersOf (kindAt T (under T u)))
+  listed-In i = only-if (isIface (kindAt T (under T u))) m (membersOf (kindAt T (under T u))) i
+
+  pub listed-method : In m (allMethodsOf (kindAt T (under T u))) → isMethod (m .entity) ≡ true
+  listed-method i =
+      let d = listed-In i in
+      stands-method (m .entity) (kindAt T (under T u)) (sound .standing (under T u) m (d .1)) (rw (eqb-true (kindNumber (kindAt T (under T u))) 9 (d .0)))
 
 module _ (T : Table) (sound : Sound T) (u : TypeKey) (p : Place) where
   -- a named type's list
@@ -58,12 +68,10 @@ module _ (T : Table) (sound : Sound T) (u : TypeKey) (p : Place) where
 
   -- an interface's list
   pub iface-In : In p (placesFrom 0 (allMethodsOf (kindAt T (under T u)))) → (isIface (kindAt T (under T u)) ≡ true) × In (p .member) (membersOf (kindAt T (under T u)))
-  iface-In i = only-if (isIface (kindAt T (under T u))) (p .member) (membersOf (kindAt T (under T u))) (place-In 0 (allMethodsOf (kindAt T (under T u))) p i)
+  iface-In i = listed-In T sound u (p .member) (place-In 0 (allMethodsOf (kindAt T (under T u))) p i)
 
   pub iface-method : In p (placesFrom 0 (allMethodsOf (kindAt T (under T u)))) → isMethod (p .member .entity) ≡ true
-  iface-method i =
-      let d = iface-In i in
-      stands-method (p .member .entity) (kindAt T (under T u)) (sound .standing (under T u) (p .member) (d .1)) (rw (eqb-true (kindNumber (kindAt T (under T u))) 9 (d .0)))
+  iface-method i = listed-method T sound u (p .member) (place-In 0 (allMethodsOf (kindAt T (under T u))) p i)
 
   pub iface-flag : (w : Way) → w .walk .at ≡ u → In p (placesFrom 0 (allMethodsOf (kindAt T (under T u)))) → true ≡ methodFlag T w
   unfolding methodFlag ifaceUnder

@@ -1,19 +1,16 @@
 -- `MethodSet::new` gives the rules' M: on every sound table, for every type of it, the same methods in the same order, with indices and flag.
 use mathlib.Core.Path.{_≡_, refl, sym, ap, _∙_, subst}
-use mathlib.Core.Bool.{Bool, true, false, cond, not, _&&_, _||_}
+use mathlib.Core.Bool.{Bool, true, false, not, _&&_}
 use mathlib.Core.List.{List, [], _∷_, map}
-use mathlib.Core.Logic.{_⊎_, inl, inr}
 use mathlib.Core.Option.{Option, none, some}
-use Prim.Native.Nat.{ℕ, zero, suc, _≤_, _<_}
-use lib.Dec.{eqb}
-use borrow.Author.Tests.{eqb-true}
-use Rattle.objects.specs.Lists.{any, keep, flat, empty, In, Sorted}
-use Rattle.objects.proofs.ListLaws.{cases, clash, or-true, or-false, and-l, and-r, un-not, some-In, In-keep, keep-In-to, map-flat, flat-In-ext}
+use Prim.Native.Nat.{ℕ, _≤_, _<_}
+use Rattle.objects.specs.Lists.{keep, flat, empty, In, Sorted}
+use Rattle.objects.proofs.ListLaws.{cases, clash, or-true, or-false, some-In, In-keep, keep-In-to, map-flat, flat-In-ext}
 use Rattle.objects.proofs.SortedLaws.{sorted-keep, sorted-same}
 use Rattle.text.specs.Bytes.{isBlank}
 use Rattle.text.proofs.ByteLaws.{below-irrefl, below-trans}
 use Rattle.objects.specs.declared.TypeKey.{TypeKey}
-use Rattle.objects.specs.Table.{Table, size, isMethod, Member, Kind, Named, kindNumber, isNamed, isPointer, isIface, kindAt, bare, pointerAt, under, namedPointer}
+use Rattle.objects.specs.Table.{Table, size, isIface, kindAt, bare, pointerAt, namedPointer}
 use Rattle.rules.specs.Members.{Identity, identityOf, identityFrom, sameId, idBytes}
 use Rattle.rules.proofs.MemberLaws.{sameId-true}
 use Rattle.rules.specs.Sound.{Sound}
@@ -26,14 +23,14 @@ use Rattle.ways.proofs.TableLaws.{closed, bare-in}
 use Rattle.ways.proofs.MethodSets.{enough-levels}
 use Rattle.ways.proofs.GivenWays.{given-way, given-ways}
 use Rattle.goscript.specs.Maps.{Map, get, isSome, keys}
-use Rattle.goscript.specs.MethodSets.{Selection, MethodCollision, method, collision, selected, base, sorted, newMethodSet}
+use Rattle.goscript.specs.MethodSets.{Selection, MethodCollision, method, selected, base, sorted, newMethodSet}
 use Rattle.goscript.proofs.MapLaws.{keys-have}
 use Rattle.goscript.proofs.LookupSame.{flat-keep}
 use Rattle.goscript.proofs.Collisions.{selectionOf}
 use Rattle.goscript.proofs.Values.{entryOf}
 use Rattle.goscript.proofs.SetsSame.{begin, base-says}
 use Rattle.goscript.proofs.PointerSets.{pointer-empty}
-use Rattle.goscript.proofs.SetKeys.{Keys, base-keys, owned-member, base-blank}
+use Rattle.goscript.proofs.SetKeys.{base-keys, owned-member, base-blank}
 
 -- ---- two lists in order that give the same
 

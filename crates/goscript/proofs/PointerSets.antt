@@ -1,18 +1,17 @@
 -- A named type whose u is a pointer has no members of its own and embeds nothing, so M gives nothing for it, whether or not it is left out at once.
 use mathlib.Core.Path.{_≡_, refl, sym, ap, _∙_, subst}
-use mathlib.Core.Bool.{Bool, true, false, _&&_}
-use mathlib.Core.List.{List, [], _∷_, _++_}
-use mathlib.Core.Logic.{_⊎_, inl, inr}
-use Prim.Native.Nat.{ℕ, zero, suc, _<_}
+use mathlib.Core.Bool.{true}
+use mathlib.Core.List.{List, [], _++_}
+use Prim.Native.Nat.{ℕ, _<_}
 use borrow.Author.Tests.{eqb-true}
 use Rattle.objects.specs.Lists.{In}
 use Rattle.objects.proofs.ListLaws.{clash, either, and-l, and-r, In-append}
 use Rattle.objects.proofs.KindLaws.{named-is, under-named, bare-plain}
 use Rattle.objects.specs.declared.TypeKey.{TypeKey}
-use Rattle.objects.specs.Table.{Table, size, Member, Named, kindNumber, isNamed, isPointer, isStruct, isIface, membersOf, declaredOf, allMethodsOf, allMethods, kindAt, bare, under, namedPointer}
+use Rattle.objects.specs.Table.{Table, size, Member, Named, kindNumber, isNamed, isPointer, membersOf, declaredOf, allMethodsOf, allMethods, kindAt, bare, under, namedPointer}
 use Rattle.rules.specs.Members.{Identity}
 use Rattle.rules.specs.Sound.{Sound}
-use Rattle.rules.specs.Ways.{Place, placesFrom, Walk, Way, fieldPlaces, owned}
+use Rattle.rules.specs.Ways.{Place, placesFrom, Walk, fieldPlaces, owned}
 use Rattle.rules.specs.MethodSet.{Standing, absent, hidden, given, listed, standing}
 use Rattle.ways.specs.IsWay.{IsWalk, starts, takes}
 use Rattle.ways.proofs.AllWays.{ways-listed}

@@ -1,8 +1,8 @@
 -- One turn of the lookup's while, on a level without two identical types: what it gives is told by the types of the level that have the name.
-use mathlib.Core.Path.{_≡_, refl, sym, ap, ap₂, _∙_, subst}
-use mathlib.Core.Bool.{Bool, true, false, cond, not, _&&_, _||_}
+use mathlib.Core.Path.{_≡_, refl, sym, ap, _∙_}
+use mathlib.Core.Bool.{Bool, true, false, cond}
 use mathlib.Core.List.{List, [], _∷_, _++_, map, append-nil, append-assoc, foldl}
-use mathlib.Core.Option.{Option, none, some}
+use mathlib.Core.Option.{none, some}
 use Prim.Native.Nat.{ℕ}
 use Rattle.objects.specs.Lists.{any, keep, flat}
 use Rattle.objects.proofs.ListLaws.{cases, clash, map-map, none-In, keep-In-ext}
@@ -18,8 +18,8 @@ use Rattle.ways.specs.OfTable.{graph, stepOf}
 use Rattle.ways.proofs.Merge.{Lawful}
 use Rattle.ways.proofs.Same.{Keyed}
 use Rattle.ways.proofs.Extra.{Apart}
-use Rattle.goscript.specs.Lookup.{Scan, Turn, returned, going, wayOf, onFound, searchable, pushes, embed, visit, ended}
-use Rattle.goscript.proofs.Scans.{gathers, skipped, sawNamed, visited, visit-known, visit-miss, visit-hit}
+use Rattle.goscript.specs.Lookup.{Scan, returned, going, onFound, searchable, embed, visit, ended}
+use Rattle.goscript.proofs.Scans.{gathers, skipped, sawNamed, visit-known, visit-miss, visit-hit}
 
 module _ (T : Table) where
   -- a type of a kind that is pushed

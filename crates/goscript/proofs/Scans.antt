@@ -1,23 +1,22 @@
 -- What the lookup does with one embedded type: it gathers the types that it embeds, or finds its one member of the name.
 use mathlib.Core.Path.{_≡_, refl, sym, ap, _∙_, subst}
 use mathlib.Core.Bool.{Bool, true, false, cond, not, _&&_, _||_}
-use mathlib.Core.List.{List, [], _∷_, _++_, map, append-nil, append-assoc, foldl}
-use mathlib.Core.Option.{Option, none, some}
+use mathlib.Core.List.{List, [], _∷_, _++_, append-nil, append-assoc, foldl}
+use mathlib.Core.Option.{none, some}
 use Prim.Native.Nat.{ℕ}
-use lib.Dec.{eqb}
 use borrow.Author.Tests.{eqb-true}
 use Rattle.objects.specs.Lists.{any, keep, flat}
-use Rattle.objects.proofs.ListLaws.{cases, clash, or-l, or-r, any-append, keep-append, map-map, none-kept, keep-none}
+use Rattle.objects.proofs.ListLaws.{cases, clash, or-l, or-r, any-append, keep-append, none-kept, keep-none}
 use Rattle.text.specs.Bytes.{isBlank}
 use Rattle.objects.specs.declared.TypeKey.{TypeKey}
-use Rattle.objects.specs.Table.{Table, sameType, isEmbedded, Member, Kind, kindNumber, isStruct, isIface, isNamed, membersOf, fieldsOf, declaredOf, allMethodsOf, allMethods, kindAt, under, bare}
+use Rattle.objects.specs.Table.{Table, sameType, Kind, kindNumber, isStruct, isIface, isNamed, membersOf, fieldsOf, declaredOf, allMethodsOf, allMethods, kindAt, under}
 use Rattle.rules.specs.Members.{Identity}
-use Rattle.rules.specs.Ways.{Place, placesFrom, Way, along, fieldPlaces, embedded, owned}
-use Rattle.ways.specs.Levels.{EmbeddedType, at, firstOf, next, hit, found}
+use Rattle.rules.specs.Ways.{Place, placesFrom, Way, fieldPlaces, owned}
+use Rattle.ways.specs.Levels.{EmbeddedType, at, firstOf, next, hit}
 use Rattle.ways.specs.Graph as over
-use Rattle.ways.specs.OfTable.{graph, stepOf}
+use Rattle.ways.specs.OfTable.{graph}
 use Rattle.ways.proofs.Same.{One}
-use Rattle.goscript.specs.Lookup.{Scan, Turn, returned, going, isNone, wayOf, onFound, ifFound, searchable, matches, firstMatch, lookupMethod, pushes, embed, pushed, visitField, visitUnder, saw, visit}
+use Rattle.goscript.specs.Lookup.{Scan, Turn, returned, going, isNone, wayOf, onFound, matches, firstMatch, pushes, embed, pushed, visitField, visitUnder, visit}
 
 -- no struct is an interface
 pub not-both : (k : Kind) → isStruct k ≡ true → isIface k ≡ false

@@ -1,22 +1,22 @@
 -- The keys of the maps of `MethodSet::new` are identities of the table's members, and under the blank name there is never a method.
-use mathlib.Core.Path.{_≡_, refl, sym, ap, ap₂, _∙_, subst}
-use mathlib.Core.Bool.{Bool, true, false, cond}
-use mathlib.Core.List.{List, [], _∷_, _++_, map, foldl}
-use mathlib.Core.Logic.{_⊎_, inl, inr}
+use mathlib.Core.Path.{_≡_, refl, sym, ap, _∙_, subst}
+use mathlib.Core.Bool.{true, false}
+use mathlib.Core.List.{List, [], _∷_, _++_, foldl}
+use mathlib.Core.Logic.{inl, inr}
 use mathlib.Core.Option.{Option, none, some}
 use Prim.Native.Nat.{ℕ, zero, suc}
-use Rattle.objects.specs.Lists.{any, keep, flat, In}
+use Rattle.objects.specs.Lists.{keep, flat, In}
 use Rattle.objects.proofs.ListLaws.{cases, clash, either, In-append, In-keep, In-map, In-flat}
 use Rattle.text.specs.Bytes.{isBlank}
 use Rattle.objects.specs.declared.TypeKey.{TypeKey}
 use Rattle.objects.specs.Table.{Table, Member, isMethod, kindAt, under, allMethods, declaredOf, allMethodsOf}
-use Rattle.rules.specs.Members.{Identity, identityOf, identityFrom, sameId}
+use Rattle.rules.specs.Members.{Identity, identityOf, identityFrom}
 use Rattle.rules.specs.Sound.{Sound, MemberOf}
 use Rattle.rules.specs.Ways.{Place, placesFrom, fieldPlaces, owned}
 use Rattle.rules.proofs.MemberLaws.{sameId-true}
 use Rattle.rules.proofs.IdLaws.{Proper, member-proper}
 use Rattle.ways.specs.Levels.{EmbeddedType, at}
-use Rattle.goscript.specs.Maps.{Entry, Map, insert, get, contains, keys, insertNew}
+use Rattle.goscript.specs.Maps.{Map, get, contains, keys, insertNew}
 use Rattle.goscript.specs.Lookup.{matches}
 use Rattle.goscript.specs.MethodSets.{MethodCollision, FieldCollision, var, collided, Visit, addMethod, addToFieldSet, methodIn, fieldIn, selected, visitAll, addMethods, addCollisions, base}
 use Rattle.goscript.proofs.MapLaws.{orElse}
@@ -24,7 +24,7 @@ use Rattle.goscript.proofs.MemberSorts.{declared-In, iface-In, field-In
 use Rattle.goscript.proofs.Visits.{msetOn, fsetOn, afterAll}
 use Rattle.goscript.proofs.Collisions.{Hit, addM, hitAt, hitsOf, mset-at}
 use Rattle.goscript.proofs.Values.{put}
-use Rattle.goscript.proofs.SetsSame.{Turn, turn-on, all-visited, loops, base-on, W, K}
+use Rattle.goscript.proofs.SetsSame.{Turn, turn-on, all-visited, loops, base-on, K}
 
 -- what each turn of a fold keeps, the fold keeps
 fold-keeps : {A S : Type 0} (P : S → Type 0) (f : S → A → S) (l : List A) → ((s : S) (x : A) → In x l → P s → P (f s x)) → (s : S) → P s → P (foldl f s l)
@@ -119,7 +119,7 @@ module _ (T : Table) (sound : Sound T) where
           → selected (get (addCollisions T (visitAll T seen L) (addMethods T (visitAll T seen L) set)) q) ≡ []
       blank-turn d seen L turn set h =
           let none-there : get (visitAll T seen L .mset) q ≡ none =
-              ap (λ (st : Visit). get (st .mset) q) (all-visited T sound t d seen L turn) ∙ mset-at T q sound (K T sound t d seen L turn) [] ∙ no-methods (K T sound t d seen L turn) in
+          ap (λ (st : Visit). get (st .mset) q) (all-visited T sound t d seen L turn) ∙ mset-at T q sound (K T sound t d seen L turn) [] ∙ no-methods (K T sound t d seen L turn) in
           ap selected (loops T sound t d seen L turn q set ∙ ap (λ m. orElse (get set q) (put m (get (visitAll T seen L .fset) q))) none-there)
           ∙ not-selected (get set q) (get (visitAll T seen L .fset) q) h
 

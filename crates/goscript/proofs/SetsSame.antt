@@ -1,8 +1,8 @@
 -- `MethodSet::new`, key by key: after every number of levels, its map says what the rules' standing says.
 use mathlib.Core.Path.{_≡_, refl, sym, ap, ap₂, _∙_}
-use mathlib.Core.Bool.{Bool, true, false, not, _&&_, _||_}
-use mathlib.Core.List.{List, [], _∷_, _++_, map, foldl}
-use mathlib.Core.Option.{Option, none, some}
+use mathlib.Core.Bool.{true, false, not, _||_}
+use mathlib.Core.List.{List, [], _∷_, map, foldl}
+use mathlib.Core.Option.{none}
 use Prim.Native.Nat.{ℕ, zero, suc}
 use lib.Dec.{eqb}
 use Rattle.objects.specs.Lists.{any, keep, flat}
@@ -10,15 +10,14 @@ use Rattle.objects.proofs.ListLaws.{cases, any-ext, any-append, any-map, keep-m
 use Rattle.objects.proofs.KeyLaws.{same-key}
 use Rattle.text.specs.Bytes.{isBlank}
 use Rattle.objects.specs.declared.TypeKey.{TypeKey}
-use Rattle.objects.specs.Table.{Table, sameType, kindNumber, isNamed, kindAt}
+use Rattle.objects.specs.Table.{Table, sameType, isNamed, kindAt}
 use Rattle.rules.specs.Members.{Identity}
-use Rattle.rules.specs.Identity.{identical}
 use Rattle.rules.specs.Sound.{Sound}
 use Rattle.rules.proofs.IdentityLaws.{identical-parts}
 use Rattle.rules.specs.Ways.{Walk, start, onward, ends}
 use Rattle.rules.specs.MethodSet.{Level, Standing, absent, hidden, given, firstLevel, reaches, barred, below, settled, standingFrom}
 use Rattle.ways.specs.Graph as over
-use Rattle.ways.specs.Levels.{EmbeddedType, at, raw, merge, next, hit, found}
+use Rattle.ways.specs.Levels.{EmbeddedType, at, raw, merge, next, hit}
 use Rattle.ways.specs.OfTable.{graph}
 use Rattle.ways.proofs.Merge.{Lawful, Class, any-merge, merge-keep, merge-next}
 use Rattle.ways.proofs.Extra.{Apart, merge-apart}
@@ -28,7 +27,7 @@ use Rattle.ways.proofs.AllWays.{plain-lawful}
 use Rattle.ways.proofs.MethodSets.{setLevel}
 use Rattle.ways.proofs.TableLaws.{lawful, keyed, own}
 use Rattle.goscript.specs.Consolidate.{consolidateMultiples}
-use Rattle.goscript.specs.Maps.{Map, get, isSome, contains}
+use Rattle.goscript.specs.Maps.{Map, get, contains}
 use Rattle.goscript.specs.MethodSets.{MethodCollision, Visit, methodIn, fieldIn, visitAll, addMethods, addCollisions, base}
 use Rattle.goscript.proofs.Consolidating.{consolidate-is}
 use Rattle.goscript.proofs.Scans.{skipped}
@@ -36,7 +35,7 @@ use Rattle.goscript.proofs.ScanLevels.{kept, sawAll}
 use Rattle.goscript.proofs.LookupSame.{saw-all}
 use Rattle.goscript.proofs.MapLaws.{orElse, orElse-assoc, orElse-none, loop-keys}
 use Rattle.goscript.proofs.Visits.{afterAll, visits}
-use Rattle.goscript.proofs.Collisions.{addM, addF, hitsOf, hitOf, mset-at, fset-at, hits-are}
+use Rattle.goscript.proofs.Collisions.{addM, addF, hitOf, mset-at, fset-at, hits-are}
 use Rattle.goscript.proofs.Values.{entryOf, put, value, value-merge}
 
 module _ (T : Table) (sound : Sound T) where

@@ -1,5 +1,5 @@
 -- What a level puts into mset_base under a key is what the rules' `settled` says of the ways of that key: none, one alone, or two or more.
-use mathlib.Core.Path.{_≡_, refl, sym, ap, _∙_}
+use mathlib.Core.Path.{_≡_, refl}
 use mathlib.Core.Bool.{Bool, true, false, cond, not, _&&_, _||_}
 use mathlib.Core.List.{List, [], _∷_, map, foldl}
 use mathlib.Core.Option.{Option, none, some}
@@ -7,15 +7,15 @@ use Rattle.objects.specs.Lists.{any, keep}
 use Rattle.objects.proofs.ListLaws.{cases, clash, or-l}
 use Rattle.objects.specs.Table.{Table, isMethod, hasPtr}
 use Rattle.rules.specs.Members.{Identity}
-use Rattle.rules.specs.Ways.{Place, Walk, Way}
+use Rattle.rules.specs.Ways.{Walk, Way}
 use Rattle.rules.specs.MethodSet.{Standing, absent, hidden, given, methodFlag, alone, settled}
 use Rattle.ways.specs.Graph as over
-use Rattle.ways.specs.Levels.{EmbeddedType, at, mark, raw, twin, merge, found, firstOf}
+use Rattle.ways.specs.Levels.{EmbeddedType, at, mark, raw, twin, merge, found}
 use Rattle.ways.specs.OfTable.{graph}
 use Rattle.goscript.specs.Maps.{isSome}
-use Rattle.goscript.specs.MethodSets.{Selection, MethodCollision, method, collision, FieldCollision, var, collided, methodIn, fieldIn}
+use Rattle.goscript.specs.MethodSets.{MethodCollision, method, collision, FieldCollision, var, collided, methodIn, fieldIn}
 use Rattle.goscript.proofs.MapLaws.{orElse}
-use Rattle.goscript.proofs.Collisions.{selectionOf, Hit, hitWay, hitAt, metMethod, metField, addM, addF, hitOf}
+use Rattle.goscript.proofs.Collisions.{selectionOf, Hit, hitWay, metMethod, metField, addM, addF, hitOf}
 
 -- a standing as an entry of mset_base
 abbrev pub entryOf : Table → Standing → Option MethodCollision

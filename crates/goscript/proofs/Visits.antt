@@ -1,20 +1,19 @@
 -- One level of `MethodSet::new`: a named type is put into `seen` while the level is gone through, yet the level is visited as if all of it had been
 -- checked beforehand.
-use mathlib.Core.Path.{_≡_, refl, sym, ap, _∙_}
-use mathlib.Core.Bool.{Bool, true, false, cond, not, _&&_}
+use mathlib.Core.Path.{_≡_, refl, _∙_}
+use mathlib.Core.Bool.{Bool, true, false}
 use mathlib.Core.List.{List, [], _∷_, _++_, map, append-nil, append-assoc, foldl}
-use Rattle.objects.specs.Lists.{any, keep, flat}
+use Rattle.objects.specs.Lists.{keep, flat}
 use Rattle.objects.proofs.ListLaws.{cases, clash, map-map}
-use Rattle.objects.specs.declared.TypeKey.{TypeKey}
 use Rattle.objects.specs.Table.{Table, isEmbedded, Kind, isStruct, isIface, isNamed, membersOf, fieldsOf, declaredOf, allMethodsOf, kindAt, under}
 use Rattle.rules.specs.Ways.{Place, placesFrom, fieldPlaces, embedded}
 use Rattle.ways.specs.Graph as over
-use Rattle.ways.specs.Levels.{EmbeddedType, at, twin, next}
+use Rattle.ways.specs.Levels.{EmbeddedType, at, next}
 use Rattle.ways.specs.OfTable.{graph, stepOf}
 use Rattle.ways.proofs.Merge.{Lawful}
 use Rattle.ways.proofs.Extra.{Apart}
 use Rattle.goscript.specs.Maps.{Map}
-use Rattle.goscript.specs.MethodSets.{MethodCollision, FieldCollision, Visit, addMethod, addToFieldSet, embedIn, visitField, withMethods, visitUnder, saw, visit}
+use Rattle.goscript.specs.MethodSets.{MethodCollision, FieldCollision, Visit, addMethod, addToFieldSet, embedIn, visitField, visitUnder, visit}
 use Rattle.goscript.proofs.Scans.{skipped, sawNamed, not-both}
 use Rattle.goscript.proofs.ScanLevels.{kept, sawAll, kept-on}
 

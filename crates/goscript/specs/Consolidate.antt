@@ -1,5 +1,5 @@
 -- `consolidate_multiples`: "collects multiple list entries with the same type into a single entry marked as containing multiples".
-use mathlib.Core.Bool.{Bool, true, false, cond}
+use mathlib.Core.Bool.{true, cond}
 use mathlib.Core.List.{List, [], _∷_, foldl}
 use Rattle.objects.specs.Table.{Table}
 use Rattle.rules.specs.Identity.{identical}

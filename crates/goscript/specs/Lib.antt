@@ -2,3 +2,4 @@ pub mod Consolidate
 pub mod Lookup
 pub mod Maps
 pub mod MethodSets
+pub mod Missing

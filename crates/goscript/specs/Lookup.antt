@@ -9,7 +9,7 @@ use Rattle.text.specs.Bytes.{isBlank}
 use Rattle.objects.specs.declared.TypeKey.{TypeKey}
 use Rattle.objects.specs.Table.{Table, sameType, isEmbedded, Member, Kind, isStruct, isIface, isNamed, membersOf, kindAt, under, bare, pointerAt, ifaceUnder, namedPointer}
 use Rattle.rules.specs.Members.{Identity, identityOf, sameId}
-use Rattle.rules.specs.Ways.{Place, placesFrom, Walk, Way, placesOf, Selected, notfound, ambiguous, single, noMethod, start, along}
+use Rattle.rules.specs.Ways.{Place, placesFrom, Way, placesOf, Selected, notfound, ambiguous, single, noMethod, start, along}
 use Rattle.ways.specs.Levels.{EmbeddedType, at, raw}
 use Rattle.goscript.specs.Consolidate.{consolidateMultiples}
 

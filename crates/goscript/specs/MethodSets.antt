@@ -1,14 +1,14 @@
 -- `MethodSet::new` on values, its loops as folds, with `add_to_method_set` and `add_to_field_set`. An EmbeddedType is a walk (typ, indices, indirect) and
 -- `multiples`; a Selection holds what the loop puts into it.
-use mathlib.Core.Bool.{Bool, true, false, cond, not, _&&_, _||_}
+use mathlib.Core.Bool.{Bool, true, cond, not, _&&_, _||_}
 use mathlib.Core.List.{List, [], _∷_, _++_, foldl}
 use mathlib.Core.Option.{Option, none, some}
 use Prim.Native.Nat.{ℕ, zero, suc}
 use Rattle.objects.specs.Lists.{any, flat}
 use Rattle.objects.specs.declared.TypeKey.{TypeKey}
 use Rattle.objects.specs.Table.{Table, sameType, hasPtr, isEmbedded, Member, Kind, isStruct, isIface, isNamed, membersOf, kindAt, under, bare, pointerAt}
-use Rattle.rules.specs.Members.{Identity, identityOf}
-use Rattle.rules.specs.Ways.{Place, placesFrom, Walk, start, along}
+use Rattle.rules.specs.Members.{identityOf}
+use Rattle.rules.specs.Ways.{Place, placesFrom, start, along}
 use Rattle.rules.specs.MethodSet.{ascending}
 use Rattle.ways.specs.Levels.{EmbeddedType, at, raw}
 use Rattle.goscript.specs.Maps.{Map, insert, get, contains, keys, insertNew}

@@ -2,9 +2,9 @@
 use mathlib.Core.Path.{_≡_, refl, sym, ap₂, _∙_, subst}
 use mathlib.Core.Bool.{Bool}
 use mathlib.Core.List.{List, [], _∷_}
-use mathlib.Core.Logic.{_⊎_, inl, inr}
+use mathlib.Core.Logic.{inl, inr}
 use Rattle.objects.specs.Lists.{keep, In, Sorted}
-use Rattle.objects.proofs.ListLaws.{cases, either, In-keep}
+use Rattle.objects.proofs.ListLaws.{cases, In-keep}
 
 module _ {A : Type 0} (R : A → A → Type 0) where
   pub sorted-keep : (p : A → Bool) (l : List A) → Sorted R l → Sorted R (keep p l)

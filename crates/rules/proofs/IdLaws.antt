@@ -1,15 +1,14 @@
 -- The id of a member (specs/Members.antt) tells its identity: a name has no dot and no path is `_`, so the last dot parts path and name.
 use mathlib.Core.Path.{_≡_, refl, sym, ap, ap₂, _∙_, subst}
-use mathlib.Core.Bool.{Bool, true, false, cond, not, _&&_}
-use mathlib.Core.List.{List, [], _∷_, _++_, append-assoc, tail}
-use mathlib.Core.Logic.{_⊎_, inl, inr}
+use mathlib.Core.Bool.{Bool, true, false, not, _&&_}
+use mathlib.Core.List.{[], _∷_, _++_, append-assoc, tail}
+use mathlib.Core.Logic.{inl}
 use mathlib.Core.Option.{Option, none, some}
 use Prim.Native.Nat.{ℕ}
-use lib.Dec.{ltb}
 use lib.ListN.{length, getD}
 use borrow.Author.Tests.{ltb-true}
 use Rattle.objects.specs.Lists.{Bytes, every, In, headOr}
-use Rattle.objects.proofs.ListLaws.{cases, clash, and-l, and-r, In-append-r}
+use Rattle.objects.proofs.ListLaws.{cases, clash, and-r, In-append-r}
 use Rattle.objects.proofs.PartLaws.{every-In, getD-In}
 use Rattle.objects.specs.declared.TypeKey.{TypeKey}
 use Rattle.objects.specs.declared.PackageKey.{PackageKey}

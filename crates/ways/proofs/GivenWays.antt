@@ -1,23 +1,22 @@
 -- What M gives is a way of the rules: a method, the only way of its name on its level, at the end of a walk on which each type is reached for the first
 -- time. So the code needs to keep only how a type was first reached.
 use mathlib.Core.Path.{_≡_, refl, sym, ap, _∙_, subst}
-use mathlib.Core.Bool.{Bool, true, false, not, _&&_}
-use mathlib.Core.List.{List, [], _∷_}
-use mathlib.Core.Logic.{_⊎_, inl, inr}
+use mathlib.Core.Bool.{Bool, true, not, _&&_}
+use mathlib.Core.List.{[], _∷_}
+use mathlib.Core.Logic.{inl}
 use Prim.Native.Nat.{ℕ, zero, suc, _<_}
-use Rattle.objects.specs.Lists.{any, keep, flat, In, headOr}
+use Rattle.objects.specs.Lists.{flat, In, headOr}
 use Rattle.objects.proofs.ListLaws.{cases, clash, any-In, In-keep, In-flat, In-map, flat-In-to}
 use Rattle.objects.specs.declared.TypeKey.{TypeKey}
 use Rattle.objects.specs.Table.{Table, size, sameType, isMethod, bare}
 use Rattle.rules.specs.Members.{Identity, identityOf, sameId}
 use Rattle.rules.specs.Ways.{Place, Walk, Way, start, owned, onward, walks, matching, ends, ways}
-use Rattle.rules.specs.MethodSet.{Level, Standing, absent, hidden, given, listed, firstLevel, reaches, barred, below, settled, standingFrom, standing}
+use Rattle.rules.specs.MethodSet.{Standing, absent, hidden, given, listed, reaches, barred, below, settled, standingFrom, standing}
 use Rattle.ways.specs.OfTable.{graphUpTo}
 use Rattle.ways.proofs.Merge.{Lawful}
-use Rattle.ways.proofs.Same.{reached}
 use Rattle.ways.proofs.Bound.{Closed}
 use Rattle.ways.proofs.AllWays.{plain, plain-lawful}
-use Rattle.ways.proofs.MethodSets.{setLevel, level-walks, new, not-new, Gives, isAbsent, isGiven, endsInMethod, settled-absent, settled-given, hasMethod, any-ends, sooner, NoMethod, endsAt, no-method-on, new-short}
+use Rattle.ways.proofs.MethodSets.{setLevel, level-walks, new, not-new, Gives, isAbsent, isGiven, endsInMethod, settled-absent, settled-given, hasMethod, sooner, NoMethod, endsAt, no-method-on, new-short}
 
 -- ---- first walks
 

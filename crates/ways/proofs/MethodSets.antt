@@ -1,23 +1,22 @@
 -- Laws of M by levels: what a level reaches for the first time is what all walks reach for the first time, so as many levels are enough as there are
 -- types, and a method that is given stands at the end of a walk whose types are all reached for the first time.
-use mathlib.Core.Path.{_≡_, refl, sym, ap, ap₂, _∙_, subst}
-use mathlib.Core.Bool.{Bool, true, false, cond, not, _&&_, _||_}
-use mathlib.Core.List.{List, [], _∷_, _++_, map}
-use mathlib.Core.Logic.{_⊎_, inl, inr}
+use mathlib.Core.Path.{_≡_, refl, sym, ap, _∙_, subst}
+use mathlib.Core.Bool.{Bool, true, false, not, _&&_}
+use mathlib.Core.List.{List, [], _∷_, map}
 use Prim.Native.Nat.{ℕ, zero, suc, _+_, _≤_, _<_}
 use native.Mathlib.Omega.{arith}
 use Rattle.objects.specs.Lists.{any, keep, flat, In, headOr}
-use Rattle.objects.proofs.ListLaws.{cases, clash, or-true, any-ext, any-map, any-flat, any-append, any-none, any-In, none-In, some-In, In-keep, In-flat, In-map, keep-flat, keep-weaker, keep-In-to, un-not, flat-In-to, map-In-to}
+use Rattle.objects.proofs.ListLaws.{cases, clash, or-true, any-ext, any-map, any-flat, any-append, any-none, any-In, none-In, some-In, In-keep, In-flat, keep-flat, keep-weaker, keep-In-to, un-not, flat-In-to, map-In-to}
 use Rattle.objects.proofs.KeyLaws.{same-key}
 use Rattle.objects.specs.declared.TypeKey.{TypeKey}
 use Rattle.objects.specs.Table.{Table, size, sameType, isMethod, hasPtr, isNamed, kindAt, bare}
 use Rattle.rules.specs.Members.{Identity, identityOf, sameId}
-use Rattle.rules.specs.Ways.{Place, Walk, Way, memberOf, start, along, embedded, owned, onward, walks, matching, ends, ways}
-use Rattle.rules.specs.MethodSet.{Level, Standing, absent, hidden, given, listed, firstLevel, reaches, barred, below, methodFlag, alone, settled, standingFrom, standing}
+use Rattle.rules.specs.Ways.{Walk, Way, memberOf, start, along, embedded, owned, onward, walks, matching, ends}
+use Rattle.rules.specs.MethodSet.{Level, Standing, absent, hidden, given, listed, firstLevel, reaches, barred, below, methodFlag, settled, standingFrom, standing}
 use Rattle.ways.specs.Graph as over
 use Rattle.ways.specs.OfTable.{graphUpTo, stepOf}
 use Rattle.ways.proofs.Merge.{Lawful}
-use Rattle.ways.proofs.Same.{reached, class-reached, reached-on}
+use Rattle.ways.proofs.Same.{reached, reached-on}
 use Rattle.ways.proofs.Bound.{Closed, bound}
 use Rattle.ways.proofs.Bridge.{walks-are}
 use Rattle.ways.proofs.AllWays.{plain, plain-lawful}
