@@ -13,3 +13,4 @@ pub mod SetKeys
 pub mod PointerSets
 pub mod MethodSetIs
 pub mod MissingIs
+pub mod LevelsEnd
