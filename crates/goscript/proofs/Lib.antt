@@ -14,3 +14,4 @@ pub mod PointerSets
 pub mod MethodSetIs
 pub mod MissingIs
 pub mod LevelsEnd
+pub mod LoopsEnd

@@ -4,6 +4,7 @@ use mathlib.Core.Bool.{Bool, true, false}
 use mathlib.Core.List.{List, [], _∷_}
 use mathlib.Core.Logic.{_⊎_, inl, inr}
 use Prim.Native.Nat.{ℕ, zero, suc, _≤_, _<_}
+use native.Mathlib.Omega.{arith}
 use Rattle.objects.specs.Lists.{In}
 use Rattle.objects.proofs.ListLaws.{cases, clash, In-flat, In-map, and-r}
 use Rattle.text.specs.Bytes.{isBlank}
@@ -12,10 +13,9 @@ use Rattle.objects.specs.Table.{Table, size, Member, Named, kindNumber, hasPtr,
 use Rattle.objects.proofs.KindLaws.{named-is, under-plain, under-named}
 use Rattle.rules.specs.Members.{Identity}
 use Rattle.rules.specs.Sound.{Sound}
-use Rattle.rules.proofs.IdentityLaws.{identical-parts}
 use Rattle.ways.proofs.TableLaws.{closed, lawful, keyed, bare-in}
 use Rattle.rules.specs.Identity.{identical}
-use Rattle.rules.specs.Ways.{Walk, Way, memberOf, single, noMethod, start, judged, shortest, searched, select}
+use Rattle.rules.specs.Ways.{Selected, notfound, Walk, Way, memberOf, single, noMethod, start, judged, shortest, searched, select}
 use Rattle.ways.specs.Graph as over
 use Rattle.ways.specs.Levels.{raw}
 use Rattle.ways.specs.OfTable.{graph}
@@ -25,9 +25,10 @@ use Rattle.ways.proofs.Bound.{Closed}
 use Rattle.ways.proofs.Least.{Least, least-or-none, shortest-least, shortest-nothing, shortest-more}
 use Rattle.ways.proofs.Bridge.{judged-is}
 use Rattle.ways.proofs.LevelTest.{shortest-are}
-use Rattle.goscript.specs.Lookup.{turns, lookupImpl, lookupFieldOrMethod}
+use Rattle.goscript.specs.Lookup.{enoughTurns, turns, lookupImpl, lookupFieldOrMethod}
 use Rattle.goscript.proofs.Scans.{skipped}
 use Rattle.goscript.proofs.LookupSame.{turns-are}
+use Rattle.goscript.proofs.LoopsEnd.{kinds, lookup-ends}
 
 -- ---- from a pointer on, the flag is set, and a does not matter
 
@@ -55,14 +56,14 @@ module _ (T : Table) (law : Lawful (graph T)) (closed : Closed (graph T)) (kinds
   judged-shortest a t = judged-is T a (shortest T q t) ∙ ap (over.judge (graph T) a) (shortest-are T t q)
 
   module _ (t : TypeKey) (in0 : bare T t .0 < size T) where
-    search-all : (a : Bool) (k : ℕ) → size T ≤ k → turns T q a k [] (raw (start T t) ∷ []) ≡ judged T a (shortest T q t)
+    search-all : (a : Bool) (k : ℕ) → size T ≤ k → turns T q notfound a k [] (raw (start T t) ∷ []) ≡ judged T a (shortest T q t)
     search-all a k le =
         turns-are T law kinds q real kd a k [] (raw (start T t) ∷ []) [] (raw (start T t) ∷ []) (record { apart = (refl, tt); alive = refl; knows = λ u. refl })
         ∙ search-is (graph T) law (skipped T) (named-skips (graph T) law (λ u. isNamed (kindAt T u))) (start T t) q kd a k 0 [] (raw (start T t) ∷ []) (record { level = refl; before = λ u h. h; within = λ u h. h }) (λ u h. clash h refl)
         ∙ ap (over.judge (graph T) a) (shortest-more (graph T) law closed (start T t) in0 q kd k le)
         ∙ sym (judged-shortest a t)
 
-    impl-is : (a : Bool) (k : ℕ) → size T ≤ k → lookupImpl T q k t a ≡ searched T q t a
+    impl-is : (a : Bool) (k : ℕ) → size T ≤ k → lookupImpl T q notfound k t a ≡ searched T q t a
     unfolding searched
     impl-is a k le = rw (real, search-all a k le)
 
@@ -89,21 +90,21 @@ under-in T sound t h = cases (isNamed (kindAt T t)) (λ e. let n = named-is (kin
     named : (u : TypeKey) (ms : List Member) → kindAt T t ≡ Named u ms → under T t .0 < size T
     named u ms e = rw (under-named T t u ms e) (sound .refers t u (rw e (inl refl)))
 
-module _ (T : Table) (sound : Sound T) (q : Identity) (t : TypeKey) (in0 : t .0 < size T) (a : Bool) (k : ℕ) (le : size T ≤ k) where
-  kinds : (x y : TypeKey) → identical T x y ≡ true → kindNumber (kindAt T x) ≡ kindNumber (kindAt T y)
-  kinds x y h = identical-parts T sound x y .0 h .kinds
+module _ (T : Table) (sound : Sound T) (q : Identity) (t : TypeKey) (in0 : t .0 < size T) (a : Bool) (out : Selected) (k : ℕ) (le : enoughTurns T ≤ k) where
+  impl-ends : isBlank (q .name) ≡ false → (u : TypeKey) → u .0 < size T → (b : Bool) → lookupImpl T q out k u b ≡ lookupImpl T q notfound k u b
+  impl-ends real u h b = rw (lookup-ends T sound u h q real b out k le)
 
-  impl-at : isBlank (q .name) ≡ false → (u : TypeKey) → u .0 < size T → (b : Bool) → lookupImpl T q k u b ≡ searched T q u b
-  impl-at real u h b = impl-is T (lawful T sound) (closed T sound) kinds q real (keyed T sound q real) u (bare-in T sound u h) b k le
+  impl-at : isBlank (q .name) ≡ false → (u : TypeKey) → u .0 < size T → (b : Bool) → lookupImpl T q out k u b ≡ searched T q u b
+  impl-at real u h b = impl-ends real u h b ∙ impl-is T (lawful T sound) (closed T sound) (kinds T sound) q real (keyed T sound q real) u (bare-in T sound u h) b k (omega arith)
 
-  through-pointer : isBlank (q .name) ≡ false → namedPointer T t ≡ true → lookupImpl T q k (under T t) false ≡ searched T q (under T t) a
+  through-pointer : isBlank (q .name) ≡ false → namedPointer T t ≡ true → lookupImpl T q out k (under T t) false ≡ searched T q (under T t) a
   unfolding namedPointer pointerAt
   through-pointer real n =
       impl-at real (under T t) (under-in T sound t in0) false
-      ∙ searched-pointer T (lawful T sound) (closed T sound) kinds q real (keyed T sound q real) (under T t) (bare-in T sound (under T t) (under-in T sound t in0)) (and-r (isNamed (kindAt T t)) (isPointer (kindAt T (under T t))) n) false a
+      ∙ searched-pointer T (lawful T sound) (closed T sound) (kinds T sound) q real (keyed T sound q real) (under T t) (bare-in T sound (under T t) (under-in T sound t in0)) (and-r (isNamed (kindAt T t)) (isPointer (kindAt T (under T t))) n) false a
 
-  -- GOSCRIPT'S LOOKUP GIVES WHAT S SAYS, after as many turns of its while as there are types and after any more.
-  pub lookup-is-goscript : lookupFieldOrMethod T q k t a ≡ select T q t a
+  -- GOSCRIPT'S LOOKUP GIVES WHAT S SAYS, and its loop ends.
+  pub lookup-is-goscript : lookupFieldOrMethod T q out k t a ≡ select T q t a
   unfolding select
   lookup-is-goscript =
       cases (isBlank (q .name))

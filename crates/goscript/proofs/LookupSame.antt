@@ -12,7 +12,7 @@ use Rattle.objects.specs.declared.TypeKey.{TypeKey}
 use Rattle.objects.specs.Table.{Table, sameType, kindNumber, isStruct, isIface, isNamed, kindAt, under, allMethods}
 use Rattle.rules.specs.Members.{Identity}
 use Rattle.rules.specs.Identity.{identical}
-use Rattle.rules.specs.Ways.{notfound, owned}
+use Rattle.rules.specs.Ways.{Selected, notfound, owned}
 use Rattle.ways.specs.Graph as over
 use Rattle.ways.specs.Levels.{EmbeddedType, at, merge, next, hit, unseen, search-levels}
 use Rattle.ways.specs.OfTable.{graph}
@@ -53,7 +53,7 @@ module _ (T : Table) (r : EmbeddedType) (dead : live T r ≡ false) where
   unfolding owned allMethods under
   dead-hit q = rw (not-named, not-struct, not-iface)
 
-  dead-next : next (graph T) r ≡ []
+  pub dead-next : next (graph T) r ≡ []
   unfolding under
   dead-next = rw (not-named, not-struct)
 
@@ -92,7 +92,7 @@ module _ (T : Table) (law : Lawful (graph T)) (kinds : (x y : TypeKey) → ident
     pub knows : (u : TypeKey) → skipped T seen u ≡ skipped T seen′ u
 
   module _ (seen : List TypeKey) (L : List EmbeddedType) (seen′ : List TypeKey) (M : List EmbeddedType) (tied : Tied seen L seen′ M) where
-    alive-kept : keep (live T) (kept T seen L) ≡ keep (live T) (kept T seen′ M)
+    pub alive-kept : keep (live T) (kept T seen L) ≡ keep (live T) (kept T seen′ M)
     alive-kept =
         keep-swap (live T) (unseen (skipped T) seen) L
         ∙ ap (keep (unseen (skipped T) seen)) (tied .alive)
@@ -140,24 +140,36 @@ module _ (T : Table) (law : Lawful (graph T)) (kinds : (x y : TypeKey) → ident
     tied-on : Tied (sawAll T seen (kept T seen L)) (consolidateMultiples T (flat (liveNext T) (kept T seen L))) (map at (kept T seen′ M) ++ seen′) (merge (graph T) (flat (next (graph T)) (kept T seen′ M)))
     tied-on = rw (consolidate-is T law (flat (liveNext T) (kept T seen L))) (record { apart = merge-apart (graph T) law (flat (liveNext T) (kept T seen L)); alive = alive-on; knows = knows-on })
 
-  module _ (q : Identity) (real : isBlank (q .name) ≡ false) (kd : Keyed (graph T) q) (a : Bool) where
-    turns-empty : (k : ℕ) (seen : List TypeKey) → turns T q a k seen [] ≡ notfound
-    turns-empty zero seen = refl
-    turns-empty (suc k) seen = refl
+  -- the same, where the other level's seen types are the named ones too
+  pub tied-saw : (seen : List TypeKey) (L : List EmbeddedType) (seen′ : List TypeKey) (M : List EmbeddedType) → Tied seen L seen′ M → Apart (graph T) M
+      → Tied (sawAll T seen (kept T seen L)) (consolidateMultiples T (flat (liveNext T) (kept T seen L))) (sawAll T seen′ (kept T seen′ M)) (merge (graph T) (flat (next (graph T)) (kept T seen′ M)))
+  tied-saw seen L seen′ M tied apart =
+      let n = tied-on seen L seen′ M tied in
+      record { apart = n .apart; alive = n .alive; knows = λ u. n .knows u ∙ sym (knows-on seen′ M seen′ M (record { apart = apart; alive = refl; knows = λ v. refl }) u) }
 
-    -- an empty level has no turn, and a turn on it would change nothing
-    turns-on : (k : ℕ) (seen : List TypeKey) (L : List EmbeddedType)
-        → turns T q a (suc k) seen L ≡ ended T q a (λ st. turns T q a k (st .seen) (consolidateMultiples T (st .next))) (scanned T q seen L)
-    turns-on k seen [] = sym (turns-empty k seen)
-    turns-on k seen (r ∷ L) = refl
+  module _ (q : Identity) (real : isBlank (q .name) ≡ false) (kd : Keyed (graph T) q) (a : Bool) where
+    module _ (out : Selected) where
+      turns-empty : (k : ℕ) (seen : List TypeKey) → turns T q out a k seen [] ≡ notfound
+      turns-empty zero seen = refl
+      turns-empty (suc k) seen = refl
+
+      -- an empty level has no turn, and a turn on it would change nothing
+      turns-on : (k : ℕ) (seen : List TypeKey) (L : List EmbeddedType)
+          → turns T q out a (suc k) seen L ≡ ended T q a (λ st. turns T q out a k (st .seen) (consolidateMultiples T (st .next))) (scanned T q seen L)
+      turns-on k seen [] = sym (turns-empty k seen)
+      turns-on k seen (r ∷ L) = refl
+
+      pub turns-step : (k : ℕ) (seen : List TypeKey) (L : List EmbeddedType) → Apart (graph T) L
+          → turns T q out a (suc k) seen L
+          ≡ firstly T q a (keep (hit (graph T) q) (kept T seen L)) (turns T q out a k (sawAll T seen (kept T seen L)) (consolidateMultiples T (flat (liveNext T) (kept T seen L))))
+      turns-step k seen L apart = turns-on k seen L ∙ scan-none T law q real kd a (λ st. turns T q out a k (st .seen) (consolidateMultiples T (st .next))) L seen [] apart
 
     pub turns-are : (k : ℕ) (seen : List TypeKey) (L : List EmbeddedType) (seen′ : List TypeKey) (M : List EmbeddedType) → Tied seen L seen′ M
-        → turns T q a k seen L ≡ search-levels (graph T) (skipped T) q a k seen′ M
+        → turns T q notfound a k seen L ≡ search-levels (graph T) (skipped T) q a k seen′ M
     turns-are zero seen [] seen′ M tied = refl
     turns-are zero seen (r ∷ L) seen′ M tied = refl
     turns-are (suc k) seen L seen′ M tied =
-        turns-on k seen L
-        ∙ scan-none T law q real kd a (λ st. turns T q a k (st .seen) (consolidateMultiples T (st .next))) L seen [] (tied .apart)
+        turns-step notfound k seen L (tied .apart)
         ∙ ap₂ (firstly T q a) (same-hits seen L seen′ M tied q) (turns-are k _ _ _ _ (tied-on seen L seen′ M tied))
         ∙ go (keep (hit (graph T) q) (kept T seen′ M)) refl
       where

@@ -4,6 +4,7 @@ use mathlib.Core.Bool.{Bool, true, false, not, _&&_}
 use mathlib.Core.List.{List, [], _∷_, map}
 use mathlib.Core.Option.{Option, none, some}
 use Prim.Native.Nat.{ℕ, _≤_, _<_}
+use native.Mathlib.Omega.{arith}
 use Rattle.objects.specs.Lists.{keep, flat, empty, In, Sorted}
 use Rattle.objects.proofs.ListLaws.{cases, clash, or-true, or-false, some-In, In-keep, keep-In-to, map-flat, flat-In-ext}
 use Rattle.objects.proofs.SortedLaws.{sorted-keep, sorted-same}
@@ -28,9 +29,11 @@ use Rattle.goscript.proofs.MapLaws.{keys-have}
 use Rattle.goscript.proofs.LookupSame.{flat-keep}
 use Rattle.goscript.proofs.Collisions.{selectionOf}
 use Rattle.goscript.proofs.Values.{entryOf}
-use Rattle.goscript.proofs.SetsSame.{begin, base-says}
+use Rattle.goscript.proofs.SetsSame.{setAfter, begin, after-says}
+use Rattle.goscript.specs.Lookup.{enoughTurns}
+use Rattle.goscript.proofs.LoopsEnd.{set-ends}
 use Rattle.goscript.proofs.PointerSets.{pointer-empty}
-use Rattle.goscript.proofs.SetKeys.{base-keys, owned-member, base-blank}
+use Rattle.goscript.proofs.SetKeys.{after-keys, owned-member, after-blank}
 
 -- ---- two lists in order that give the same
 
@@ -64,14 +67,14 @@ module _ (T : Table) where
 
 module _ (T : Table) (sound : Sound T) (t : TypeKey) (in0 : t .0 < size T) (k : ℕ) (le : size T ≤ k) where
   abbrev set : Map MethodCollision
-  set = base T k [] [] (raw (start T t) ∷ [])
+  set = setAfter T k [] [] (raw (start T t) ∷ [])
 
   abbrev chosen : Identity → List Selection
   chosen q = selected (get set q)
 
   at-name : (q : Identity) → isBlank (q .name) ≡ false → chosen q ≡ map (selectionOf T) (listed (standing T q t))
   at-name q real =
-      ap selected (base-says T sound t q real k)
+      ap selected (after-says T sound t q real k)
       ∙ selected-entry T (standingFrom T q k (firstLevel T t))
       ∙ ap (map (selectionOf T)) (enough-levels T (closed T sound) q t (bare-in T sound t in0) k le)
 
@@ -86,7 +89,7 @@ module _ (T : Table) (sound : Sound T) (t : TypeKey) (in0 : t .0 < size T) (k : 
   chosen-named : (q : Identity) → gives chosen q ≡ true → NamesMethod T q
   chosen-named q h =
       cases (isBlank (q .name))
-      (λ e. clash h (ap (λ l. not (empty l)) (base-blank T sound q e t k 0 [] [] (raw (start T t) ∷ []) (begin T sound t) refl)))
+      (λ e. clash h (ap (λ l. not (empty l)) (after-blank T sound q e t k 0 [] [] (raw (start T t) ∷ []) (begin T sound t) refl)))
       (λ e. go (standing T q t) refl (ap (λ l. not (empty l)) (sym (at-name q e)) ∙ h))
     where
       go : (s : Standing) → standing T q t ≡ s → not (empty (map (selectionOf T) (listed (standing T q t)))) ≡ true → NamesMethod T q
@@ -110,7 +113,7 @@ module _ (T : Table) (sound : Sound T) (t : TypeKey) (in0 : t .0 < size T) (k : 
   set-sorted : sorted T set ≡ flat chosen (methodNames T)
   set-sorted =
       same-flat chosen (ascending T (keys set)) (methodNames T)
-      (ascending-sorted T (keys set) (base-keys T sound t k 0 [] [] (raw (start T t) ∷ []) (begin T sound t) (λ x i. absurd i)))
+      (ascending-sorted T (keys set) (after-keys T sound t k 0 [] [] (raw (start T t) ∷ []) (begin T sound t) (λ x i. absurd i)))
       (names-ascend T sound)
       (λ q i h. names-listed T q .1 (chosen-named q h))
       (λ q i h. ascending-In T (keys set) q .1 (chosen-key q h))
@@ -125,10 +128,11 @@ module _ (T : Table) (sound : Sound T) (t : TypeKey) (in0 : t .0 < size T) (k : 
   nothing-given p [] = refl
   nothing-given p (q ∷ qs) = rw (pointer-empty T sound t p in0 q) (nothing-given p qs)
 
-  -- GOSCRIPT'S METHOD SET IS M, after as many turns of its while as there are types and after any more.
-  pub method-set-is-goscript : newMethodSet T k t ≡ map (selectionOf T) (methodSet T t)
-  unfolding methodSet
-  method-set-is-goscript =
-      cases (pointerAt T t && isIface (kindAt T (bare T t)))
-      (λ e. rw (e, or-true (namedPointer T t)))
-      (λ e. rw (e, or-false (namedPointer T t)) (set-is ∙ cases (namedPointer T t) (λ p. rw (p, nothing-given p (methodNames T))) (λ p. rw p)))
+-- GOSCRIPT'S METHOD SET IS M, and its loop ends.
+pub method-set-is-goscript : (T : Table) → Sound T → (t : TypeKey) → t .0 < size T → (out : Map MethodCollision) (k : ℕ) → enoughTurns T ≤ k → newMethodSet T out k t ≡ map (selectionOf T) (methodSet T t)
+unfolding methodSet
+method-set-is-goscript T sound t in0 out k le =
+    cases (pointerAt T t && isIface (kindAt T (bare T t)))
+    (λ e. rw (e, or-true (namedPointer T t)))
+    (λ e. rw (e, or-false (namedPointer T t)) (ap (sorted T) (set-ends T sound t in0 out k le) ∙ set-is T sound t in0 k (omega arith)
+    ∙ cases (namedPointer T t) (λ p. rw (p, nothing-given T sound t in0 k (omega arith) p (methodNames T))) (λ p. rw p)))

@@ -16,7 +16,7 @@ use Rattle.rules.proofs.MemberLaws.{sameId-true, sameId-self}
 use Rattle.rules.specs.Sound.{Sound}
 use Rattle.rules.specs.Ways.{placesFrom, Selected, notfound, badreceiver, entry, ambiguous}
 use Rattle.rules.specs.Missing.{unmetThere, unmetBy, unmet, firstUnmet, missing}
-use Rattle.goscript.specs.Lookup.{firstMatch, lookupFieldOrMethod}
+use Rattle.goscript.specs.Lookup.{enoughTurns, firstMatch, lookupFieldOrMethod}
 use Rattle.goscript.specs.Missing.{firstMissing, found, checkThere, result, checkConcrete, missingMethod}
 use Rattle.goscript.proofs.MemberSorts.{listed-In, listed-method}
 use Rattle.goscript.proofs.LookupIs.{lookup-is-goscript}
@@ -48,7 +48,7 @@ module _ (T : Table) where
       go none e ih = rw (h m (inl refl) ∙ e, firstMissing, e, firstUnmet) ih
       go (some w) e ih = rw (h m (inl refl) ∙ e, firstMissing, e, firstUnmet)
 
-module _ (T : Table) (sound : Sound T) (t i : TypeKey) (in0 : t .0 < size T) (s : Bool) (k : ℕ) (le : size T ≤ k) where
+module _ (T : Table) (sound : Sound T) (t i : TypeKey) (in0 : t .0 < size T) (s : Bool) (out : Selected) (k : ℕ) (le : enoughTurns T ≤ k) where
   -- an interface's method is not blank
   named-method : (m : Member) → In m (allMethods T i) → isBlank (identityOf T m .name) ≡ false
   unfolding allMethods identityOf identityFrom
@@ -59,19 +59,19 @@ module _ (T : Table) (sound : Sound T) (t i : TypeKey) (in0 : t .0 < size T) (s 
   unfolding unmet
   there-met e m j = rw (e, named-method m j) (there-is T s m 0 (allMethods T t))
 
-  concrete-met : ifaceUnder T t ≡ false → (m : Member) → In m (allMethods T i) → checkConcrete T k t m ≡ unmet T t s m
+  concrete-met : ifaceUnder T t ≡ false → (m : Member) → In m (allMethods T i) → checkConcrete T out k t m ≡ unmet T t s m
   unfolding unmet
-  concrete-met e m j = rw e (result-is T m (lookupFieldOrMethod T (identityOf T m) k t false) ∙ ap (unmetBy T m) (lookup-is-goscript T sound (identityOf T m) t in0 false k le))
+  concrete-met e m j = rw e (result-is T m (lookupFieldOrMethod T (identityOf T m) out k t false) ∙ ap (unmetBy T m) (lookup-is-goscript T sound (identityOf T m) t in0 false out k le))
 
   -- GOSCRIPT'S MISSING METHOD IS N'S
-  pub missing-is-goscript : missingMethod T k t i s ≡ missing T t i s
+  pub missing-is-goscript : missingMethod T out k t i s ≡ missing T t i s
   unfolding missing
   missing-is-goscript =
       cases (empty (allMethods T i))
       (λ e. rw e (no-methods (allMethods T i) e))
       (λ e. rw e (cases (ifaceUnder T t)
       (λ f. rw f (loop-is T t s (checkThere T s (allMethods T t)) (allMethods T i) (there-met f)))
-      (λ f. rw f (loop-is T t s (checkConcrete T k t) (allMethods T i) (concrete-met f)))))
+      (λ f. rw f (loop-is T t s (checkConcrete T out k t) (allMethods T i) (concrete-met f)))))
     where
       no-methods : (ms : List Member) → empty ms ≡ true → none ≡ firstUnmet T t s ms
       no-methods [] e = refl

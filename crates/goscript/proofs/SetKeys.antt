@@ -18,13 +18,13 @@ use Rattle.rules.proofs.IdLaws.{Proper, member-proper}
 use Rattle.ways.specs.Levels.{EmbeddedType, at}
 use Rattle.goscript.specs.Maps.{Map, get, contains, keys, insertNew}
 use Rattle.goscript.specs.Lookup.{matches}
-use Rattle.goscript.specs.MethodSets.{MethodCollision, FieldCollision, var, collided, Visit, addMethod, addToFieldSet, methodIn, fieldIn, selected, visitAll, addMethods, addCollisions, base}
+use Rattle.goscript.specs.MethodSets.{MethodCollision, FieldCollision, var, collided, Visit, addMethod, addToFieldSet, methodIn, fieldIn, selected, visitAll, addMethods, addCollisions}
 use Rattle.goscript.proofs.MapLaws.{orElse}
 use Rattle.goscript.proofs.MemberSorts.{declared-In, iface-In, field-In}
 use Rattle.goscript.proofs.Visits.{msetOn, fsetOn, afterAll}
 use Rattle.goscript.proofs.Collisions.{Hit, addM, hitAt, hitsOf, mset-at}
 use Rattle.goscript.proofs.Values.{put}
-use Rattle.goscript.proofs.SetsSame.{Turn, turn-on, all-visited, loops, base-on, K}
+use Rattle.goscript.proofs.SetsSame.{Turn, turn-on, all-visited, loops, setAfter, K}
 
 -- what each turn of a fold keeps, the fold keeps
 fold-keeps : {A S : Type 0} (P : S → Type 0) (f : S → A → S) (l : List A) → ((s : S) (x : A) → In x l → P s → P (f s x)) → (s : S) → P s → P (foldl f s l)
@@ -72,11 +72,10 @@ module _ (T : Table) (sound : Sound T) where
             fold-keeps Keys (λ b k. insertNew k (fieldIn (get (st .fset) k)) b) (keys (st .fset)) (λ s k i. new-keys k (fieldIn (get (st .fset) k)) s (f k i)) (addMethods T st set)
             (fold-keeps Keys (λ b k. insertNew k (methodIn (get (st .mset) k) (contains (st .fset) k)) b) (keys (st .mset)) (λ s k i. new-keys k (methodIn (get (st .mset) k) (contains (st .fset) k)) s (m k i)) set h)
 
-    pub base-keys : (k d : ℕ) (seen : List TypeKey) (set : Map MethodCollision) (L : List EmbeddedType) → Turn T sound t d seen L → Keys set → Keys (base T k seen set L)
-    base-keys zero d seen set L turn h = h
-    base-keys (suc k) d seen set L turn h =
-        subst Keys (sym (base-on T sound t k seen set L))
-        (base-keys k (suc d) _ (addCollisions T (visitAll T seen L) (addMethods T (visitAll T seen L) set)) _ (turn-on T sound t d seen L turn) (level-keys d seen L turn set h))
+    pub after-keys : (k d : ℕ) (seen : List TypeKey) (set : Map MethodCollision) (L : List EmbeddedType) → Turn T sound t d seen L → Keys set → Keys (setAfter T k seen set L)
+    after-keys zero d seen set L turn h = h
+    after-keys (suc k) d seen set L turn h =
+        after-keys k (suc d) _ (addCollisions T (visitAll T seen L) (addMethods T (visitAll T seen L) set)) _ (turn-on T sound t d seen L turn) (level-keys d seen L turn set h)
 
 -- ---- the blank name
 
@@ -123,8 +122,7 @@ module _ (T : Table) (sound : Sound T) where
           ap selected (loops T sound t d seen L turn q set ∙ ap (λ m. orElse (get set q) (put m (get (visitAll T seen L .fset) q))) none-there)
           ∙ not-selected (get set q) (get (visitAll T seen L .fset) q) h
 
-      pub base-blank : (k d : ℕ) (seen : List TypeKey) (set : Map MethodCollision) (L : List EmbeddedType) → Turn T sound t d seen L → selected (get set q) ≡ [] → selected (get (base T k seen set L) q) ≡ []
-      base-blank zero d seen set L turn h = h
-      base-blank (suc k) d seen set L turn h =
-          ap (λ m. selected (get m q)) (base-on T sound t k seen set L)
-          ∙ base-blank k (suc d) _ (addCollisions T (visitAll T seen L) (addMethods T (visitAll T seen L) set)) _ (turn-on T sound t d seen L turn) (blank-turn d seen L turn set h)
+      pub after-blank : (k d : ℕ) (seen : List TypeKey) (set : Map MethodCollision) (L : List EmbeddedType) → Turn T sound t d seen L → selected (get set q) ≡ [] → selected (get (setAfter T k seen set L) q) ≡ []
+      after-blank zero d seen set L turn h = h
+      after-blank (suc k) d seen set L turn h =
+          after-blank k (suc d) _ (addCollisions T (visitAll T seen L) (addMethods T (visitAll T seen L) set)) _ (turn-on T sound t d seen L turn) (blank-turn d seen L turn set h)

@@ -38,6 +38,12 @@ use Rattle.goscript.proofs.Visits.{afterAll, visits}
 use Rattle.goscript.proofs.Collisions.{addM, addF, hitOf, mset-at, fset-at, hits-are}
 use Rattle.goscript.proofs.Values.{entryOf, put, value, value-merge}
 
+-- the map after k turns, or fewer if the loop has ended
+abbrev pub setAfter : Table → ℕ → List TypeKey → Map MethodCollision → List EmbeddedType → Map MethodCollision
+setAfter T zero seen set L = set
+setAfter T (suc k) seen set L =
+    setAfter T k (visitAll T seen L .seen) (addCollisions T (visitAll T seen L) (addMethods T (visitAll T seen L) set)) (consolidateMultiples T (visitAll T seen L .next))
+
 module _ (T : Table) (sound : Sound T) where
   law : Lawful (graph T)
   law = lawful T sound
@@ -106,10 +112,12 @@ module _ (T : Table) (sound : Sound T) where
           ∙ sym (merge-keep (graph T) law (λ u. not (barred T (reaches T (setLevel T t d)) u)) (barred-class (reaches T (setLevel T t d))) (map raw (flat (onward T) W)))
           ∙ ap (merge (graph T)) (keep-map (λ r. not (barred T (reaches T (setLevel T t d)) (at r))) raw (flat (onward T) W))
 
-      pub turn-on : Turn (suc d) (visitAll T seen L .seen) (consolidateMultiples T (visitAll T seen L .next))
+      pub turn-next : Turn (suc d) (sawAll T seen K) (merge (graph T) (flat (next (graph T)) K))
       unfolding below
-      turn-on = rw (all-visited, consolidate-is T law (flat (next (graph T)) K))
-          (record { apart = merge-apart (graph T) law (flat (next (graph T)) K); current = current-on; knows = knows-on })
+      turn-next = record { apart = merge-apart (graph T) law (flat (next (graph T)) K); current = current-on; knows = knows-on }
+
+      pub turn-on : Turn (suc d) (visitAll T seen L .seen) (consolidateMultiples T (visitAll T seen L .next))
+      turn-on = rw (all-visited, consolidate-is T law (flat (next (graph T)) K)) turn-next
 
       module _ (q : Identity) (set : Map MethodCollision) where
         -- the two loops at the end of the turn
@@ -140,15 +148,6 @@ module _ (T : Table) (sound : Sound T) where
 
     -- ---- all turns
 
-    base-empty : (k : ℕ) (seen : List TypeKey) (set : Map MethodCollision) → base T k seen set [] ≡ set
-    base-empty zero seen set = refl
-    base-empty (suc k) seen set = refl
-
-    pub base-on : (k : ℕ) (seen : List TypeKey) (set : Map MethodCollision) (L : List EmbeddedType)
-        → base T (suc k) seen set L ≡ base T k (visitAll T seen L .seen) (addCollisions T (visitAll T seen L) (addMethods T (visitAll T seen L) set)) (consolidateMultiples T (visitAll T seen L .next))
-    base-on k seen set [] = sym (base-empty k seen set)
-    base-on k seen set (r ∷ L) = refl
-
     standing-on : (q : Identity) (k : ℕ) (L : Level) → entryOf T (standingFrom T q (suc k) L) ≡ orElse (entryOf T (settled T (flat (ends T q) (L .walks)))) (entryOf T (standingFrom T q k (below T L)))
     unfolding standingFrom
     standing-on q k L = go (settled T (flat (ends T q) (L .walks))) refl
@@ -159,17 +158,16 @@ module _ (T : Table) (sound : Sound T) where
         go hidden e = rw (standingFrom, e)
         go (given w) e = rw (standingFrom, e)
 
-    base-is : (q : Identity) → Keyed (graph T) q → (k d : ℕ) (seen : List TypeKey) (set : Map MethodCollision) (L : List EmbeddedType) → Turn d seen L
-        → get (base T k seen set L) q ≡ orElse (get set q) (entryOf T (standingFrom T q k (setLevel T t d)))
+    after-is : (q : Identity) → Keyed (graph T) q → (k d : ℕ) (seen : List TypeKey) (set : Map MethodCollision) (L : List EmbeddedType) → Turn d seen L
+        → get (setAfter T k seen set L) q ≡ orElse (get set q) (entryOf T (standingFrom T q k (setLevel T t d)))
     unfolding standingFrom
-    base-is q kd zero d seen set L turn = sym (orElse-none (get set q))
-    base-is q kd (suc k) d seen set L turn =
-        ap (λ m. get m q) (base-on k seen set L)
-        ∙ base-is q kd k (suc d) _ (addCollisions T (visitAll T seen L) (addMethods T (visitAll T seen L) set)) _ (turn-on d seen L turn)
+    after-is q kd zero d seen set L turn = sym (orElse-none (get set q))
+    after-is q kd (suc k) d seen set L turn =
+        after-is q kd k (suc d) _ (addCollisions T (visitAll T seen L) (addMethods T (visitAll T seen L) set)) _ (turn-on d seen L turn)
         ∙ ap (λ o. orElse o (entryOf T (standingFrom T q k (setLevel T t (suc d))))) (settles d seen L turn q kd set)
         ∙ orElse-assoc (get set q) (entryOf T (settled T (flat (ends T q) (setLevel T t d .walks)))) (entryOf T (standingFrom T q k (setLevel T t (suc d))))
         ∙ ap (orElse (get set q)) (sym (standing-on q k (setLevel T t d)))
 
     -- THE MAP SAYS OF A KEY what the rules say, after every number of levels.
-    pub base-says : (q : Identity) → isBlank (q .name) ≡ false → (k : ℕ) → get (base T k [] [] (raw (start T t) ∷ [])) q ≡ entryOf T (standingFrom T q k (firstLevel T t))
-    base-says q real k = base-is q (keyed T sound q real) k 0 [] [] (raw (start T t) ∷ []) begin
+    pub after-says : (q : Identity) → isBlank (q .name) ≡ false → (k : ℕ) → get (setAfter T k [] [] (raw (start T t) ∷ [])) q ≡ entryOf T (standingFrom T q k (firstLevel T t))
+    after-says q real k = after-is q (keyed T sound q real) k 0 [] [] (raw (start T t) ∷ []) begin

@@ -3,11 +3,11 @@
 use mathlib.Core.Bool.{Bool, true, false, cond, not, _&&_, _||_}
 use mathlib.Core.List.{List, [], _∷_, _++_, foldl}
 use mathlib.Core.Option.{Option, none, some}
-use Prim.Native.Nat.{ℕ, zero, suc}
+use Prim.Native.Nat.{ℕ, zero, suc, _+_}
 use Rattle.objects.specs.Lists.{any}
 use Rattle.text.specs.Bytes.{isBlank}
 use Rattle.objects.specs.declared.TypeKey.{TypeKey}
-use Rattle.objects.specs.Table.{Table, sameType, isEmbedded, Member, Kind, isStruct, isIface, isNamed, membersOf, kindAt, under, bare, pointerAt, ifaceUnder, namedPointer}
+use Rattle.objects.specs.Table.{Table, size, sameType, isEmbedded, Member, Kind, isStruct, isIface, isNamed, membersOf, kindAt, under, bare, pointerAt, ifaceUnder, namedPointer}
 use Rattle.rules.specs.Members.{Identity, identityOf, sameId}
 use Rattle.rules.specs.Ways.{Place, placesFrom, Way, placesOf, Selected, notfound, ambiguous, single, noMethod, start, along}
 use Rattle.ways.specs.Levels.{EmbeddedType, at, raw}
@@ -110,12 +110,18 @@ module _ (T : Table) (asked : Identity) where
   ended addressable on (returned indices) = ambiguous indices
   ended addressable on (going st) = answered addressable (st .target) (on st)
 
-  -- k turns at most
+-- How many turns of its while each loop needs at most: a named type is entered once, and a type without a name leads to smaller numbers.
+abbrev pub enoughTurns : Table → ℕ
+enoughTurns T = suc (size T + suc (size T))
+
+-- `out` is what a loop would give that had not ended after k turns. From `enoughTurns` on it is never given, whatever it is.
+module _ (T : Table) (asked : Identity) (out : Selected) where
   abbrev pub turns : Bool → ℕ → List TypeKey → List EmbeddedType → Selected
-  turns addressable zero seen current = notfound
+  turns addressable zero seen [] = notfound
+  turns addressable zero seen (et ∷ current) = out
   turns addressable (suc k) seen [] = notfound
   turns addressable (suc k) seen (et ∷ current) =
-      ended addressable (λ st. turns addressable k (st .seen) (consolidateMultiples T (st .next))) (scanned seen (et ∷ current))
+      ended T asked addressable (λ st. turns addressable k (st .seen) (consolidateMultiples T (st .next))) (scanned T asked seen (et ∷ current))
 
   -- ---- the two functions
 

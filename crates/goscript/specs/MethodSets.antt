@@ -114,22 +114,24 @@ module _ (T : Table) where
   abbrev pub addCollisions : Visit → Map MethodCollision → Map MethodCollision
   addCollisions st base = foldl (λ b k. insertNew k (fieldIn (get (st .fset) k)) b) base (keys (st .fset))
 
-  -- ---- while !current.is_empty(), k turns at most
-
-  abbrev pub base : ℕ → List TypeKey → Map MethodCollision → List EmbeddedType → Map MethodCollision
-  base zero seen set current = set
-  base (suc k) seen set [] = set
-  base (suc k) seen set (et ∷ current) =
-      base k (visitAll seen (et ∷ current) .seen)
-      (addCollisions (visitAll seen (et ∷ current)) (addMethods (visitAll seen (et ∷ current)) set))
-      (consolidateMultiples T (visitAll seen (et ∷ current) .next))
-
   -- `list.sort_by(|a, b| a.id().cmp(b.id()))`: the methods of a map by the ids of their keys
   abbrev pub sorted : Map MethodCollision → List Selection
   sorted set = flat (λ q. selected (get set q)) (ascending T (keys set))
+
+-- `out` is what a loop would give that had not ended after k turns (see `enoughTurns`).
+module _ (T : Table) (out : Map MethodCollision) where
+  -- while !current.is_empty()
+  abbrev pub base : ℕ → List TypeKey → Map MethodCollision → List EmbeddedType → Map MethodCollision
+  base zero seen set [] = set
+  base zero seen set (et ∷ current) = out
+  base (suc k) seen set [] = set
+  base (suc k) seen set (et ∷ current) =
+      base k (visitAll T seen (et ∷ current) .seen)
+      (addCollisions T (visitAll T seen (et ∷ current)) (addMethods T (visitAll T seen (et ∷ current)) set))
+      (consolidateMultiples T (visitAll T seen (et ∷ current) .next))
 
   -- "*typ where typ is an interface has no methods."
   abbrev pub newMethodSet : ℕ → TypeKey → List Selection
   newMethodSet k t =
       cond (pointerAt T t && isIface (kindAt T (bare T t))) []
-      (sorted (base k [] [] (raw (start T t) ∷ [])))
+      (sorted T (base k [] [] (raw (start T t) ∷ [])))

@@ -40,12 +40,13 @@ module _ (T : Table) where
   result f badreceiver = some false
   result f (ambiguous places) = some false
 
+-- k turns at most in each lookup
+module _ (T : Table) (out : Selected) where
   abbrev pub checkConcrete : ℕ → TypeKey → Member → Option Bool
-  checkConcrete k t f = result f (lookupFieldOrMethod T (identityOf T f) k t false)
+  checkConcrete k t f = result T f (lookupFieldOrMethod T (identityOf T f) out k t false)
 
-  -- k turns at most in each lookup
   abbrev pub missingMethod : ℕ → TypeKey → TypeKey → Bool → Option Lack
   missingMethod k t intf static =
       cond (empty (allMethods T intf)) none
-      (cond (ifaceUnder T t) (firstMissing (checkThere static (allMethods T t)) (allMethods T intf))
+      (cond (ifaceUnder T t) (firstMissing (checkThere T static (allMethods T t)) (allMethods T intf))
       (firstMissing (checkConcrete k t) (allMethods T intf)))
