@@ -19,7 +19,7 @@ use Rattle.ways.proofs.Same.{Keyed, One}
 use Rattle.goscript.specs.Maps.{Map, get, isSome}
 use Rattle.goscript.specs.Lookup.{wayOf, matches}
 use Rattle.goscript.specs.MethodSets.{Selection, MethodCollision, method, collision, FieldCollision, var, collided, addMethod, addToFieldSet}
-use Rattle.goscript.proofs.MemberSorts.{declared-method, declared-flag, iface-method, iface-flag, field-no-method}
+use Rattle.ways.proofs.MemberSorts.{declared-method, declared-flag, iface-method, iface-flag, field-no-method}
 use Rattle.goscript.proofs.Visits.{msetOn, fsetOn}
 
 -- a line of the set for a way

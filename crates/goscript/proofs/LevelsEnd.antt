@@ -1,7 +1,7 @@
 -- The levels of M come to an end: a named type is entered on one level only, and a step from one type without a name to another goes down in the table. So
 -- a level that is not empty lies less than 2 × size + 1 steps down.
 use mathlib.Core.Path.{_≡_, refl, sym, ap, _∙_, subst}
-use mathlib.Core.Bool.{Bool, true, false, cond, not, _&&_, _||_}
+use mathlib.Core.Bool.{Bool, true, false, cond, not, _||_}
 use mathlib.Core.List.{List, [], _∷_, map}
 use mathlib.Core.Logic.{inl}
 use mathlib.Core.Option.{none}
@@ -15,19 +15,19 @@ use Rattle.objects.proofs.ListLaws.{cases, clash, or-true, and-l, and-r, any-ap
 use Rattle.objects.proofs.KeyLaws.{same-key, same-self}
 use Rattle.objects.proofs.KindLaws.{pointer-is, under-plain, bare-plain, bare-pointer}
 use Rattle.objects.specs.declared.TypeKey.{TypeKey}
-use Rattle.objects.specs.Table.{Table, size, sameType, Entity, Field, Method, isMethod, isEmbedded, Member, Kind, Pointer, kindNumber, isTuple, isNamed, isPointer, isStruct, isIface, membersOf, kindAt, under, bare}
+use Rattle.objects.specs.Table.{Table, size, sameType, Entity, Field, Method, isMethod, isEmbedded, Kind, Pointer, kindNumber, isTuple, isNamed, isPointer, isStruct, isIface, membersOf, kindAt, bare}
 use Rattle.rules.specs.Checks.{mayRefer, mayEmbed, memberAllowed, typeAllowed}
 use Rattle.rules.specs.Sound.{Sound}
 use Rattle.rules.proofs.RangeLaws.{kind-out}
 use Rattle.rules.specs.Ways.{Place, Walk, start, along, embedded, fieldPlaces, onward, walks}
-use Rattle.rules.specs.MethodSet.{Level, reaches, barred, below}
+use Rattle.rules.specs.MethodSet.{reaches, barred, below}
 use Rattle.ways.specs.Graph as over
 use Rattle.ways.proofs.Same.{reached}
 use Rattle.ways.proofs.AllWays.{plain, plain-lawful}
 use Rattle.ways.proofs.Bridge.{walks-are}
 use Rattle.ways.proofs.TableLaws.{closed, bare-in}
-use Rattle.ways.proofs.MethodSets.{setLevel, level-walks, new, new-level, new-short}
-use Rattle.goscript.proofs.MemberSorts.{field-In, field-no-method}
+use Rattle.ways.proofs.MethodSets.{setLevel, new, new-level, new-short}
+use Rattle.ways.proofs.MemberSorts.{field-In, field-no-method}
 
 -- ---- ranks
 

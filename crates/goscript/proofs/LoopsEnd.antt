@@ -1,11 +1,10 @@
 -- Both whiles of lookup.rs end, within `enoughTurns`: what they would give out of turns is never given.
-use mathlib.Core.Path.{_≡_, refl, sym, ap, ap₂, _∙_}
+use mathlib.Core.Path.{_≡_, refl, sym, ap, _∙_}
 use mathlib.Core.Bool.{Bool, true, false}
 use mathlib.Core.List.{List, [], _∷_, map}
 use Prim.Native.Nat.{ℕ, zero, suc, _+_, _≤_, _<_}
 use native.Mathlib.Omega.{arith}
 use Rattle.objects.specs.Lists.{keep, flat}
-use Rattle.objects.proofs.ListLaws.{none-kept, none-In, any-none}
 use Rattle.text.specs.Bytes.{isBlank}
 use Rattle.objects.specs.declared.TypeKey.{TypeKey}
 use Rattle.objects.specs.Table.{Table, size, kindNumber, kindAt}
@@ -17,7 +16,6 @@ use Rattle.rules.specs.Ways.{Selected, notfound, start}
 use Rattle.ways.specs.Levels.{EmbeddedType, raw, merge, next, hit}
 use Rattle.ways.specs.OfTable.{graph}
 use Rattle.ways.proofs.TableLaws.{lawful, keyed}
-use Rattle.ways.proofs.MethodSets.{setLevel}
 use Rattle.goscript.specs.Consolidate.{consolidateMultiples}
 use Rattle.goscript.specs.Maps.{Map}
 use Rattle.goscript.specs.Lookup.{enoughTurns, turns}

@@ -24,7 +24,7 @@ use Rattle.ways.proofs.TableLaws.{closed, bare-in}
 use Rattle.ways.proofs.MethodSets.{enough-levels}
 use Rattle.ways.proofs.GivenWays.{given-way, given-ways}
 use Rattle.goscript.specs.Maps.{Map, get, isSome, keys}
-use Rattle.goscript.specs.MethodSets.{Selection, MethodCollision, method, selected, base, sorted, newMethodSet}
+use Rattle.goscript.specs.MethodSets.{Selection, MethodCollision, method, selected, sorted, newMethodSet}
 use Rattle.goscript.proofs.MapLaws.{keys-have}
 use Rattle.goscript.proofs.LookupSame.{flat-keep}
 use Rattle.goscript.proofs.Collisions.{selectionOf}

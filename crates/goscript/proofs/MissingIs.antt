@@ -18,7 +18,7 @@ use Rattle.rules.specs.Ways.{placesFrom, Selected, notfound, badreceiver, entry
 use Rattle.rules.specs.Missing.{unmetThere, unmetBy, unmet, firstUnmet, missing}
 use Rattle.goscript.specs.Lookup.{enoughTurns, firstMatch, lookupFieldOrMethod}
 use Rattle.goscript.specs.Missing.{firstMissing, found, checkThere, result, checkConcrete, missingMethod}
-use Rattle.goscript.proofs.MemberSorts.{listed-In, listed-method}
+use Rattle.ways.proofs.MemberSorts.{listed-In, listed-method}
 use Rattle.goscript.proofs.LookupIs.{lookup-is-goscript}
 
 sameId-turn : (a b : Identity) → sameId a b ≡ sameId b a

@@ -17,7 +17,7 @@ use Rattle.ways.specs.IsWay.{IsWalk, starts, takes}
 use Rattle.ways.proofs.AllWays.{ways-listed}
 use Rattle.ways.proofs.TableLaws.{closed, bare-in, names-neither}
 use Rattle.ways.proofs.GivenWays.{given-way, given-ways}
-use Rattle.goscript.proofs.MemberSorts.{declared-In, iface-In, field-In}
+use Rattle.ways.proofs.MemberSorts.{declared-In, iface-In, field-In}
 
 module _ (T : Table) (sound : Sound T) (t : TypeKey) (pointer : namedPointer T t ≡ true) where
   named : isNamed (kindAt T t) ≡ true

@@ -20,7 +20,7 @@ use Rattle.goscript.specs.Maps.{Map, get, contains, keys, insertNew}
 use Rattle.goscript.specs.Lookup.{matches}
 use Rattle.goscript.specs.MethodSets.{MethodCollision, FieldCollision, var, collided, Visit, addMethod, addToFieldSet, methodIn, fieldIn, selected, visitAll, addMethods, addCollisions}
 use Rattle.goscript.proofs.MapLaws.{orElse}
-use Rattle.goscript.proofs.MemberSorts.{declared-In, iface-In, field-In}
+use Rattle.ways.proofs.MemberSorts.{declared-In, iface-In, field-In}
 use Rattle.goscript.proofs.Visits.{msetOn, fsetOn, afterAll}
 use Rattle.goscript.proofs.Collisions.{Hit, addM, hitAt, hitsOf, mset-at}
 use Rattle.goscript.proofs.Values.{put}

@@ -28,7 +28,7 @@ use Rattle.ways.proofs.MethodSets.{setLevel}
 use Rattle.ways.proofs.TableLaws.{lawful, keyed, own}
 use Rattle.goscript.specs.Consolidate.{consolidateMultiples}
 use Rattle.goscript.specs.Maps.{Map, get, contains}
-use Rattle.goscript.specs.MethodSets.{MethodCollision, Visit, methodIn, fieldIn, visitAll, addMethods, addCollisions, base}
+use Rattle.goscript.specs.MethodSets.{MethodCollision, Visit, methodIn, fieldIn, visitAll, addMethods, addCollisions}
 use Rattle.goscript.proofs.Consolidating.{consolidate-is}
 use Rattle.goscript.proofs.Scans.{skipped}
 use Rattle.goscript.proofs.ScanLevels.{kept, sawAll}

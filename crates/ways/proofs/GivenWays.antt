@@ -46,6 +46,20 @@ pub record GivenAt (T : Table) (q : Identity) (t : TypeKey) (w : Way) (d : ℕ) 
   pub only : flat (ends T q) (setLevel T t d .walks) ≡ w ∷ []
   pub gives : Gives T w
   pub unreached : new T sameType t d (w .walk) ≡ true
+  pub sooner-none : NoMethod T q t d
+
+-- the type at the end of the only way has the method
+end-has : (T : Table) (q : Identity) (t : TypeKey) (d : ℕ) (w : Way) → endsAt T q t d ≡ w ∷ [] → Gives T w → hasMethod T q (w .walk .at) ≡ true
+end-has T q t d w only g =
+    let v = In-flat (ends T q) (setLevel T t d .walks) w (subst (In w) (sym only) (inl refl)) in
+    let p = In-map (λ m. record { walk = v .0; last = m }) (matching T q (v .0 .at)) w (v .2) in
+    at-end (v .0) (p .0) (p .1) (p .2)
+  where
+    at-end : (v : Walk) (p : Place) → In p (matching T q (v .at)) → w ≡ record { walk = v; last = p } → hasMethod T q (w .walk .at) ≡ true
+    at-end v p i e =
+        let k = In-keep (λ (x : Place). sameId (identityOf T (x .member)) q) (owned T (v .at)) p i in
+        let m : isMethod (p .member .entity) ≡ true = ap endsInMethod (sym e) ∙ g .method in
+        ap (λ (x : Way). hasMethod T q (x .walk .at)) e ∙ any-In (λ (x : Place). sameId (identityOf T (x .member)) q && isMethod (x .member .entity)) (owned T (v .at)) p (k .0) (rw (k .1) m)
 
 module _ (T : Table) (q : Identity) (t : TypeKey) (w : Way) (d : ℕ) (g : GivenAt T q t w d) where
   is-end : In w (flat (ends T q) (setLevel T t d .walks))
@@ -65,6 +79,9 @@ module _ (T : Table) (q : Identity) (t : TypeKey) (w : Way) (d : ℕ) (g : Given
       let v = In-flat (ends T q) (setLevel T t d .walks) w is-end in
       flat-In-to (ends T q) (walks T t d) (v .0) w (level-walks T t d (v .0) (v .1)) (v .2)
 
+  pub given-has : hasMethod T q (w .walk .at) ≡ true
+  given-has = end-has T q t d w (g .only) (g .gives)
+
   pub given-short : Closed (plain T) → bare T t .0 < size T → d < size T
   given-short closed in0 = new-short T closed q t in0 d (w .walk) given-level (cases (sooner T q t d (w .walk .at)) (λ e. clash (g .unreached) (ap not e)) (λ e. e))
 
@@ -75,19 +92,7 @@ module _ (T : Table) (q : Identity) (t : TypeKey) (w : Way) (d : ℕ) (g : Given
 module _ (T : Table) (closed : Closed (plain T)) (q : Identity) (t : TypeKey) (in0 : bare T t .0 < size T) where
   -- a method that level d is the first to have stands at a type that no fewer steps reach
   method-new : (d : ℕ) (w : Way) → NoMethod T q t d → endsAt T q t d ≡ w ∷ [] → Gives T w → new T sameType t d (w .walk) ≡ true
-  method-new d w nm only g = cases (sooner T q t d (w .walk .at)) (λ e. clash has (nm (w .walk .at) e)) (λ e. ap not e)
-    where
-      has : hasMethod T q (w .walk .at) ≡ true
-      has =
-          let v = In-flat (ends T q) (setLevel T t d .walks) w (subst (In w) (sym only) (inl refl)) in
-          let p = In-map (λ m. record { walk = v .0; last = m }) (matching T q (v .0 .at)) w (v .2) in
-          at-end (v .0) (p .0) (p .1) (p .2)
-        where
-          at-end : (v : Walk) (p : Place) → In p (matching T q (v .at)) → w ≡ record { walk = v; last = p } → hasMethod T q (w .walk .at) ≡ true
-          at-end v p i e =
-              let k = In-keep (λ (x : Place). sameId (identityOf T (x .member)) q) (owned T (v .at)) p i in
-              let m : isMethod (p .member .entity) ≡ true = ap endsInMethod (sym e) ∙ g .method in
-              ap (λ (x : Way). hasMethod T q (x .walk .at)) e ∙ any-In (λ (x : Place). sameId (identityOf T (x .member)) q && isMethod (x .member .entity)) (owned T (v .at)) p (k .0) (rw (k .1) m)
+  method-new d w nm only g = cases (sooner T q t d (w .walk .at)) (λ e. clash (end-has T q t d w only g) (nm (w .walk .at) e)) (λ e. ap not e)
 
   given-from : (k d : ℕ) (w : Way) → NoMethod T q t d → standingFrom T q k (setLevel T t d) ≡ given w → (e : ℕ) × GivenAt T q t w e
   unfolding standingFrom
@@ -101,7 +106,7 @@ module _ (T : Table) (closed : Closed (plain T)) (q : Identity) (t : TypeKey) (i
       go (given v) e ih =
           let same : v ≡ w = ap (λ s. headOr w (listed s)) (rw (standingFrom, e) at h) in
           let g = settled-given T (endsAt T q t d) w (e ∙ ap given same) in
-          (d, record { only = g .0; gives = g .1; unreached = method-new d w nm (g .0) (g .1) })
+          (d, record { only = g .0; gives = g .1; unreached = method-new d w nm (g .0) (g .1); sooner-none = nm })
 
   -- WHAT M GIVES IS A WAY: a method, alone on its level, at a type that no fewer steps reach.
   pub given-way : (w : Way) → standing T q t ≡ given w → (d : ℕ) × GivenAt T q t w d

@@ -11,3 +11,5 @@ pub mod MethodSets
 pub mod GivenWays
 pub mod TableLaws
 pub mod Selects
+pub mod MemberSorts
+pub mod GivenAlike
