@@ -1,24 +1,22 @@
 -- Rows that keep the words in use (`Kept`) keep what the table says of them, and stay in order (`Laid`) with one type more or a longer last type.
-use mathlib.Core.Path.{_≡_, refl, sym, ap, ap₂, subst, _∙_}
-use mathlib.Core.Bool.{Bool, true, false, cond}
-use mathlib.Core.List.{List, [], _∷_, _++_, map}
-use mathlib.Core.Logic.{_≢_}
-use Prim.Native.Nat.{ℕ, zero, suc, _+_, _*_, _<_, _≤_}
+use mathlib.Core.Path.{_≡_, sym, ap, subst}
+use mathlib.Core.List.{List, map}
+use Prim.Native.Nat.{ℕ, suc, _+_, _<_, _≤_}
 use native.Mathlib.Nat.{eq-or-lt-of-le, le-of-suc-le-suc}
 use native.Mathlib.Omega.{arith}
 use lib.Dec.{eqb}
 use lib.ListN.{length}
-use borrow.Author.Tests.{eqb-true, eqb-false, ne-eqb}
+use borrow.Author.Tests.{eqb-true}
 use Rattle.objects.specs.declared.TypeKey.{TypeKey}
 use Rattle.objects.specs.declared.ObjKey.{ObjKey}
 use Rattle.objects.specs.declared.PackageKey.{PackageKey}
 use Rattle.objects.specs.Bounds.{maxTypes, maxPackages, maxMembers, maxElements, allWords}
-use Rattle.objects.specs.Lists.{Bytes, upTo, onLast}
+use Rattle.objects.specs.Lists.{Bytes, upTo}
 use Rattle.objects.specs.Table.{Table, Kind, Tuple, typeKey, objKey, packageKey}
 use Rattle.objects.specs.Rows.{Words, packageCount, typeCount, memberCountOf, elementCount, typeWord, memberWord, packageWord, elementAt, memberAt, membersFrom, elementsFrom, kindOf, kindRead, pathRead}
 use Rattle.objects.specs.Laid.{endOf, Laid}
 use Rattle.objects.proofs.ListLaws.{cases, either}
-use Rattle.objects.proofs.Numbers.{each-same, each-more, run-same, onLast-at}
+use Rattle.objects.proofs.Numbers.{each-same, run-same}
 use Rattle.objects.proofs.Stores.{Kept}
 
 pub same-table : {p p' : List Bytes} {k k' : List Kind} {l l' m m' : List ℕ} → p ≡ p' → k ≡ k' → l ≡ l' → m ≡ m'

@@ -12,3 +12,6 @@ pub mod RowLaws
 pub mod Stores
 pub mod Keeping
 pub mod SortedLaws
+pub mod Growing
+pub mod Writing
+pub mod Ranks

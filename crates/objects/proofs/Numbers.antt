@@ -1,7 +1,7 @@
 -- Laws of the numbers 0 to n - 1 (`upTo`), of n numbers from a first one on (`from`), and of what a function makes of each of them.
-use mathlib.Core.Path.{_≡_, refl, sym, ap, subst, _∙_}
+use mathlib.Core.Path.{_≡_, refl, sym, ap, _∙_}
 use mathlib.Core.List.{List, [], _∷_, _++_, map}
-use mathlib.Core.Logic.{_⊎_, inl, inr}
+use mathlib.Core.Logic.{inl}
 use Prim.Native.Nat.{ℕ, zero, suc, _+_, _<_, _≤_}
 use native.Mathlib.Nat.{eq-or-lt-of-le, le-of-suc-le-suc}
 use native.Mathlib.Numerals.{add-one}
@@ -10,7 +10,7 @@ use lib.ListN.{length, getD, length-append, length-map, List·getD-append}
 use lib.Seq.{getD-at}
 use Rattle.objects.specs.Lists.{In, upTo, onLast}
 use Rattle.objects.specs.Rows.{from}
-use Rattle.objects.proofs.ListLaws.{either, map-append, map-map, map-In, map-In-to, In-map, In-append, In-append-l, In-append-r}
+use Rattle.objects.proofs.ListLaws.{either, map-append, map-In, map-In-to, In-map, In-append, In-append-l, In-append-r}
 
 -- ---- 0 to n - 1
 
@@ -57,6 +57,10 @@ module _ {A : Type 0} (f : ℕ → A) where
 
   pub each-same : (g : ℕ → A) (n : ℕ) → ((i : ℕ) → i < n → f i ≡ g i) → map f (upTo n) ≡ map g (upTo n)
   each-same g n h = map-In f g (upTo n) (λ i j. h i (upTo-below n i j))
+
+  -- one more behind those that g makes too
+  pub each-grown : (g : ℕ → A) (n : ℕ) {x : A} → map f (upTo n) ≡ map g (upTo n) → f n ≡ x → map f (upTo (suc n)) ≡ map g (upTo n) ++ (x ∷ [])
+  each-grown g n e q = each-more n ∙ rw (e, q)
 
 -- ---- n numbers from a first one on
 
@@ -105,3 +109,6 @@ pub onLast-at : {A : Type 0} (f : A → A) (l : List A) (x : A) → onLast f (l 
 onLast-at f [] x = refl
 onLast-at f (y ∷ []) x = refl
 onLast-at f (y ∷ z ∷ l) x = ap (λ r. y ∷ r) (onLast-at f (z ∷ l) x)
+
+pub each-onLast : {A : Type 0} (f g : ℕ → A) (h : A → A) (n : ℕ) → map f (upTo n) ≡ map g (upTo n) → f n ≡ h (g n) → map f (upTo (suc n)) ≡ onLast h (map g (upTo (suc n)))
+each-onLast f g h n e q = each-grown f g n e q ∙ sym (ap (onLast h) (each-more g n) ∙ onLast-at h (map g (upTo n)) (g n))

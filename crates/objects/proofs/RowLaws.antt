@@ -1,10 +1,10 @@
 -- The table that rows hold (`tableOf`), read off their words: its counts, its kinds and what the rules ask of them, its members and elements.
-use mathlib.Core.Path.{_≡_, refl, sym, ap, ap₂, subst, _∙_}
-use mathlib.Core.Bool.{Bool, true, false, cond, _&&_}
-use mathlib.Core.List.{List, [], _∷_, _++_, map}
+use mathlib.Core.Path.{_≡_, refl, sym, ap, subst, _∙_}
+use mathlib.Core.Bool.{true, false, cond}
+use mathlib.Core.List.{[], _∷_, _++_}
 use mathlib.Core.Logic.{_⊎_, inl, inr, _≢_}
-use mathlib.Core.Option.{Option, none, some}
-use Prim.Native.Nat.{ℕ, zero, suc, _+_, _<_, _≤_, zero-le}
+use mathlib.Core.Option.{none, some}
+use Prim.Native.Nat.{ℕ, suc, _+_, _<_, _≤_, zero-le}
 use native.Mathlib.Omega.{arith}
 use lib.Dec.{eqb, ltb}
 use lib.ListN.{length, getD, List·getD-eq-default}
@@ -13,8 +13,8 @@ use Rattle.objects.specs.declared.TypeKey.{TypeKey}
 use Rattle.objects.specs.declared.ObjKey.{ObjKey}
 use Rattle.objects.specs.declared.PackageKey.{PackageKey}
 use Rattle.objects.specs.declared.«Type».{«Type»}
-use Rattle.objects.specs.Lists.{Bytes, In, headOr, upTo}
-use Rattle.objects.specs.Table.{Table, Member, Entity, Method, Kind, Basic, Named, typeKey, objKey, packageKey, size, memberCount, kindNumber, membersOf, refs, isMethod, isEmbedded, hasPtr, kindAt, pathOf, under, bare, pointerAt, ifaceUnder, namedPointer, allMethodsOf, allMethods, fieldsOf, declaredOf}
+use Rattle.objects.specs.Lists.{Bytes, In, headOr}
+use Rattle.objects.specs.Table.{Member, Method, Basic, Named, typeKey, objKey, size, memberCount, kindNumber, membersOf, refs, isMethod, isEmbedded, hasPtr, kindAt, pathOf, under, bare, pointerAt, ifaceUnder, namedPointer, allMethodsOf, allMethods, fieldsOf, declaredOf}
 use Rattle.objects.specs.Rows.{Words, packageCount, typeCount, memberCountOf, typeWord, memberWord, elementAt, memberAt, membersFrom, elementsFrom, entityOf, kindOf, kindRead, pathRead, tableOf}
 use Rattle.objects.specs.Types.{typeFrom, typeRead, kindMeant, numberOf, numberRead, pointerRead, namedRead, bareRead, underRead, ifaceRead, namedPointerRead, firstRead, totalRead, memberTypeRead, embeddedRead, methodRead, ptrRead}
 use Rattle.objects.proofs.ListLaws.{cases, either}

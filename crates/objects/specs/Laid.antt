@@ -2,7 +2,8 @@
 -- rows then hold.
 use mathlib.Core.Path.{_≡_}
 use mathlib.Core.Bool.{cond}
-use mathlib.Core.List.{List, [], _∷_, _++_}
+use mathlib.Core.List.{[], _∷_, _++_}
+use mathlib.Core.Logic.{_≢_}
 use Prim.Native.Nat.{ℕ, suc, _+_, _*_, _-_, _≤_, _<_}
 use lib.Dec.{eqb}
 use lib.ListN.{length, set}
@@ -10,7 +11,7 @@ use Rattle.objects.specs.declared.TypeKey.{TypeKey}
 use Rattle.objects.specs.Bounds.{maxTypes, maxPackages, maxMembers, maxElements, rowWords, typesAt, allWords}
 use Rattle.objects.specs.Lists.{Bytes, onLast}
 use Rattle.objects.specs.Table.{Table, Member, Kind, Basic, Array, Slice, Pointer, Map, Chan, Tuple, Func, Struct, Iface, Named, typeKey, objKey}
-use Rattle.objects.specs.Rows.{Words, wordAt, packageCount, typeCount, memberCountOf, elementCount, typeWord, bytesAt, pkgOf, entityOf, tableOf}
+use Rattle.objects.specs.Rows.{Words, packageCount, typeCount, memberCountOf, elementCount, typeWord, bytesAt, pkgOf, entityOf, tableOf}
 
 -- ---- rows in order
 
@@ -92,3 +93,11 @@ plusMember T line m = record { packages = T .packages; types = onLast (memberAdd
 
 unfoldable pub plusElement : Table → TypeKey → Table
 plusElement T e = record { packages = T .packages; types = onLast (elementAdded e) (T .types); typeLines = T .typeLines; memberLines = T .memberLines }
+
+-- ---- a type's rank
+
+-- The rank of one type alone is another: the table is as it was.
+pub record RankPut (rows : Words) (t : TypeKey) (rank : ℕ) (after : Words) : Type 0 where
+  pub holds : Holds after (λ text. tableOf text rows)
+  pub here : typeWord after t 7 ≡ rank
+  pub elsewhere : (u : TypeKey) → u .0 ≢ t .0 → typeWord after u 7 ≡ typeWord rows u 7

@@ -1,6 +1,6 @@
 -- What the code reads off the rows of types and members: each reader as a function of the words, and the kind that a `Type` of the code stands for.
 -- proofs/RowLaws.antt ties each of them to the table that the rows hold.
-use mathlib.Core.Bool.{Bool, true, false, cond, _&&_}
+use mathlib.Core.Bool.{Bool, cond, _&&_}
 use Prim.Native.Nat.{ℕ}
 use lib.Dec.{eqb, ltb}
 use Rattle.objects.specs.declared.TypeKey.{TypeKey}

@@ -2,6 +2,7 @@
 // and a package number are each a kind of their own, so that none is read as another.
 
 pub mod rows; // the readers of a loaded table
+pub mod writers; // what adds a line to it
 
 pub struct TypeKey(pub u32);
 

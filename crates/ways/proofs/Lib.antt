@@ -7,9 +7,13 @@ pub mod Extra
 pub mod Bridge
 pub mod LevelTest
 pub mod AllWays
-pub mod MethodSets
-pub mod GivenWays
+pub mod Early
+pub mod SearchRows
+pub mod Room
 pub mod TableLaws
 pub mod Selects
+pub mod Loaded
 pub mod MemberSorts
+pub mod MethodSets
+pub mod GivenWays
 pub mod GivenAlike

@@ -87,7 +87,7 @@ module _ (G : Graph) (law : Lawful G) (r0 : Walk) where
       ap₂ (λ x y. x || y) (class-reached d a b h)
       (any-ext _ _ (λ w. law .turn (w .at) a ∙ law .chain a b (w .at) h ∙ law .turn b (w .at)) (walks G r0 d))
 
-  same-any : (a b : TypeKey) → G .same a b ≡ true → (W : List Walk) → any (λ w. G .same (w .at) b) W ≡ any (λ w. G .same (w .at) a) W
+  pub same-any : (a b : TypeKey) → G .same a b ≡ true → (W : List Walk) → any (λ w. G .same (w .at) b) W ≡ any (λ w. G .same (w .at) a) W
   same-any a b h W = any-ext (λ w. G .same (w .at) b) (λ w. G .same (w .at) a) (λ w. law .turn (w .at) b ∙ sym (law .chain a b (w .at) h) ∙ law .turn a (w .at)) W
 
   -- one step from a type that d steps reach is reached by d + 1 steps
@@ -109,7 +109,7 @@ module _ (G : Graph) (law : Lawful G) (r0 : Walk) where
       (λ e. rw (step-on d a s (rw e at h) i, or-true (reached G r0 (suc d) (s .target))))
 
   -- what a type that is not fresh leads to is not fresh a level further down
-  not-fresh : (d : ℕ) (r : EmbeddedType) → fresh G r0 d r ≡ false → any (fresh G r0 (suc d)) (next G r) ≡ false
+  pub not-fresh : (d : ℕ) (r : EmbeddedType) → fresh G r0 d r ≡ false → any (fresh G r0 (suc d)) (next G r) ≡ false
   not-fresh d r h =
       any-map (fresh G r0 (suc d)) (λ s. record { walk = along G (r .walk) s; multiples = r .multiples }) (G .steps (at r))
       ∙ any-none _ (G .steps (at r)) (λ s i. ap not (reached-on d (at r) s (un-not (reached G r0 d (at r)) h) i))
@@ -120,7 +120,7 @@ module _ (G : Graph) (law : Lawful G) (r0 : Walk) where
     pub before : (u : TypeKey) → any (λ v. G .same v u) seen ≡ true → reached G r0 d u ≡ true
     pub within : (u : TypeKey) → any (λ r. G .same (at r) u) L ≡ true → any (λ w. G .same (w .at) u) (walks G r0 d) ≡ true
 
-  begin : Level 0 [] (raw r0 ∷ [])
+  pub begin : Level 0 [] (raw r0 ∷ [])
   begin = record { level = refl; before = λ u h. h; within = λ u h. h }
 
   module _ (skip : List TypeKey → TypeKey → Bool) (sk : Skips G skip) (d : ℕ) (seen : List TypeKey) (L : List EmbeddedType) (lv : Level d seen L) where

@@ -63,6 +63,8 @@ module _ (T : Table) (sound : Sound T) (q : Identity) (nb : isBlank (q .name) �
       either-way true = refl
       either-way false = refl
 
-  -- the search level by level, that leaves out a named type once it was seen, gives what the ways say
-  pub levels-are-ways : (f a : Bool) → lookup (graph T) (λ seen u. isNamed (kindAt T u) && any (λ v. sameType v u) seen) q t f a ≡ over.select (graph T) q t f a
-  levels-are-ways f a = lookup-is-select (graph T) (lawful T sound) (λ seen u. isNamed (kindAt T u) && any (λ v. sameType v u) seen) (named-skips (graph T) (lawful T sound) (λ u. isNamed (kindAt T u))) q (keyed T sound q nb) t f a
+-- the search level by level, that leaves out a named type once it was seen, gives what the ways say
+pub levels-are-ways : (T : Table) → Sound T → (q : Identity) → isBlank (q .name) ≡ false → (t : TypeKey) (f a : Bool)
+    → lookup (graph T) (λ seen u. isNamed (kindAt T u) && any (λ v. sameType v u) seen) q t f a ≡ over.select (graph T) q t f a
+levels-are-ways T sound q nb t f a =
+    lookup-is-select (graph T) (lawful T sound) (λ seen u. isNamed (kindAt T u) && any (λ v. sameType v u) seen) (named-skips (graph T) (lawful T sound) (λ u. isNamed (kindAt T u))) q (keyed T sound q nb) t f a

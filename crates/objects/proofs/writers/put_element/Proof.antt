@@ -1,0 +1,51 @@
+use native.Mathlib.Omega.{arith}
+use lib.ListN.{length-set}
+use Rattle.objects.proofs.Writing.{element-holds}
+use borrow.Author.Needs.{needs}
+use Rattle.objects.proofs.writers.put_element.Statement.{statement}
+use Rattle.objects.proofs.writers.put_element.Tie as tie
+
+element-count-requires : tie.Need-element-count-requires
+element-count-requires c κs = search needs
+
+raise-requires : tie.Need-raise-requires
+raise-requires c κs = search needs
+
+cast-rows : tie.Need-cast-rows
+cast-rows c = search needs
+
+add-rows : tie.Need-add-rows
+add-rows c = search needs
+
+mul-rows : tie.Need-mul-rows
+mul-rows c = search needs
+
+slice-write-rows : tie.Need-slice-write-rows
+slice-write-rows c = search needs
+
+add-rows-2 : tie.Need-add-rows-2
+add-rows-2 c = search needs
+
+slice-write-rows-2 : tie.Need-slice-write-rows-2
+slice-write-rows-2 c = simp length-set (omega arith)
+
+same-length : tie.Need-same-length
+same-length c = search needs
+
+returns : tie.Need-returns
+returns c = element-holds _ (c .before .before .before .before .before .before .before .args .e) (c .before .before .before .before .before .before .before .pre .0) (c .before .before .before .before .before .before .before .pre .1) (c .before .before .before .before .before .before .before .pre .2) (c .before .before .before .before .before .before .before .pre .3) (c .before .before .before .before .element-count .ensures) (c .before .before .raise .ensures)
+
+pub put-element-spec : {M : Type 1} → statement M
+put-element-spec =
+    tie.close
+    (tie.spec
+    element-count-requires
+    raise-requires
+    cast-rows
+    add-rows
+    mul-rows
+    slice-write-rows
+    add-rows-2
+    slice-write-rows-2
+    same-length
+    returns)

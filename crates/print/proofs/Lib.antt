@@ -1,0 +1,4 @@
+pub mod DecimalLaws
+pub mod WrittenLaws
+pub mod LineLaws
+pub mod Lines

@@ -1,0 +1,44 @@
+//! What answers questions on a table: goscript's functions, and whatever is put beside them.
+
+/// What is said where there is no goscript to compare with.
+pub const NOT_AT_HAND: &str = "goscript's files are not at hand: nothing compared";
+
+/// Answers questions on the table that it holds.
+pub trait Engine {
+    fn name(&self) -> &str;
+
+    /// Takes a table text in place of the one before; nothing if it can't be read.
+    fn load(&mut self, table: &str) -> Option<()>;
+
+    /// The answer to a question line on the table loaded; nothing if it can't be read.
+    fn ask(&mut self, question: &str) -> Option<String>;
+}
+
+/// goscript's functions, if its files were at hand when this was built.
+pub fn goscript() -> Option<Box<dyn Engine>> {
+    #[cfg(goscript)]
+    return Some(Box::<OfGoscript>::default());
+    #[cfg(not(goscript))]
+    None
+}
+
+/// goscript's functions over the objects of the table loaded.
+#[cfg(goscript)]
+#[derive(Default)]
+struct OfGoscript(Option<crate::objects::Goscript>);
+
+#[cfg(goscript)]
+impl Engine for OfGoscript {
+    fn name(&self) -> &str {
+        "goscript"
+    }
+
+    fn load(&mut self, table: &str) -> Option<()> {
+        self.0 = Some(crate::objects::build(table)?);
+        Some(())
+    }
+
+    fn ask(&mut self, question: &str) -> Option<String> {
+        crate::answers::answer(self.0.as_mut()?, question)
+    }
+}

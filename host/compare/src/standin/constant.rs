@@ -1,0 +1,4 @@
+//! Stands in for goscript's constants: no table has one.
+
+#[derive(Clone, Debug, PartialEq)]
+pub enum Value {}

@@ -1,0 +1,109 @@
+//! Random tables load, are read as they are written, and give answers of every form.
+
+mod batches;
+mod loads;
+
+use compare::engine;
+use compare::prng::Prng;
+use compare::random::{self, Shape};
+use compare::table::Table;
+use compare::tables::cases;
+use std::collections::BTreeMap;
+
+fn any_shape(prng: &mut Prng) -> Shape {
+    [Shape::small, Shape::middle, Shape::largest][prng.below(3)]()
+}
+
+#[test]
+fn random_tables_load() {
+    for seed in 0..600 {
+        let mut prng = Prng::new(seed);
+        let shape = any_shape(&mut prng);
+        let table = random::table(&mut prng, &shape);
+        assert_eq!(loads::refusal(&table), None, "seed {seed}");
+        assert_eq!(Table::parse(&table.to_string()), Some(table), "seed {seed}");
+    }
+}
+
+/// The check that a table loads is itself held against the vectors: those that load, and those refused
+/// with 7 to 10.
+#[test]
+fn the_check_agrees_with_the_vectors() {
+    let Some(folder) = batches::vectors() else {
+        return;
+    };
+    for (input, output) in batches::cases(&folder, "damaged") {
+        let number = output.strip_prefix("refused\t").map(|rest| {
+            let (number, _) = rest.split_once('\t').expect("a number and a line");
+            number.parse().expect("a number")
+        });
+        let table = input
+            .split_once("\nQ\n")
+            .map_or(input.clone(), |(table, _)| format!("{table}\n"));
+        match number {
+            Some(2..=6) => {}
+            Some(refused @ 7..=10) => {
+                let table = Table::parse(&table).expect("it can be read");
+                assert_eq!(loads::refusal(&table), Some(refused), "{table}");
+            }
+            _ => {
+                let table = Table::parse(&table).expect("it can be read");
+                assert_eq!(loads::refusal(&table), None, "{table}");
+            }
+        }
+    }
+}
+
+#[test]
+fn hard_tables_load() {
+    for case in cases() {
+        let table = Table::parse(&case.table).expect("it can be read");
+        assert_eq!(loads::refusal(&table), None, "{}", case.name);
+    }
+}
+
+/// Every answer's first word after the letter of its question, and w for N.
+const FORMS: [&str; 12] = [
+    "C no",
+    "C yes",
+    "I no",
+    "I yes",
+    "M set",
+    "N missing 0",
+    "N missing 1",
+    "N satisfied",
+    "S ambiguous",
+    "S badreceiver",
+    "S entry",
+    "S notfound",
+];
+
+fn form(question: &str, answer: &str) -> String {
+    let fields: Vec<&str> = answer.trim_end().split('\t').collect();
+    let letter = &question[..1];
+    match fields[..] {
+        ["missing", _, w] => format!("{letter} missing {w}"),
+        _ => format!("{letter} {}", fields[0].split('\n').next().unwrap_or("")),
+    }
+}
+
+#[test]
+fn random_questions_have_answers_of_every_form() {
+    let Some(mut goscript) = engine::goscript() else {
+        println!("{}", engine::NOT_AT_HAND);
+        return;
+    };
+    let mut forms: BTreeMap<String, usize> = BTreeMap::new();
+    for seed in 0..300 {
+        let mut prng = Prng::new(seed);
+        let shape = any_shape(&mut prng);
+        let table = random::table(&mut prng, &shape);
+        goscript.load(&table.to_string()).expect("it can be read");
+        for question in random::questions(&mut prng, &table, 100) {
+            let answer = goscript.ask(&question).expect("it can be read");
+            *forms.entry(form(&question, &answer)).or_default() += 1;
+        }
+    }
+    println!("{forms:?}");
+    assert!(forms.keys().eq(FORMS.iter()), "not the forms expected");
+}
