@@ -1,7 +1,7 @@
 -- What the maps of a level say of one key: the members of that key which the level has, one after the other.
 use mathlib.Core.Path.{_≡_, refl, sym, ap, _∙_}
 use mathlib.Core.Bool.{Bool, true, false, cond, not, _&&_, _||_}
-use mathlib.Core.List.{List, [], _∷_, _++_, map, foldl}
+use mathlib.Core.List.{List, [], _∷_, _++_, map, foldl, foldl-append}
 use mathlib.Core.Logic.{inl, inr}
 use mathlib.Core.Option.{Option, some}
 use Rattle.objects.specs.Lists.{keep, flat, In}
@@ -50,10 +50,6 @@ module _ (T : Table) where
 
   abbrev pub addF : Option FieldCollision → Hit → Option FieldCollision
   addF s h = cond (isMethod (h .place .member .entity)) s (some (metField h s))
-
-foldl-append : {A B : Type 0} (f : B → A → B) (b : B) (l m : List A) → foldl f b (l ++ m) ≡ foldl f (foldl f b l) m
-foldl-append f b [] m = refl
-foldl-append f b (x ∷ l) m = foldl-append f (f b x) l m
 
 module _ (T : Table) (q : Identity) where
   abbrev pub hitsIn : EmbeddedType → List Place → List Hit

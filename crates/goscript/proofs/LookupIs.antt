@@ -9,10 +9,10 @@ use Rattle.objects.specs.Lists.{In}
 use Rattle.objects.proofs.ListLaws.{cases, clash, In-flat, In-map, and-r}
 use Rattle.text.specs.Bytes.{isBlank}
 use Rattle.objects.specs.declared.TypeKey.{TypeKey}
-use Rattle.objects.specs.Table.{Table, size, Member, Named, kindNumber, hasPtr, isNamed, isPointer, kindAt, under, bare, pointerAt, namedPointer}
-use Rattle.objects.proofs.KindLaws.{named-is, under-plain, under-named}
+use Rattle.objects.specs.Table.{Table, size, kindNumber, hasPtr, isNamed, isPointer, kindAt, under, bare, pointerAt, namedPointer}
 use Rattle.rules.specs.Members.{Identity}
 use Rattle.rules.specs.Sound.{Sound}
+use Rattle.rules.proofs.RangeLaws.{under-in}
 use Rattle.ways.proofs.TableLaws.{closed, lawful, keyed, bare-in}
 use Rattle.rules.specs.Identity.{identical}
 use Rattle.rules.specs.Ways.{Selected, notfound, Walk, Way, memberOf, single, noMethod, start, judged, shortest, searched, select}
@@ -83,12 +83,6 @@ module _ (T : Table) (law : Lawful (graph T)) (closed : Closed (graph T)) (kinds
     searched-pointer p a b = rw (pointer-flag p a b)
 
 -- ---- every sound table
-
-under-in : (T : Table) → Sound T → (t : TypeKey) → t .0 < size T → under T t .0 < size T
-under-in T sound t h = cases (isNamed (kindAt T t)) (λ e. let n = named-is (kindAt T t) e in named (n .0) (n .1) (n .2)) (λ e. rw (under-plain T t e) h)
-  where
-    named : (u : TypeKey) (ms : List Member) → kindAt T t ≡ Named u ms → under T t .0 < size T
-    named u ms e = rw (under-named T t u ms e) (sound .refers t u (rw e (inl refl)))
 
 module _ (T : Table) (sound : Sound T) (q : Identity) (t : TypeKey) (in0 : t .0 < size T) (a : Bool) (out : Selected) (k : ℕ) (le : enoughTurns T ≤ k) where
   impl-ends : isBlank (q .name) ≡ false → (u : TypeKey) → u .0 < size T → (b : Bool) → lookupImpl T q out k u b ≡ lookupImpl T q notfound k u b

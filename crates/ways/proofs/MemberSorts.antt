@@ -1,28 +1,18 @@
 -- Which of a type's own members are methods, on a sound table: those of a named type's list and of an interface's, and no field of a struct.
 use mathlib.Core.Path.{_≡_, refl, sym, ap, _∙_, subst}
-use mathlib.Core.Bool.{Bool, true, false, cond, _||_}
-use mathlib.Core.List.{List, [], _∷_}
-use mathlib.Core.Logic.{inl, inr}
-use Prim.Native.Nat.{ℕ, suc}
+use mathlib.Core.Bool.{Bool, true, false, _||_}
+use mathlib.Core.List.{List}
 use borrow.Author.Tests.{eqb-true}
 use Rattle.objects.specs.Lists.{In}
 use Rattle.objects.proofs.ListLaws.{clash, or-true}
-use Rattle.objects.proofs.KindLaws.{named-is, under-named}
+use Rattle.objects.proofs.KindLaws.{if-In, named-is, under-named}
 use Rattle.objects.specs.declared.TypeKey.{TypeKey}
 use Rattle.objects.specs.Table.{Table, Entity, Field, Method, Member, isMethod, Kind, Named, kindNumber, isStruct, isIface, isNamed, membersOf, fieldsOf, declaredOf, allMethodsOf, kindAt, under, ifaceUnder}
 use Rattle.rules.specs.Load.{stands}
 use Rattle.rules.specs.Sound.{Sound}
 use Rattle.rules.specs.Ways.{Place, placesFrom, Way, fieldPlaces}
 use Rattle.rules.specs.MethodSet.{methodFlag}
-use Rattle.ways.proofs.TableLaws.{names-neither}
-
-pub place-In : (n : ℕ) (ms : List Member) (p : Place) → In p (placesFrom n ms) → In (p .member) ms
-place-In n (m ∷ ms) p (inl e) = inl (ap (λ (x : Place). x .member) e)
-place-In n (m ∷ ms) p (inr i) = inr (place-In (suc n) ms p i)
-
-only-if : (b : Bool) (m : Member) (ms : List Member) → In m (cond b ms []) → (b ≡ true) × In m ms
-only-if true m ms i = (refl, i)
-only-if false m ms i = absurd i
+use Rattle.ways.proofs.TableLaws.{places-from, names-neither}
 
 stands-method : (e : Entity) (k : Kind) → stands e k ≡ true → isStruct k ≡ false → isMethod e ≡ true
 stands-method (Field emb tag) k h s = clash h s
@@ -35,7 +25,7 @@ stands-field (Method ptr) k h s = clash h (rw (eqb-true (kindNumber k) 8 s))
 module _ (T : Table) (sound : Sound T) (u : TypeKey) (m : Member) where
   -- a member of an interface's list
   pub listed-In : In m (allMethodsOf (kindAt T (under T u))) → (isIface (kindAt T (under T u)) ≡ true) × In m (membersOf (kindAt T (under T u)))
-  listed-In i = only-if (isIface (kindAt T (under T u))) m (membersOf (kindAt T (under T u))) i
+  listed-In i = if-In (isIface (kindAt T (under T u))) (membersOf (kindAt T (under T u))) m i
 
   pub listed-method : In m (allMethodsOf (kindAt T (under T u))) → isMethod (m .entity) ≡ true
   listed-method i =
@@ -45,7 +35,7 @@ module _ (T : Table) (sound : Sound T) (u : TypeKey) (m : Member) where
 module _ (T : Table) (sound : Sound T) (u : TypeKey) (p : Place) where
   -- a named type's list
   pub declared-In : In p (placesFrom 0 (declaredOf (kindAt T u))) → (isNamed (kindAt T u) ≡ true) × In (p .member) (membersOf (kindAt T u))
-  declared-In i = only-if (isNamed (kindAt T u)) (p .member) (membersOf (kindAt T u)) (place-In 0 (declaredOf (kindAt T u)) p i)
+  declared-In i = if-In (isNamed (kindAt T u)) (membersOf (kindAt T u)) (p .member) (places-from 0 (declaredOf (kindAt T u)) p i .1)
 
   pub declared-method : In p (placesFrom 0 (declaredOf (kindAt T u))) → isMethod (p .member .entity) ≡ true
   declared-method i =
@@ -68,10 +58,10 @@ module _ (T : Table) (sound : Sound T) (u : TypeKey) (p : Place) where
 
   -- an interface's list
   pub iface-In : In p (placesFrom 0 (allMethodsOf (kindAt T (under T u)))) → (isIface (kindAt T (under T u)) ≡ true) × In (p .member) (membersOf (kindAt T (under T u)))
-  iface-In i = listed-In T sound u (p .member) (place-In 0 (allMethodsOf (kindAt T (under T u))) p i)
+  iface-In i = listed-In T sound u (p .member) (places-from 0 (allMethodsOf (kindAt T (under T u))) p i .1)
 
   pub iface-method : In p (placesFrom 0 (allMethodsOf (kindAt T (under T u)))) → isMethod (p .member .entity) ≡ true
-  iface-method i = listed-method T sound u (p .member) (place-In 0 (allMethodsOf (kindAt T (under T u))) p i)
+  iface-method i = listed-method T sound u (p .member) (places-from 0 (allMethodsOf (kindAt T (under T u))) p i .1)
 
   pub iface-flag : (w : Way) → w .walk .at ≡ u → In p (placesFrom 0 (allMethodsOf (kindAt T (under T u)))) → true ≡ methodFlag T w
   unfolding methodFlag ifaceUnder
@@ -79,7 +69,7 @@ module _ (T : Table) (sound : Sound T) (u : TypeKey) (p : Place) where
 
   -- a struct's fields
   pub field-In : In p (fieldPlaces T u) → (isStruct (kindAt T (under T u)) ≡ true) × In (p .member) (membersOf (kindAt T (under T u)))
-  field-In i = only-if (isStruct (kindAt T (under T u))) (p .member) (membersOf (kindAt T (under T u))) (place-In 0 (fieldsOf (kindAt T (under T u))) p i)
+  field-In i = if-In (isStruct (kindAt T (under T u))) (membersOf (kindAt T (under T u))) (p .member) (places-from 0 (fieldsOf (kindAt T (under T u))) p i .1)
 
   pub field-no-method : In p (fieldPlaces T u) → isMethod (p .member .entity) ≡ false
   field-no-method i =
