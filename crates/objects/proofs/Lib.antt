@@ -11,6 +11,7 @@ pub mod Numbers
 pub mod RowLaws
 pub mod Stores
 pub mod Keeping
+pub mod SortedLaws
 pub mod Growing
 pub mod Writing
 pub mod Ranks

@@ -1,14 +1,14 @@
 -- Laws of the comparisons of bytes (specs/Bytes.antt): equality is equality, and the order is strict.
-use mathlib.Core.Path.{_≡_, refl, ap₂, _∙_}
+use mathlib.Core.Path.{_≡_, refl, sym, ap₂, _∙_}
 use mathlib.Core.Bool.{Bool, true, false, _&&_, _||_}
 use mathlib.Core.List.{[], _∷_}
 use mathlib.Core.Logic.{_⊎_, inl, inr}
 use Prim.Native.Nat.{ℕ, _<_}
 use native.Mathlib.Omega.{arith}
 use lib.Dec.{eqb, ltb}
-use borrow.Author.Tests.{eqb-true, eq-eqb, ltb-true, lt-ltb, le-ltb}
+use borrow.Author.Tests.{eqb-true, eqb-false, eq-eqb, ltb-true, ltb-false, lt-ltb, le-ltb}
 use Rattle.objects.specs.Lists.{Bytes}
-use Rattle.objects.proofs.ListLaws.{cases, clash, and-l, and-r, or-true}
+use Rattle.objects.proofs.ListLaws.{cases, clash, either, and-l, and-r, or-l, or-r, or-true}
 use Rattle.text.specs.Bytes.{sameBytes, belowBytes}
 
 pub same-refl : (a : Bytes) → sameBytes a a ≡ true
@@ -54,3 +54,17 @@ below-trans (x ∷ xs) (y ∷ ys) (z ∷ zs) h k = go (below-cons x y xs ys h) (
     go (inl p) (inr q) rest = let e = q .0 in below-first x z xs zs (omega arith)
     go (inr p) (inl q) rest = let e = p .0 in below-first x z xs zs (omega arith)
     go (inr p) (inr q) rest = below-rest x z xs zs (p .0 ∙ q .0) (rest (p .1) (q .1))
+
+-- of two texts one comes first, unless they are equal
+pub below-connex : (a b : Bytes) → belowBytes a b ≡ false → (a ≡ b) ⊎ (belowBytes b a ≡ true)
+below-connex [] [] h = inl refl
+below-connex [] (y ∷ ys) h = clash refl h
+below-connex (x ∷ xs) [] h = inr refl
+below-connex (x ∷ xs) (y ∷ ys) h =
+    cases (ltb y x)
+    (λ e. inr (rw e))
+    (λ e. cases (eqb x y)
+    (λ f. either (below-connex xs ys (rw f at (or-r (ltb x y) (eqb x y && belowBytes xs ys) h)))
+    (λ g. inl (ap₂ (λ a b. a ∷ b) (eqb-true x y f) g))
+    (λ g. inr (below-rest y x ys xs (sym (eqb-true x y f)) g)))
+    (λ f. let l = ltb-false x y (or-l (ltb x y) (eqb x y && belowBytes xs ys) h) in let g = ltb-false y x e in let n = eqb-false x y f in absurd (omega arith)))

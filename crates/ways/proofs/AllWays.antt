@@ -14,7 +14,7 @@ use Rattle.objects.specs.Table.{Table, size, sameType, isEmbedded, bare}
 use Rattle.rules.specs.Members.{Identity, identityOf, sameId}
 use Rattle.rules.specs.Ways.{Place, Walk, Way, start, along, fieldPlaces, embedded, owned, onward, walks, matching, ends, ways}
 use Rattle.ways.specs.Graph as over
-use Rattle.ways.specs.OfTable.{graph, stepOf}
+use Rattle.ways.specs.OfTable.{graph, graphUpTo, stepOf}
 use Rattle.ways.specs.IsWay.{IsWalk, starts, takes, IsWay}
 use Rattle.ways.proofs.Merge.{Lawful}
 use Rattle.ways.proofs.Same.{Alike}
@@ -65,8 +65,8 @@ module _ (T : Table) (t : TypeKey) where
 -- ---- no way of any length
 
 -- the table's graph with each type identical to itself only: enough to count the types on a way
-abbrev plain : Table → over.Graph
-plain T = record { size = size T; members = owned T; steps = graph T .steps; same = sameType; hit = graph T .hit }
+abbrev pub plain : Table → over.Graph
+plain T = graphUpTo T sameType
 
 plain-same : (T : Table) (a b c : TypeKey) → sameType a b ≡ true → sameType a c ≡ sameType b c
 plain-same T a b c e = ap (λ x. sameType x c) (same-key a b e)
@@ -74,7 +74,7 @@ plain-same T a b c e = ap (λ x. sameType x c) (same-key a b e)
 turned : (a b : TypeKey) → sameType a b ≡ sameType b a
 turned a b = cases (sameType a b) (λ e. e ∙ sym (ap (λ x. sameType b x) (same-key a b e) ∙ same-self b)) (λ e. e ∙ sym (cases (sameType b a) (λ f. clash (ap (λ x. sameType x b) (sym (same-key b a f)) ∙ same-self b) e) (λ f. f)))
 
-plain-lawful : (T : Table) → Lawful (plain T)
+pub plain-lawful : (T : Table) → Lawful (plain T)
 plain-lawful T = record {
   self = same-self;
   turn = turned;

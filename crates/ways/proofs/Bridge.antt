@@ -14,7 +14,7 @@ use Rattle.ways.specs.Graph as over
 use Rattle.ways.specs.OfTable.{graph, stepOf}
 
 module _ (T : Table) where
-  onward-are : (w : Walk) → onward T w ≡ over.onward (graph T) w
+  pub onward-are : (w : Walk) → onward T w ≡ over.onward (graph T) w
   unfolding onward
   onward-are w = sym (map-map (over.along (graph T) w) (stepOf T) (rules.embedded T (w .at)))
 

@@ -77,6 +77,14 @@ module _ (G : Graph) (law : Lawful G) (cl : Closed G) (r0 : Walk) (in0 : r0 .at 
   pub shortest-nothing : ((j : ℕ) → ways G key r0 j ≡ []) → shortest G key r0 0 (G .size) ≡ []
   shortest-nothing h = shortest-none G key r0 (G .size) 0 (λ i l. h i)
 
+  -- looking at more lengths than there are types changes nothing
+  pub shortest-more : (k : ℕ) → G .size ≤ k → shortest G key r0 0 k ≡ shortest G key r0 0 (G .size)
+  shortest-more k le = go least-or-none
+    where
+      go : ((d : ℕ) × Least G key r0 d) ⊎ ((j : ℕ) → ways G key r0 j ≡ []) → shortest G key r0 0 k ≡ shortest G key r0 0 (G .size)
+      go (inl l) = let b = least-bound (l .0) (l .1) in shortest-at G key r0 k 0 (l .0) (l .1) (omega arith) (omega arith) ∙ sym (shortest-least (l .0) (l .1))
+      go (inr h) = shortest-none G key r0 k 0 (λ i l. h i) ∙ sym (shortest-nothing h)
+
 -- WHAT SELECT GIVES, over all lengths
 module _ (G : Graph) (law : Lawful G) (cl : Closed G) (t : TypeKey) (in0 : t .0 < G .size) (f a : Bool) (key : Identity) (kd : Keyed G key) where
   pub select-least : (d : ℕ) → Least G key (start t f) d → select G key t f a ≡ judge G a (ways G key (start t f) d)

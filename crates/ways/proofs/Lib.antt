@@ -13,3 +13,7 @@ pub mod Room
 pub mod TableLaws
 pub mod Selects
 pub mod Loaded
+pub mod MemberSorts
+pub mod MethodSets
+pub mod GivenWays
+pub mod GivenAlike

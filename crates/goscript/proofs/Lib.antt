@@ -1,0 +1,16 @@
+pub mod Consolidating
+pub mod Scans
+pub mod ScanLevels
+pub mod LookupSame
+pub mod MapLaws
+pub mod Visits
+pub mod Collisions
+pub mod Values
+pub mod SetsSame
+pub mod LevelsEnd
+pub mod LoopsEnd
+pub mod LookupIs
+pub mod SetKeys
+pub mod PointerSets
+pub mod MethodSetIs
+pub mod MissingIs

@@ -1,0 +1,5 @@
+pub mod Consolidate
+pub mod Lookup
+pub mod Maps
+pub mod MethodSets
+pub mod Missing
