@@ -1,0 +1,6 @@
+pub mod Steps
+pub mod RefLaws
+pub mod FormLaws
+pub mod LetterLaws
+pub mod KnownLaws
+pub mod AskLaws

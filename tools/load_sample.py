@@ -1,0 +1,126 @@
+#!/usr/bin/env python3
+"""Makes the stdin and stdout of the program load_run: tables, each behind its length, and what loading gives.
+
+    load_sample.py VECTORS CRATE
+
+VECTORS has small, mixed and damaged (.in and .out): inputs of typeask with what it prints. Of these a sample is taken that has every refusal from 3 to 10
+and every form of line; the edges of document 01 are added. A table that loads gives `ok` and the counts of its P, T, and F and M lines; a refused one
+gives `refused`, the number and the line, as typeask prints it.
+"""
+import sys
+
+
+def cases(path):
+    data = open(path, 'rb').read()
+    if path.endswith('.in'):
+        data = data[data.index(b'\n') + 1:]
+    return data.split(b'---\n')[:-1]
+
+
+def table_of(text):
+    """The table: what stands before the first line that is exactly Q."""
+    at = 0
+    while at < len(text):
+        end = text.find(b'\n', at)
+        if end < 0:
+            return text
+        if text[at:end] == b'Q':
+            return text[:at]
+        at = end + 1
+    return text
+
+
+def counts(table):
+    lines = table.split(b'\n')[1:]
+    p = sum(l.startswith(b'P\t') for l in lines)
+    t = sum(l.startswith(b'T\t') for l in lines)
+    m = sum(l.startswith((b'F\t', b'M\t')) for l in lines)
+    return b'ok\t%d\t%d\t%d\n' % (p, t, m)
+
+
+def loading(case, out):
+    """The table of a case and what loading it gives; nothing where the input as a whole is too long."""
+    table = table_of(case)
+    if len(case) > 32768:
+        return None
+    first = out.split(b'\n')[0]
+    if first.startswith(b'refused\t') and first.split(b'\t')[1] in [b'2', b'3', b'4', b'5', b'6', b'7', b'8', b'9', b'10']:
+        return table, first + b'\n'
+    return table, counts(table)
+
+
+def sample(vectors):
+    chosen = []
+    for name, step in [('small', 9), ('mixed', 9), ('damaged', 4)]:
+        pairs = list(zip(cases(f'{vectors}/{name}.in'), cases(f'{vectors}/{name}.out')))
+        for case, out in pairs[::step]:
+            got = loading(case, out)
+            if got and len(got[0]) < 9000:
+                chosen.append(got)
+    return chosen
+
+
+HEAD = b'typetable\t1\n'
+
+
+def refused(number, line):
+    return b'refused\t%d\t%d\n' % (number, line)
+
+
+def edges():
+    """The bounds of document 01, one below or at and one above."""
+    def table(*lines):
+        return HEAD + b''.join(l + b'\n' for l in lines)
+
+    int_type = b'T\tbasic\t2'
+    fields = [b'F\tX%d\t-\t0\t0' % i for i in range(256)]
+    packages = [b'P\tp%d' % i for i in range(65)]
+    long_name = b'F\t' + b'n' * 65 + b'\t-\t0\t0'
+    # 1,024 members: four structs of 255 fields and one of 4
+    full = [int_type]
+    for _ in range(4):
+        full += [b'T\tstruct'] + fields[:255]
+    full += [b'T\tstruct'] + fields[:4]
+    wide = HEAD + b'P\t' + b'p' * 128 + b'\n'
+    comment = b'T\ttuple' + b'\t0' * ((32768 - len(HEAD) - len(int_type) - 1 - len(b'T\ttuple') - 1) // 2)
+    tuple_line = table(int_type, comment)
+    tuple_line = tuple_line[:-1] + b'0\n' if len(tuple_line) < 32768 else tuple_line
+    return [
+        (table(int_type, b'T\tstruct', *fields[:255]), b'ok\t0\t2\t255\n'),
+        (table(int_type, b'T\tstruct', *fields[:256]), refused(6, 259)),
+        (table(int_type, b'T\tstruct', long_name.replace(b'n' * 65, b'n' * 64)), b'ok\t0\t2\t1\n'),
+        (table(int_type, b'T\tstruct', long_name), refused(4, 4)),
+        (table(*[int_type] * 256), b'ok\t0\t256\t0\n'),
+        (table(*[int_type] * 257), refused(6, 258)),
+        (table(*packages[:64]), b'ok\t64\t0\t0\n'),
+        (table(*packages[:65]), refused(6, 66)),
+        (table(*full), b'ok\t0\t6\t1024\n'),
+        (table(*full, b'F\tX9\t-\t0\t0'), refused(6, 1033)),
+        (wide, b'ok\t1\t0\t0\n'),
+        (wide[:-1] + b'p\n', refused(4, 2)),
+        (tuple_line, b'ok\t0\t2\t0\n' if len(tuple_line) == 32768 and not tuple_line.endswith(b'00\n') else refused(4, 3)),
+        (tuple_line + b'\n' * (32769 - len(tuple_line)), refused(2, 0)),
+        (HEAD, b'ok\t0\t0\t0\n'),
+        (b'', refused(3, 1)),
+        (HEAD[:-1], refused(3, 1)),
+        (HEAD + int_type, refused(4, 2)),
+        (HEAD + int_type + b'\r\n', refused(4, 2)),
+        (HEAD + b'\x00\n', refused(4, 2)),
+        (HEAD + b'P\t\xff\n', refused(4, 2)),
+        (b'x' * 32768, refused(3, 1)),
+        (b'x' * 32769, refused(2, 0)),
+    ]
+
+
+def main():
+    vectors, crate = sys.argv[1:3]
+    rows = sample(vectors) + edges()
+    with open(f'{crate}/stdin', 'wb') as tables, open(f'{crate}/stdout', 'wb') as results:
+        for table, result in rows:
+            tables.write(b'%05d\n' % len(table) + table)
+            results.write(result)
+    seen = sorted({r.split(b'\t')[1] if r.startswith(b'refused') else b'ok' for _, r in rows})
+    print(len(rows), 'tables;', b' '.join(seen).decode())
+
+
+main()
