@@ -1,6 +1,6 @@
 -- What a line may refer to (8), by the numbers of the kinds that the code reads.
 use mathlib.Core.Path.{_≡_, refl, sym, ap, _∙_}
-use mathlib.Core.Bool.{Bool, true, false, cond, not, _&&_, _||_}
+use mathlib.Core.Bool.{Bool, true, false, not, _&&_, _||_}
 use mathlib.Core.List.{List, [], _∷_, _++_}
 use Prim.Native.Nat.{ℕ, suc, _+_, _-_, _<_, _≤_}
 use native.Mathlib.Omega.{arith}
@@ -8,17 +8,17 @@ use lib.Dec.{eqb, ltb}
 use borrow.Author.Tests.{eq-eqb, ne-eqb, eqb-true}
 use Rattle.objects.specs.declared.TypeKey.{TypeKey}
 use Rattle.objects.specs.declared.ObjKey.{ObjKey}
-use Rattle.objects.specs.Lists.{Bytes, any, every, lastOf}
-use Rattle.objects.specs.Table.{Table, Entity, Field, Method, Member, Kind, Basic, Array, Slice, Pointer, Map, Chan, Tuple, Func, Struct, Iface, Named, typeKey, kindNumber, refs, isSlice, isPointer, isTuple, isFunc, isIface, isNamed, isMethod, isEmbedded, hasPtr, kindAt, under, bare, pointerAt, ifaceUnder, namedPointer}
+use Rattle.objects.specs.Lists.{Bytes, every}
+use Rattle.objects.specs.Table.{Table, Entity, Field, Method, Member, Kind, Basic, Array, Slice, Pointer, Map, Chan, Tuple, Func, Struct, Iface, Named, typeKey, kindNumber, refs, isPointer, isTuple, isFunc, isIface, isMethod, isEmbedded, hasPtr, kindAt, under, bare, pointerAt, ifaceUnder, namedPointer}
 use Rattle.objects.specs.Rows.{Words, typeCount, typeWord, elementAt, elementsFrom, memberAt, tableOf}
 use Rattle.objects.specs.Types.{numberRead, namedRead, pointerRead, underRead, bareRead, firstRead, totalRead, memberTypeRead, embeddedRead, methodRead, ptrRead}
 use Rattle.objects.proofs.ListLaws.{cases, clash, and-l}
+use Rattle.objects.proofs.BoolLaws.{and-yes}
 use Rattle.objects.proofs.PartLaws.{last-snoc}
 use Rattle.objects.proofs.RowLaws.{number-read, kind-beyond, under-read, bare-read, elements-more, member-type-meant, embedded-meant, method-meant, ptr-meant}
 use Rattle.rules.specs.Checks.{mayRefer, smallerTuple, endsInSlice, mayName, typeAllowed, mayEmbed, mayHave, memberAllowed}
 use Rattle.references.specs.declared.Test.{Test}
 use Rattle.references.specs.Tests.{passes}
-use Rattle.references.proofs.Referring.{and-yes}
 use Rattle.references.proofs.RowKinds.{there, tuple-row, func-row, struct-row, named-row}
 
 -- ---- readers that know where the table ends

@@ -1,11 +1,11 @@
 -- A line fails a test (specs/Tests.antt) as the rules have it.
-use mathlib.Core.Path.{_≡_, ap, _∙_}
+use mathlib.Core.Path.{_≡_, ap}
 use mathlib.Core.Bool.{Bool, not, _&&_}
 use mathlib.Core.List.{List}
 use Rattle.objects.specs.declared.TypeKey.{TypeKey}
 use Rattle.objects.specs.Lists.{every}
 use Rattle.objects.specs.Table.{Table, Member, Kind, refs, hasType, hasPackage}
-use Rattle.rules.specs.Checks.{Item, typeItem, memberItem, lacking, forbidden, typeAllowed, memberAllowed}
+use Rattle.rules.specs.Checks.{typeItem, memberItem, lacking, forbidden, typeAllowed, memberAllowed}
 use Rattle.references.specs.declared.Test.{Test}
 use Rattle.references.specs.Tests.{fails, passes}
 

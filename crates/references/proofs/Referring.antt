@@ -1,11 +1,10 @@
 -- What the table has (7), and each reference of a T line put to a test.
-use mathlib.Core.Path.{_≡_, refl, sym, ap, _∙_}
-use mathlib.Core.Bool.{Bool, true, false, cond, not, _&&_}
-use mathlib.Core.List.{List, [], _∷_}
+use mathlib.Core.Path.{_≡_, sym, ap, _∙_}
+use mathlib.Core.Bool.{Bool, true, false, _&&_}
+use mathlib.Core.List.{[], _∷_}
 use Prim.Native.Nat.{ℕ, _+_, _-_, _<_, _≤_}
-use native.Mathlib.Omega.{arith}
-use lib.Dec.{eqb, ltb}
-use lib.ListN.{drop, length}
+use lib.Dec.{ltb}
+use lib.ListN.{drop}
 use borrow.Author.Tests.{ne-eqb}
 use Rattle.objects.specs.declared.TypeKey.{TypeKey}
 use Rattle.objects.specs.declared.ObjKey.{ObjKey}
@@ -14,22 +13,13 @@ use Rattle.objects.specs.Lists.{Bytes, every}
 use Rattle.objects.specs.Table.{Table, Kind, refs, hasType, hasPackage, kindNumber, kindAt}
 use Rattle.objects.specs.Rows.{Words, typeCount, packageCount, memberWord, pkgOf, elementAt, elementsFrom, memberAt, tableOf}
 use Rattle.objects.specs.Types.{typeRead, kindMeant, numberRead, firstRead, totalRead, memberTypeRead}
+use Rattle.objects.proofs.BoolLaws.{and-yes}
 use Rattle.objects.proofs.PartLaws.{every-next, every-end}
 use Rattle.objects.proofs.RowLaws.{size-read, package-count-read, kind-read, number-read, type-meant, elements-length, elements-at}
 use Rattle.rules.specs.Checks.{mayRefer}
 use Rattle.references.specs.declared.Test.{Test}
 use Rattle.references.specs.Tests.{passes}
 use Rattle.references.proofs.RowKinds.{tuple-row}
-
--- ---- Booleans
-
-pub and-yes : (b : Bool) → b && true ≡ b
-and-yes true = refl
-and-yes false = refl
-
-pub not-yes : (b : Bool) → not b ≡ true → b ≡ false
-not-yes true h = sym h
-not-yes false h = refl
 
 -- ---- numbers that the table has
 

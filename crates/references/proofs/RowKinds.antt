@@ -1,21 +1,21 @@
 -- What a type's row is of by its kind's number, and the F and M lines under it: each said of the table that the rows hold.
-use mathlib.Core.Path.{_≡_, refl, sym, ap, _∙_}
-use mathlib.Core.Bool.{true, false, cond}
+use mathlib.Core.Path.{_≡_, refl, ap, _∙_}
+use mathlib.Core.Bool.{cond}
 use Prim.Native.Nat.{ℕ, _+_, _<_, _≤_}
 use native.Mathlib.Omega.{arith}
 use lib.Dec.{eqb, ltb}
 use lib.ListN.{length, getD}
-use borrow.Author.Tests.{ltb-true, ltb-false, lt-ltb, le-ltb, eqb-true, ne-eqb}
+use borrow.Author.Tests.{ltb-true, ltb-false, lt-ltb, le-ltb, eqb-true}
 use Rattle.objects.specs.declared.TypeKey.{TypeKey}
 use Rattle.objects.specs.Bounds.{maxElements}
 use Rattle.objects.specs.Lists.{Bytes}
-use Rattle.objects.specs.Table.{Table, Member, Kind, Tuple, Func, Struct, Named, typeKey, objKey, kindNumber, membersOf, kindAt}
+use Rattle.objects.specs.Table.{Member, Tuple, Func, Struct, Named, typeKey, objKey, kindNumber, membersOf, kindAt}
 use Rattle.objects.specs.Rows.{Words, typeCount, memberCountOf, elementCount, typeWord, memberAt, membersFrom, elementsFrom, kindOf, kindRead, tableOf}
 use Rattle.objects.specs.Types.{numberOf, numberRead, firstRead, totalRead}
 use Rattle.objects.specs.Laid.{Laid, endOf}
 use Rattle.objects.proofs.ListLaws.{cases}
 use Rattle.objects.proofs.RowLaws.{by-kind, named-kind, members-length, members-at, kind-read, kind-beyond}
-use Rattle.references.specs.Tests.{linesRead}
+use Rattle.references.specs.Lines.{linesRead}
 
 -- ---- the kind's word
 

@@ -1,24 +1,23 @@
 -- A walk over the lines of the table that rows hold, by whatever test: what the code reads of a line and of its number says what a stage finds from there on.
-use mathlib.Core.Path.{_≡_, refl, sym, ap, _∙_}
+use mathlib.Core.Path.{_≡_, sym, ap, _∙_}
 use mathlib.Core.Bool.{Bool, true, false}
 use mathlib.Core.List.{List}
-use mathlib.Core.Option.{Option, none, some}
+use mathlib.Core.Option.{Option, some}
 use Prim.Native.Nat.{ℕ, _+_, _<_, _≤_}
-use native.Mathlib.Omega.{arith}
-use lib.ListN.{length, getD, take}
+use lib.ListN.{length, getD}
 use Rattle.objects.specs.declared.TypeKey.{TypeKey}
 use Rattle.objects.specs.declared.ObjKey.{ObjKey}
 use Rattle.objects.specs.declared.Stage.{Stage}
 use Rattle.objects.specs.Lists.{Bytes}
-use Rattle.objects.specs.Table.{Table, Member, Kind, typeKey, objKey, size, membersOf, kindAt}
+use Rattle.objects.specs.Table.{Member, Kind, typeKey, objKey, size, membersOf, kindAt}
 use Rattle.objects.specs.Rows.{Words, typeCount, memberCountOf, typeWord, memberWord, memberAt, tableOf}
 use Rattle.objects.specs.Types.{firstRead, found}
 use Rattle.objects.specs.Laid.{Laid}
 use Rattle.objects.proofs.RowLaws.{size-read, type-line-read, member-line-read}
-use Rattle.rules.specs.Checks.{Item, typeItem, memberItem, lineOfItem, items}
+use Rattle.rules.specs.Checks.{Item, typeItem, memberItem, lineOfItem}
 use Rattle.rules.specs.Stages.{firstLine, linesUnder, linesOf}
 use Rattle.rules.proofs.ItemLaws.{typesLeft, types-end, types-on, types-stop, lines-stop, lines-on, membersLeft, members-end, members-on, members-stop}
-use Rattle.references.specs.Tests.{linesRead}
+use Rattle.references.specs.Lines.{linesRead}
 use Rattle.references.proofs.RowKinds.{members-count, members-get, member-there}
 
 -- ---- the line of the text that a row stands on

@@ -3,13 +3,12 @@
 ghost use mathlib.Core.Path.{_≡_};
 ghost use mathlib.Core.Bool.{not, _||_};
 ghost use Prim.Native.Nat.{_<_};
-ghost use Rattle.objects.specs.Lists.{Bytes};
 ghost use Rattle.objects.specs.Table.{kindNumber, kindAt, under, bare, isPointer, isIface};
-ghost use Rattle.objects.specs.Rows.{typeCount, memberAt, tableOf};
+ghost use Rattle.objects.specs.Rows.{typeCount};
 ghost use Rattle.objects.specs.Types.{numberRead};
 ghost use Rattle.objects.specs.Laid.{Laid};
 ghost use Rattle.rules.specs.Checks.{mayRefer, smallerTuple, endsInSlice, mayName, typeAllowed, mayEmbed, mayHave, memberAllowed};
-ghost use Rattle.references.specs.Tests.{Says};
+ghost use Rattle.references.specs.Lines.{Says, SaysOf};
 use crate::Test;
 use crate::refs::both;
 use crate::refs::refs_pass;
@@ -170,7 +169,7 @@ fn may_have(rows: &[u32], t: TypeKey, ptr: bool) -> bool
 
 pub fn member_allowed(rows: &[u32], t: TypeKey, m: ObjKey) -> bool
     requires { ⌜ (t .0 < typeCount (now rows)) × (7 < numberRead (now rows) t) ⌝ }
-    ensures { λ r. ⌜ ((text : Bytes) → r ≡ memberAllowed (tableOf text (now (rows .entry))) t (kindAt (tableOf text (now (rows .entry))) t) (memberAt text (now (rows .entry)) m .type) (memberAt text (now (rows .entry)) m .entity)) ⌝ }
+    ensures { λ r. ⌜ SaysOf (now (rows .entry)) m r (λ T x. memberAllowed T t (kindAt T t) (x .type) (x .entity)) ⌝ }
 {
     let e = member_type(rows, m);
     if is_method(rows, m) {

@@ -2,15 +2,15 @@
 // allowed there (8). One walk over the types and the members under each serves both tests.
 ghost use mathlib.Core.Path.{_≡_};
 ghost use Prim.Native.Nat.{_<_};
-ghost use Rattle.objects.specs.Lists.{Bytes};
 ghost use mathlib.Core.List.{List};
 ghost use Rattle.objects.specs.Table.{Member, kindAt};
-ghost use Rattle.objects.specs.Rows.{typeCount, memberAt, tableOf};
+ghost use Rattle.objects.specs.Rows.{typeCount};
 ghost use Rattle.objects.specs.Types.{numberRead, found};
 ghost use Rattle.objects.specs.Laid.{Laid};
 ghost use Rattle.rules.specs.Checks.{typeItem, memberItem, items, lacking, forbidden};
 ghost use Rattle.rules.specs.Stages.{firstLine, linesOf, linesUnder};
-ghost use Rattle.references.specs.Tests.{Says, fails, linesRead};
+ghost use Rattle.references.specs.Lines.{Says, SaysOf, linesRead};
+ghost use Rattle.references.specs.Tests.{fails};
 use crate::allowed::member_allowed;
 use crate::allowed::type_allowed;
 use crate::refs::member_within;
@@ -50,7 +50,7 @@ fn type_fails(rows: &[u32], test: Test, t: TypeKey) -> bool
 // The line of m, a member under t, fails. It does not matter which members stand above it.
 fn member_fails(rows: &[u32], test: Test, t: TypeKey, m: ObjKey) -> bool
     requires { ⌜ (t .0 < typeCount (now rows)) × (7 < numberRead (now rows) t) ⌝ }
-    ensures { λ r. ⌜ ((text : Bytes) (above : List Member) → r ≡ fails (tableOf text (now (rows .entry))) test (memberItem t (kindAt (tableOf text (now (rows .entry))) t) above (memberAt text (now (rows .entry)) m))) ⌝ }
+    ensures { λ r. ⌜ ((above : List Member) → SaysOf (now (rows .entry)) m r (λ T x. fails T test (memberItem t (kindAt T t) above x))) ⌝ }
 {
     match test {
         Test::Lacking => !member_within(rows, m),

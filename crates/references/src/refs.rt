@@ -4,10 +4,11 @@ ghost use mathlib.Core.Bool.{_&&_};
 ghost use Prim.Native.Nat.{_<_};
 ghost use Rattle.objects.specs.Lists.{Bytes, every};
 ghost use Rattle.objects.specs.Table.{kindAt, refs, hasType, hasPackage};
-ghost use Rattle.objects.specs.Rows.{typeCount, pkgOf, memberAt, elementsFrom, tableOf};
+ghost use Rattle.objects.specs.Rows.{typeCount, pkgOf, elementsFrom, tableOf};
 ghost use Rattle.objects.specs.Types.{firstRead, totalRead};
 ghost use Rattle.objects.specs.Laid.{Laid};
-ghost use Rattle.references.specs.Tests.{Says, passes};
+ghost use Rattle.references.specs.Lines.{Says, SaysOf};
+ghost use Rattle.references.specs.Tests.{passes};
 use crate::Test;
 use crate::allowed::may_refer;
 use objects::ObjKey;
@@ -49,7 +50,7 @@ pub fn has_package(rows: &[u32], n: u32) -> bool
 
 // What an F or M line refers to is there.
 pub fn member_within(rows: &[u32], m: ObjKey) -> bool
-    ensures { λ r. ⌜ ((text : Bytes) → r ≡ hasType (tableOf text (now (rows .entry))) (memberAt text (now (rows .entry)) m .type) && hasPackage (tableOf text (now (rows .entry))) (memberAt text (now (rows .entry)) m .pkg)) ⌝ }
+    ensures { λ r. ⌜ SaysOf (now (rows .entry)) m r (λ T x. hasType T (x .type) && hasPackage T (x .pkg)) ⌝ }
 {
     both(
         has_type(rows, member_type(rows, m)),

@@ -1,4 +1,4 @@
-use mathlib.Core.Path.{_≡_, refl, sym, _∙_}
+use mathlib.Core.Path.{_≡_, sym, _∙_}
 use Prim.Native.Nat.{_-_}
 use native.Mathlib.Omega.{arith}
 use Rattle.objects.specs.Lists.{Bytes}
@@ -39,7 +39,7 @@ member-word-requires : tie.Need-member-word-requires Inv-loop μ-loop
 member-word-requires c κs = search needs
 
 returns : tie.Need-returns Inv-loop μ-loop
-returns c text = sym ((c .before .before .before .before .loop .inv) text ∙ under-stop text (c .before .before .before .before .before .before .before .before .args .rows .now) (fails (tableOf text (c .before .before .before .before .before .before .before .before .args .rows .now)) (c .before .before .before .before .before .before .before .before .args .test)) (c .before .before .before .before .before .before .before .before .args .t) ((c .before .before .before .before .before .before .before .before .pre .1)) (c .before .before .before .before .before .member-lines .ensures) _ (c .before .before .before .loop-test .taken) (c .before .before .before .before .before .before .first-member .ensures) ((c .before .before .member-fails .ensures) text) ((c .before .before .before .before .before .before .before .before .pre .0)) (c .before .if1 .taken) (c .member-word .ensures))
+returns c text = sym ((c .before .before .before .before .loop .inv) text ∙ under-stop text (c .before .before .before .before .before .before .before .before .args .rows .now) (fails (tableOf text (c .before .before .before .before .before .before .before .before .args .rows .now)) (c .before .before .before .before .before .before .before .before .args .test)) (c .before .before .before .before .before .before .before .before .args .t) ((c .before .before .before .before .before .before .before .before .pre .1)) (c .before .before .before .before .before .member-lines .ensures) _ (c .before .before .before .loop-test .taken) (c .before .before .before .before .before .before .first-member .ensures) (λ above. (c .before .before .member-fails .ensures) above text) ((c .before .before .before .before .before .before .before .before .pre .0)) (c .before .if1 .taken) (c .member-word .ensures))
 
 add-i : tie.Need-add-i Inv-loop μ-loop
 add-i c = search needs
@@ -48,7 +48,7 @@ loop-less : tie.Need-loop-less Inv-loop μ-loop
 loop-less c = omega arith
 
 loop-again : tie.Need-loop-again Inv-loop μ-loop
-loop-again c text = (c .before .before .before .loop .inv) text ∙ under-on text (c .before .before .before .before .before .before .before .args .rows .now) (fails (tableOf text (c .before .before .before .before .before .before .before .args .rows .now)) (c .before .before .before .before .before .before .before .args .test)) (c .before .before .before .before .before .before .before .args .t) ((c .before .before .before .before .before .before .before .pre .1)) (c .before .before .before .before .member-lines .ensures) _ (c .before .before .loop-test .taken) (c .before .before .before .before .before .first-member .ensures) ((c .before .member-fails .ensures) text) (c .if1 .left)
+loop-again c text = (c .before .before .before .loop .inv) text ∙ under-on text (c .before .before .before .before .before .before .before .args .rows .now) (fails (tableOf text (c .before .before .before .before .before .before .before .args .rows .now)) (c .before .before .before .before .before .before .before .args .test)) (c .before .before .before .before .before .before .before .args .t) ((c .before .before .before .before .before .before .before .pre .1)) (c .before .before .before .before .member-lines .ensures) _ (c .before .before .loop-test .taken) (c .before .before .before .before .before .first-member .ensures) (λ above. (c .before .member-fails .ensures) above text) (c .if1 .left)
 
 returns-2 : tie.Need-returns-2 Inv-loop μ-loop
 returns-2 c text = sym ((c .before .loop .inv) text ∙ under-end text (c .before .before .before .before .before .args .rows .now) (fails (tableOf text (c .before .before .before .before .before .args .rows .now)) (c .before .before .before .before .before .args .test)) (c .before .before .before .before .before .args .t) ((c .before .before .before .before .before .pre .1)) (c .before .before .member-lines .ensures) _ (c .loop-test .left))

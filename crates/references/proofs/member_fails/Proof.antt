@@ -18,10 +18,10 @@ member-allowed-requires : tie.Need-member-allowed-requires
 member-allowed-requires c κs = search needs
 
 returns : tie.Need-returns
-returns c text above = member-lacking (tableOf text (c .before .before .before .before .args .rows .now)) (c .before .before .before .before .args .t) (kindAt (tableOf text (c .before .before .before .before .args .rows .now)) (c .before .before .before .before .args .t)) above (memberAt text (c .before .before .before .before .args .rows .now) (c .before .before .before .before .args .m)) (c .before .enum-told .given .1) ((c .member-within .ensures) text)
+returns c above text = member-lacking (tableOf text (c .before .before .before .before .args .rows .now)) (c .before .before .before .before .args .t) (kindAt (tableOf text (c .before .before .before .before .args .rows .now)) (c .before .before .before .before .args .t)) above (memberAt text (c .before .before .before .before .args .rows .now) (c .before .before .before .before .args .m)) (c .before .enum-told .given .1) ((c .member-within .ensures) text)
 
 returns-2 : tie.Need-returns-2
-returns-2 c text above = member-forbidden (tableOf text (c .before .before .before .before .args .rows .now)) (c .before .before .before .before .args .t) (kindAt (tableOf text (c .before .before .before .before .args .rows .now)) (c .before .before .before .before .args .t)) above (memberAt text (c .before .before .before .before .args .rows .now) (c .before .before .before .before .args .m)) (c .before .enum-told2 .given .1) ((c .member-allowed .ensures) text)
+returns-2 c above text = member-forbidden (tableOf text (c .before .before .before .before .args .rows .now)) (c .before .before .before .before .args .t) (kindAt (tableOf text (c .before .before .before .before .args .rows .now)) (c .before .before .before .before .args .t)) above (memberAt text (c .before .before .before .before .args .rows .now) (c .before .before .before .before .args .m)) (c .before .enum-told2 .given .1) ((c .member-allowed .ensures) text)
 
 pub member-fails-spec : {M : Type 1} → statement M
 member-fails-spec =

@@ -1,8 +1,7 @@
 use Rattle.objects.proofs.ListLaws.{un-not}
-use Rattle.references.proofs.Referring.{not-yes}
+use Rattle.objects.proofs.BoolLaws.{not-yes}
 use mathlib.Core.List.{[]}
 use Rattle.objects.specs.Table.{typeKey}
-use Rattle.objects.specs.Rows.{tableOf}
 use Rattle.references.proofs.Allowing.{tuple-there, func-row-first, func-row-second, func-row-plain, func-row-variadic}
 use borrow.Author.Needs.{needs}
 use Rattle.references.proofs.allowed.func_allowed.Statement.{statement}

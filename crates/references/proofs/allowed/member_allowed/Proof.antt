@@ -1,5 +1,5 @@
 use Rattle.objects.proofs.ListLaws.{un-not}
-use Rattle.references.proofs.Referring.{not-yes}
+use Rattle.objects.proofs.BoolLaws.{not-yes}
 use Rattle.references.proofs.Allowing.{line-method, line-field, line-embedded}
 use borrow.Author.Needs.{needs}
 use Rattle.references.proofs.allowed.member_allowed.Statement.{statement}

@@ -1,8 +1,3 @@
-use mathlib.Core.Path.{sym, _∙_}
-use Rattle.objects.specs.Table.{typeKey, kindAt}
-use Rattle.objects.specs.Rows.{tableOf}
-use Rattle.objects.proofs.RowLaws.{number-read}
-use Rattle.references.proofs.RowKinds.{named-row}
 use Rattle.references.proofs.Allowing.{named-is-allowed, others-are-allowed}
 use borrow.Author.Needs.{needs}
 use Rattle.references.proofs.allowed.type_allowed.Statement.{statement}

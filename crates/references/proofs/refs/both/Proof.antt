@@ -1,5 +1,3 @@
-use mathlib.Core.Path.{refl}
-use borrow.Author.Needs.{needs}
 use Rattle.references.proofs.refs.both.Statement.{statement}
 use Rattle.references.proofs.refs.both.Tie as tie
 

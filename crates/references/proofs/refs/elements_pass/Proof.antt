@@ -1,4 +1,5 @@
 use Rattle.objects.proofs.ListLaws.{un-not}
+use Rattle.objects.proofs.BoolLaws.{not-yes}
 use mathlib.Core.Path.{_≡_, refl, sym, _∙_}
 use Prim.Native.Nat.{_-_}
 use native.Mathlib.Omega.{arith}
@@ -8,7 +9,7 @@ use Rattle.objects.specs.Rows.{elementsFrom, tableOf}
 use Rattle.objects.specs.Types.{firstRead, totalRead}
 use Rattle.references.specs.Tests.{passes}
 use Rattle.references.proofs.RowKinds.{places-fit}
-use Rattle.references.proofs.Referring.{not-yes, elements-on, elements-stop, elements-end}
+use Rattle.references.proofs.Referring.{elements-on, elements-stop, elements-end}
 use borrow.Author.Needs.{needs}
 use Rattle.references.proofs.refs.elements_pass.Statement.{statement}
 use Rattle.references.proofs.refs.elements_pass.Tie as tie
