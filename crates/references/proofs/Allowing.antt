@@ -77,7 +77,7 @@ module _ (T : Table) (t e : TypeKey) {k : ℕ} (p : k ≡ kindNumber (kindAt T e
   pub tuple-smaller : {r : Bool} → r ≡ eqb k 6 && ltb (e .0) (t .0) → r ≡ smallerTuple T t e
   tuple-smaller q = q ∙ rw p
 
--- neither of two kinds: what a named type's u and a method's type must not be
+-- neither of two kinds: named or tuple, pointer or iface
 module _ (a b : ℕ) {k n : ℕ} (p : k ≡ n) where
   pub neither-first : k ≡ a → false ≡ not (eqb n a || eqb n b)
   neither-first q = rw (sym p ∙ q, eq-eqb a a refl)

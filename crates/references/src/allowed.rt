@@ -27,6 +27,7 @@ use objects::rows::type_word;
 
 // ---- readers that know where the table ends
 
+// The number of a kind.
 fn kind_in(rows: &[u32], t: TypeKey) -> u32
     ensures { λ r. ⌜ Says (now (rows .entry)) r (λ T. kindNumber (kindAt T t)) ⌝ }
 {
@@ -37,6 +38,7 @@ fn kind_in(rows: &[u32], t: TypeKey) -> u32
     }
 }
 
+// "A named type stands also for its u."
 fn under_in(rows: &[u32], t: TypeKey) -> TypeKey
     ensures { λ r. ⌜ Says (now (rows .entry)) r (λ T. under T t) ⌝ }
 {
@@ -47,6 +49,7 @@ fn under_in(rows: &[u32], t: TypeKey) -> TypeKey
     }
 }
 
+// One pointer removed.
 fn bare_in(rows: &[u32], t: TypeKey) -> TypeKey
     ensures { λ r. ⌜ Says (now (rows .entry)) r (λ T. bare T t) ⌝ }
 {
@@ -91,6 +94,7 @@ fn ends_in_slice(rows: &[u32], p: TypeKey) -> bool
     kind_in(rows, element(rows, first + (n - 1))) == 2
 }
 
+// The T line of a func.
 fn func_allowed(rows: &[u32], t: TypeKey) -> bool
     requires { ⌜ Laid (now rows) × (t .0 < typeCount (now rows)) × (numberRead (now rows) t ≡ 7) ⌝ }
     ensures { λ r. ⌜ Says (now (rows .entry)) r (λ T. typeAllowed T t (kindAt T t)) ⌝ }
@@ -120,6 +124,7 @@ fn may_name(rows: &[u32], u: TypeKey) -> bool
     }
 }
 
+// The T line of t: a func and a named type have rules of their own.
 pub fn type_allowed(rows: &[u32], t: TypeKey) -> bool
     requires { ⌜ Laid (now rows) × (t .0 < typeCount (now rows)) ⌝ }
     ensures { λ r. ⌜ Says (now (rows .entry)) r (λ T. typeAllowed T t (kindAt T t)) ⌝ }
@@ -133,7 +138,7 @@ pub fn type_allowed(rows: &[u32], t: TypeKey) -> bool
 
 // ---- an F or M line
 
-// neither a pointer nor an interface
+// Neither a pointer nor an interface.
 fn concrete(rows: &[u32], u: TypeKey) -> bool
     ensures { λ r. ⌜ Says (now (rows .entry)) r (λ T. not (isPointer (kindAt T u) || isIface (kindAt T u))) ⌝ }
 {
@@ -167,6 +172,7 @@ fn may_have(rows: &[u32], t: TypeKey, ptr: bool) -> bool
     }
 }
 
+// The line of m under t: a method's type is a func; a field's type is referred to as others are.
 pub fn member_allowed(rows: &[u32], t: TypeKey, m: ObjKey) -> bool
     requires { ⌜ (t .0 < typeCount (now rows)) × (7 < numberRead (now rows) t) ⌝ }
     ensures { λ r. ⌜ SaysOf (now (rows .entry)) m r (λ T x. memberAllowed T t (kindAt T t) (x .type) (x .entity)) ⌝ }

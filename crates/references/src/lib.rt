@@ -28,7 +28,7 @@ use objects::rows::type_word;
 pub mod refs; // what a line refers to
 pub mod allowed; // what it may refer to
 
-// 7: "A line refers to a package or type number that the table lacks"; 8: "A line refers to a kind of type not allowed there."
+// The test of refusal 7, or of 8.
 pub enum Test {
     Lacking,
     Forbidden,
@@ -71,6 +71,7 @@ pub fn member_lines(rows: &[u32], t: TypeKey) -> u32
     }
 }
 
+// The first line under the T line of t that fails.
 fn first_member_line(rows: &[u32], test: Test, t: TypeKey) -> Stage
     requires { ⌜ Laid (now rows) × (t .0 < typeCount (now rows)) ⌝ }
     ensures { λ r. ⌜ Says (now (rows .entry)) (found r) (λ T. firstLine T (fails T test) (linesUnder t (kindAt T t))) ⌝ }
@@ -88,6 +89,7 @@ fn first_member_line(rows: &[u32], test: Test, t: TypeKey) -> Stage
     Stage::Passed
 }
 
+// The first line of t that fails: its T line, or one under it.
 fn first_line_of(rows: &[u32], test: Test, t: TypeKey) -> Stage
     requires { ⌜ Laid (now rows) × (t .0 < typeCount (now rows)) ⌝ }
     ensures { λ r. ⌜ Says (now (rows .entry)) (found r) (λ T. firstLine T (fails T test) (linesOf t (kindAt T t))) ⌝ }
@@ -100,6 +102,7 @@ fn first_line_of(rows: &[u32], test: Test, t: TypeKey) -> Stage
 
 // ---- the whole table
 
+// The first line of the table that fails.
 fn first_line(rows: &[u32], test: Test) -> Stage
     requires { ⌜ Laid (now rows) ⌝ }
     ensures { λ r. ⌜ Says (now (rows .entry)) (found r) (λ T. firstLine T (fails T test) (items T)) ⌝ }
@@ -119,7 +122,7 @@ fn first_line(rows: &[u32], test: Test) -> Stage
     Stage::Passed
 }
 
-// 7
+// 7: "A line refers to a package or type number that the table lacks."
 pub fn lacking(rows: &[u32]) -> Stage
     requires { ⌜ Laid (now rows) ⌝ }
     ensures { λ r. ⌜ Says (now (rows .entry)) (found r) (λ T. firstLine T (lacking T) (items T)) ⌝ }
@@ -127,7 +130,7 @@ pub fn lacking(rows: &[u32]) -> Stage
     first_line(rows, Test::Lacking)
 }
 
-// 8
+// 8: "A line refers to a kind of type not allowed there." It does not matter whether 7 was found.
 pub fn forbidden(rows: &[u32]) -> Stage
     requires { ⌜ Laid (now rows) ⌝ }
     ensures { λ r. ⌜ Says (now (rows .entry)) (found r) (λ T. firstLine T (forbidden T) (items T)) ⌝ }

@@ -23,6 +23,7 @@ use objects::rows::package_count;
 use objects::rows::type_count;
 use objects::rows::type_of;
 
+// Both tests hold.
 pub fn both(a: bool, b: bool) -> bool
     ensures { λ r. ⌜ r ≡ a && b ⌝ }
 {
@@ -60,6 +61,7 @@ pub fn member_within(rows: &[u32], m: ObjKey) -> bool
 
 // ---- what a T line refers to
 
+// One reference: t's line names e.
 fn ref_passes(rows: &[u32], test: Test, t: TypeKey, e: TypeKey) -> bool
     ensures { λ r. ⌜ Says (now (rows .entry)) r (λ T. passes T test t e) ⌝ }
 {
@@ -86,6 +88,7 @@ fn elements_pass(rows: &[u32], test: Test, t: TypeKey) -> bool
     true
 }
 
+// Each reference of the T line of t.
 pub fn refs_pass(rows: &[u32], test: Test, t: TypeKey) -> bool
     requires { ⌜ Laid (now rows) × (t .0 < typeCount (now rows)) ⌝ }
     ensures { λ r. ⌜ Says (now (rows .entry)) r (λ T. every (passes T test t) (refs (kindAt T t))) ⌝ }
