@@ -3,28 +3,28 @@ use mathlib.Core.Path.{_≡_, refl}
 use mathlib.Core.Bool.{Bool, true, false, not, _&&_, _||_}
 use mathlib.Core.List.{List, _∷_, _++_}
 use mathlib.Core.Logic.{_⊎_, inl, inr}
-use Prim.Native.Nat.{ℕ, _<_}
+use Prim.Native.Nat.{ℕ}
 use native.Mathlib.Omega.{arith}
-use lib.Dec.{ltb}
-use lib.ListN.{getD, List·getD-eq-default}
-use borrow.Author.Tests.{ltb-true, ltb-false, not-false}
+use lib.ListN.{getD}
+use borrow.Author.Tests.{not-false}
 use Rattle.objects.specs.Bounds.{refusalUnit}
 use Rattle.objects.specs.Lists.{Bytes, any, every, lastOf, headOr, In, Sorted}
 use Rattle.objects.specs.declared.TypeKey.{TypeKey}
-use Rattle.objects.specs.Table.{Table, size, sameType, Member, Kind, Basic, isArray, isStruct, isIface, isNamed, refs, membersOf, fieldsOf, declaredOf, allMethodsOf, byValue, hasType, hasPackage, kindAt, under}
-use Rattle.objects.proofs.ListLaws.{cases, clash, and-l, and-r, or-l, or-r, none-In, In-map, In-append-r}
+use Rattle.objects.specs.Table.{Table, size, sameType, Member, Kind, Basic, isIface, isNamed, refs, membersOf, fieldsOf, declaredOf, allMethodsOf, byValue, hasType, hasPackage, kindAt, under}
+use Rattle.objects.proofs.ListLaws.{cases, clash, and-r, or-l, or-r, none-In}
 use Rattle.objects.proofs.KindLaws.{named-ref, if-In}
-use Rattle.objects.proofs.PartLaws.{every-In, parted, sorted-from, ascending, getD-In}
+use Rattle.objects.proofs.PartLaws.{parted, sorted-from, ascending, getD-In}
 use Rattle.text.specs.Bytes.{belowBytes, isBlank}
 use Rattle.text.proofs.ByteLaws.{below-trans}
 use Rattle.rules.specs.Members.{identityOf, sameMember, idBytes}
 use Rattle.rules.specs.Chains.{Chain}
-use Rattle.rules.specs.Checks.{typeItem, memberItem, items, lacking, forbidden, clashing, containing, typeAllowed, memberAllowed, ascends, equalsField, contents}
+use Rattle.rules.specs.Checks.{typeItem, memberItem, forbidden, clashing, containing, typeAllowed, memberAllowed, ascends, equalsField, contents}
 use Rattle.rules.specs.Load.{loaded, load}
 use Rattle.rules.specs.Sound.{MemberOf, Apart, Lower, Sound}
 use Rattle.rules.proofs.ChainLaws.{leads-iff, types-few}
 use Rattle.rules.proofs.LoadLaws.{WellFormed, fresh, Built}
-use Rattle.rules.proofs.CheckLaws.{Passed, Right, type-item, member-item, load-right}
+use Rattle.rules.proofs.CheckLaws.{Passed, Right, type-item, load-right}
+use Rattle.rules.proofs.Lacks.{at-type, item-at, item-of, refers-in, has-both, typed-in, content-in}
 
 -- 9 of a member and those before it: it is another, it rises, and no field of the struct has its identity
 record Clear (T : Table) (k : Kind) (before : List Member) (m : Member) : Type 0 where
@@ -47,58 +47,28 @@ clear T k before m h = record {
     falls = isIface k && not (ascends T before m)
 
 module _ (T : Table) (line : ℕ) (b : Built line T) (p : Passed T) where
-  -- a number that the table lacks counts as `T basic 0`
-  at-type : (P : Kind → Type 0) (t : TypeKey) → P (Basic 0) → (t .0 < size T → P (kindAt T t)) → P (kindAt T t)
-  unfolding kindAt
-  at-type P t out inside =
-      cases (ltb (t .0) (size T))
-      (λ e. inside (ltb-true (t .0) (size T) e))
-      (λ e. rw (List·getD-eq-default (T .types) (Basic 0) (ltb-false (t .0) (size T) e)) out)
-
   well-formed : (t : TypeKey) → WellFormed (kindAt T t)
   unfolding kindAt
-  well-formed t = at-type WellFormed t (fresh (Basic 0) (omega arith, refl)) (λ h. b .kinds (getD (T .types) (t .0) (Basic 0)) (getD-In (T .types) (t .0) (Basic 0) h))
+  well-formed t = at-type T WellFormed t (fresh (Basic 0) (omega arith, refl)) (λ h. b .kinds (getD (T .types) (t .0) (Basic 0)) (getD-In (T .types) (t .0) (Basic 0) h))
 
   -- ---- a type and its references
 
-  refers-in : (t e : TypeKey) → In e (refs (kindAt T t)) → e .0 < size T
-  unfolding lacking
-  refers-in t = at-type (λ k. (e : TypeKey) → In e (refs k) → e .0 < size T) t (λ e i. absurd i)
-      (λ h e i. ltb-true (e .0) (size T) (every-In (hasType T) (refs (kindAt T t)) e (not-false (every (hasType T) (refs (kindAt T t))) (p .lacks (typeItem t (kindAt T t)) (type-item T t h))) i))
-
   allowed-at : (t : TypeKey) → typeAllowed T t (kindAt T t) ≡ true
   unfolding forbidden
-  allowed-at t = at-type (λ k. typeAllowed T t k ≡ true) t refl (λ h. not-false (typeAllowed T t (kindAt T t)) (p .forbids (typeItem t (kindAt T t)) (type-item T t h)))
+  allowed-at t = at-type T (λ k. typeAllowed T t k ≡ true) t refl (λ h. not-false (typeAllowed T t (kindAt T t)) (p .forbids (typeItem t (kindAt T t)) (type-item T t h)))
 
   -- ---- a type and its members
 
-  -- a type with a member is one of the table
-  has-member : (t : TypeKey) (m : Member) → MemberOf T t m → t .0 < size T
-  has-member t m = at-type (λ k. In m (membersOf k) → t .0 < size T) t (λ i. absurd i) (λ h i. h)
-
-  item-at : (t : TypeKey) (before : List Member) (m : Member) (after : List Member) → membersOf (kindAt T t) ≡ before ++ (m ∷ after) → In (memberItem t (kindAt T t) before m) (items T)
-  item-at t before m after e = member-item T t before m after (has-member t m (rw e (In-append-r before (m ∷ after) m (inl refl)))) e
-
-  item-of : (t : TypeKey) (m : Member) → MemberOf T t m → (before : List Member) × In (memberItem t (kindAt T t) before m) (items T)
-  item-of t m i = let r = parted (membersOf (kindAt T t)) m i in (r .0, item-at t (r .0) m (r .1) (r .2))
-
-  has-both : (t : TypeKey) (m : Member) → MemberOf T t m → hasType T (m .type) && hasPackage T (m .pkg) ≡ true
-  unfolding lacking
-  has-both t m i = let r = item-of t m i in not-false (hasType T (m .type) && hasPackage T (m .pkg)) (p .lacks (memberItem t (kindAt T t) (r .0) m) (r .1))
-
-  typed-in : (t : TypeKey) (m : Member) → MemberOf T t m → m .type .0 < size T
-  typed-in t m i = ltb-true (m .type .0) (size T) (and-l (hasType T (m .type)) (hasPackage T (m .pkg)) (has-both t m i))
-
   allowed-member : (t : TypeKey) (m : Member) → MemberOf T t m → memberAllowed T t (kindAt T t) (m .type) (m .entity) ≡ true
   unfolding forbidden
-  allowed-member t m i = let r = item-of t m i in not-false (memberAllowed T t (kindAt T t) (m .type) (m .entity)) (p .forbids (memberItem t (kindAt T t) (r .0) m) (r .1))
+  allowed-member t m i = let r = item-of T t m i in not-false (memberAllowed T t (kindAt T t) (m .type) (m .entity)) (p .forbids (memberItem t (kindAt T t) (r .0) m) (r .1))
 
   -- ---- 9
 
   clear-at : (t : TypeKey) (before : List Member) (m : Member) (after : List Member) → membersOf (kindAt T t) ≡ before ++ (m ∷ after) → Clear T (kindAt T t) before m
   unfolding clashing
   clear-at t before m after e =
-      clear T (kindAt T t) before m (p .clashes (memberItem t (kindAt T t) before m) (item-at t before m after e))
+      clear T (kindAt T t) before m (p .clashes (memberItem t (kindAt T t) before m) (item-at T t before m after e))
 
   apart-at : (t : TypeKey) → Apart T (membersOf (kindAt T t))
   apart-at t = sorted-from (λ m n. (isBlank (n .name) ≡ true) ⊎ (sameMember T n m ≡ false)) (membersOf (kindAt T t))
@@ -131,17 +101,10 @@ module _ (T : Table) (line : ℕ) (b : Built line T) (p : Passed T) where
 
   -- ---- 10
 
-  content-in : (t e : TypeKey) → In e (contents T t) → e .0 < size T
-  content-in t e i =
-      cases (isArray (kindAt T t) || isNamed (kindAt T t))
-      (λ f. refers-in t e (rw f at i))
-      (λ f. let r = In-map (λ m. m .type) (fieldsOf (kindAt T t)) e (rw f at i) in
-      rw (r .2) (typed-in t (r .0) (if-In (isStruct (kindAt T t)) (membersOf (kindAt T t)) (r .0) (r .1) .1)))
-
   no-cycle : (t e : TypeKey) → In e (contents T t) → Chain (contents T) (sameType t) e → ⊥
   unfolding containing
-  no-cycle t = at-type (λ k. (e : TypeKey) → In e (byValue k) → Chain (contents T) (sameType t) e → ⊥) t (λ e i c. absurd i)
-      (λ h e i c. clash (leads-iff (types-few (size T) (contents T) content-in) (sameType t) (contents T t) (content-in t) .1 (e, i, c)) (p .contains (typeItem t (kindAt T t)) (type-item T t h)))
+  no-cycle t = at-type T (λ k. (e : TypeKey) → In e (byValue k) → Chain (contents T) (sameType t) e → ⊥) t (λ e i c. absurd i)
+      (λ h e i c. clash (leads-iff (types-few (size T) (contents T) (content-in T (p .lacks))) (sameType t) (contents T t) (content-in T (p .lacks) t) .1 (e, i, c)) (p .contains (typeItem t (kindAt T t)) (type-item T t h)))
 
   pub sound-of : Sound T
   sound-of = record {
@@ -158,9 +121,9 @@ module _ (T : Table) (line : ℕ) (b : Built line T) (p : Passed T) where
     fewPerType = λ t. well-formed t .few;
     numbered = b .numbered;
     lined = b .lined;
-    refers = refers-in;
-    typed = typed-in;
-    packaged = λ t m i. and-r (hasType T (m .type)) (hasPackage T (m .pkg)) (has-both t m i);
+    refers = refers-in T (p .lacks);
+    typed = typed-in T (p .lacks);
+    packaged = λ t m i. and-r (hasType T (m .type)) (hasPackage T (m .pkg)) (has-both T (p .lacks) t m i);
     allowed = allowed-at;
     allowedMember = allowed-member;
     apart = apart-at;

@@ -1,13 +1,14 @@
 -- A stage of loading by what it finds (specs/Stages.antt).
-use mathlib.Core.Path.{_≡_, refl, _∙_}
+use mathlib.Core.Path.{_≡_, refl}
 use mathlib.Core.Bool.{Bool, true, false}
 use mathlib.Core.List.{List, [], _∷_, _++_}
-use mathlib.Core.Option.{Option, none, some}
+use mathlib.Core.Option.{none, some, Option·some-ne-none}
 use Prim.Native.Nat.{ℕ}
+use Rattle.objects.specs.Lists.{In}
 use Rattle.objects.specs.Table.{Table}
-use Rattle.objects.proofs.ListLaws.{cases}
+use Rattle.objects.proofs.ListLaws.{cases, either}
 use Rattle.rules.specs.Checks.{Item, lineOfItem, items, lacking, forbidden, clashing, containing}
-use Rattle.rules.specs.Load.{Loaded, refused, loaded, unless, checked}
+use Rattle.rules.specs.Load.{Loaded, loaded, unless, checked}
 use Rattle.rules.specs.Stages.{firstLine, staged, orElse}
 
 module _ (T : Table) (bad : Item → Bool) where
@@ -29,6 +30,14 @@ module _ (T : Table) (bad : Item → Bool) where
   unfolding firstLine orElse
   first-append [] js = refl
   first-append (i ∷ is) js = cases (bad i) (λ e. rw (e, firstLine)) (λ e. rw (e, firstLine) (first-append is js))
+
+  -- nothing is found where nothing fails
+  pub none-fails : (is : List Item) → firstLine T bad is ≡ none → (i : Item) → In i is → bad i ≡ false
+  unfolding firstLine
+  none-fails (j ∷ is) h i k =
+      cases (bad j)
+      (λ e. absurd (Option·some-ne-none (lineOfItem T j) (rw (e, firstLine) at h)))
+      (λ e. either k (λ q. rw q e) (λ m. none-fails is (rw (e, firstLine) at h) i m))
 
 -- loading's four checks by what each finds
 pub checked-stages : (T : Table) → checked T

@@ -1,0 +1,5 @@
+pub mod Contents
+pub mod Counts
+pub mod Ranking
+pub mod Search
+pub mod Contained
