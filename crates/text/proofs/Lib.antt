@@ -1,3 +1,14 @@
 pub mod ByteLaws
 pub mod Gives
 pub mod PieceLaws
+pub mod LineLaws
+pub mod PartLaws
+pub mod RunLaws
+pub mod LineEnds
+pub mod FieldLaws
+pub mod CompareLaws
+pub mod AnswerLaws
+pub mod NameLaws
+pub mod NumberLaws
+pub mod WordLaws
+pub mod Computed

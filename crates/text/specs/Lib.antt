@@ -2,3 +2,5 @@ pub mod Bytes
 pub mod Lines
 pub mod Readers
 pub mod Cursors
+pub mod Runs
+pub mod Compare

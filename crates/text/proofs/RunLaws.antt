@@ -1,0 +1,108 @@
+-- The run of bytes that pass a test: how a loop goes on over it, and how it ends.
+use mathlib.Core.Path.{_≡_, refl, sym, ap, _∙_}
+use mathlib.Core.Bool.{Bool, true, false, not}
+use mathlib.Core.List.{List, [], _∷_, _++_}
+use Prim.Native.Nat.{ℕ, _+_, _≤_, _<_}
+use native.Mathlib.Nat.{add-zero}
+use native.Mathlib.Omega.{arith}
+use lib.Dec.{eqb}
+use lib.ListN.{length, getD, take, drop, take-append-drop}
+use lib.Seq.{take-all}
+use borrow.Author.Tests.{eqb-true}
+use Rattle.objects.specs.Lists.{Bytes, every}
+use Rattle.objects.proofs.ListLaws.{cases, clash}
+use Rattle.text.specs.Lines.{split}
+use Rattle.text.specs.Runs.{other, runLength, runEnd, stopAt}
+use Rattle.text.proofs.LineLaws.{Free, split-at, split-end, split-on}
+use Rattle.text.proofs.PartLaws.{drop-short, part-next, part-none}
+
+-- ---- the loop: stop is the end within the text, t the test of the byte at i
+
+module _ (p : ℕ → Bool) (s : Bytes) (i end : ℕ) {stop : ℕ} (ps : stop ≡ stopAt s end) where
+  pub run-done : stop ≤ i → runEnd p s i end ≡ i
+  unfolding runEnd runLength
+  run-done h = rw (part-none s i end ps h) (add-zero i)
+
+  module _ (h : i < stop) {b : ℕ} (pb : b ≡ getD s i 0) where
+    pub run-next : p b ≡ true → runEnd p s i end ≡ runEnd p s (i + 1) end
+    unfolding runEnd runLength
+    run-next e =
+        let q : p (getD s i 0) ≡ true = rw pb at e in
+        rw (part-next s i end ps h, q) (omega arith)
+
+    pub run-stop : p b ≡ false → runEnd p s i end ≡ i
+    unfolding runEnd runLength
+    run-stop e =
+        let q : p (getD s i 0) ≡ false = rw pb at e in
+        rw (part-next s i end ps h, q) (add-zero i)
+
+module _ (sep b : ℕ) {t : Bool} (pt : t ≡ eqb b sep) where
+  pub other-no : t ≡ true → other sep b ≡ false
+  unfolding other
+  other-no e = ap not (sym pt ∙ e)
+
+  pub other-yes : t ≡ false → other sep b ≡ true
+  unfolding other
+  other-yes e = ap not (sym pt ∙ e)
+
+-- ---- a text as its run and what is left
+
+pub run-within : (p : ℕ → Bool) (l : Bytes) → runLength p l ≤ length l
+unfolding runLength
+run-within p [] = omega arith
+run-within p (b ∷ l) = let h = run-within p l in cases (p b) (λ e. rw e (omega arith)) (λ e. rw e (omega arith))
+
+pub run-every : (p : ℕ → Bool) (l : Bytes) → every p (take (runLength p l) l) ≡ true
+unfolding runLength
+run-every p [] = refl
+run-every p (b ∷ l) = cases (p b) (λ e. rw (e, e) (run-every p l)) (λ e. rw e)
+
+-- what is left does not begin with a byte of the run
+pub run-left : (p : ℕ → Bool) (l : Bytes) {b : ℕ} {m : Bytes} → drop (runLength p l) l ≡ b ∷ m → p b ≡ false
+unfolding runLength
+run-left p [] h = let z : _≡_ {A = Bool} true false = cc in clash refl z
+run-left p (x ∷ l) {b} {m} h =
+    cases (p x)
+    (λ e. run-left p l (rw e at h))
+    (λ e. let q : _≡_ {A = Bytes} (x ∷ l) (b ∷ m) = rw e at h in let y : x ≡ b = cc in rw (← y) e)
+
+-- a run whose test no separator passes has none
+pub every-free : (sep : ℕ) (p : ℕ → Bool) → p sep ≡ false → (l : Bytes) → every p l ≡ true → Free sep l
+every-free sep p n [] h = refl
+every-free sep p n (x ∷ l) h =
+    cases (p x)
+    (λ e. cases (eqb x sep)
+    (λ f. clash e (ap p (eqb-true x sep f) ∙ n))
+    (λ f. rw f (every-free sep p n l (rw e at h))))
+    (λ e. clash h (rw e))
+
+every-broken : (p : ℕ → Bool) (a : Bytes) (b : ℕ) (x : Bytes) → p b ≡ false → every p (a ++ (b ∷ x)) ≡ false
+every-broken p [] b x e = rw e
+every-broken p (y ∷ a) b x e = cases (p y) (λ f. rw f (every-broken p a b x e)) (λ f. rw f)
+
+-- the first piece is the run, if a separator or the end stands behind it; else the first piece does not pass the test
+module _ (sep : ℕ) (p : ℕ → Bool) (n : p sep ≡ false) (l : Bytes) where
+  whole : take (runLength p l) l ++ drop (runLength p l) l ≡ l
+  whole = take-append-drop (runLength p l) l
+
+  free : Free sep (take (runLength p l) l)
+  free = every-free sep p n (take (runLength p l) l) (run-every p l)
+
+  pub first-end : drop (runLength p l) l ≡ [] → split sep l ≡ take (runLength p l) l ∷ []
+  first-end h =
+      let k = drop-short (runLength p l) l h in
+      let z = take-all (runLength p l) l k in
+      ap (split sep) (sym z) ∙ split-end sep (take (runLength p l) l) free
+
+  pub first-at : {m : Bytes} → drop (runLength p l) l ≡ sep ∷ m → split sep l ≡ take (runLength p l) l ∷ split sep m
+  first-at {m} h = ap (split sep) (sym whole ∙ ap (λ d. take (runLength p l) l ++ d) h) ∙ split-at sep (take (runLength p l) l) m free
+
+  pub first-fails : {b : ℕ} {m : Bytes} → drop (runLength p l) l ≡ b ∷ m → eqb b sep ≡ false
+      → (x : Bytes) × (rest : List Bytes) × (split sep l ≡ x ∷ rest) × (every p x ≡ false)
+  first-fails {b} {m} h e =
+      let r = split-on sep (take (runLength p l) l) b m free e in (
+        take (runLength p l) l ++ (b ∷ r .0),
+        r .1,
+        ap (split sep) (sym whole ∙ ap (λ d. take (runLength p l) l ++ d) h) ∙ r .2,
+        every-broken p (take (runLength p l) l) b (r .0) (run-left p l h),
+      )
