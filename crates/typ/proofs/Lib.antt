@@ -4,3 +4,9 @@ pub mod MemberRead
 pub mod ContentLaws
 pub mod Bits
 pub mod Zero
+pub mod StepAt
+pub mod Marked
+pub mod Passing
+pub mod Rank
+pub mod Cycle
+pub mod Top

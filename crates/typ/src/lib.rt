@@ -4,5 +4,6 @@ ghost use mathlib.Core.Path.{_≡_};
 
 pub mod basic; // the basic types
 pub mod comparable; // C
+pub mod identical; // I
 pub mod marks; // bits in lent words
 pub mod parts; // what a type is made of
