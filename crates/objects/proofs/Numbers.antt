@@ -11,6 +11,7 @@ use lib.Seq.{getD-at}
 use Rattle.objects.specs.Lists.{In, upTo, onLast}
 use Rattle.objects.specs.Rows.{from}
 use Rattle.objects.proofs.ListLaws.{either, map-append, map-In, map-In-to, In-map, In-append, In-append-l, In-append-r}
+use Rattle.objects.proofs.PairLaws.{AllPairs, pairs-at, pairs-from}
 
 -- ---- 0 to n - 1
 
@@ -61,6 +62,18 @@ module _ {A : Type 0} (f : ℕ → A) where
   -- one more behind those that g makes too
   pub each-grown : (g : ℕ → A) (n : ℕ) {x : A} → map f (upTo n) ≡ map g (upTo n) → f n ≡ x → map f (upTo (suc n)) ≡ map g (upTo n) ++ (x ∷ [])
   each-grown g n e q = each-more n ∙ rw (e, q)
+
+-- two lists made by f and by g, side by side
+module _ {A : Type 0} (P : A → A → Type 0) (f g : ℕ → A) (n : ℕ) where
+  pub each-pairs : ((i : ℕ) → i < n → P (f i) (g i)) → AllPairs P (map f (upTo n)) (map g (upTo n))
+  each-pairs h =
+      pairs-from P (map f (upTo n)) (map g (upTo n)) (f 0) (each-length f n ∙ sym (each-length g n))
+      (λ i l. let k : i < n = rw (each-length f n) at l in rw (each-at f n i (f 0) k, each-at g n i (f 0) k) (h i k))
+
+  pub pairs-each : AllPairs P (map f (upTo n)) (map g (upTo n)) → (i : ℕ) → i < n → P (f i) (g i)
+  pairs-each a i h =
+      let r = pairs-at P (map f (upTo n)) (map g (upTo n)) i (f 0) a (rw (each-length f n) h) in
+      rw (each-at f n i (f 0) h, each-at g n i (f 0) h) at r
 
 -- ---- n numbers from a first one on
 

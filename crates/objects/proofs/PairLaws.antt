@@ -2,8 +2,9 @@
 use mathlib.Core.Path.{_≡_, refl, sym, ap, subst}
 use mathlib.Core.List.{List, [], _∷_}
 use mathlib.Core.Logic.{inl, inr}
-use Prim.Native.Nat.{suc}
-use lib.ListN.{length}
+use Prim.Native.Nat.{ℕ, zero, suc, _<_}
+use native.Mathlib.Omega.{arith}
+use lib.ListN.{length, getD}
 use Rattle.objects.specs.Lists.{In}
 
 abbrev pub AllPairs : {A : Type 0} → (A → A → Type 0) → List A → List A → Type 0
@@ -54,3 +55,16 @@ module _ {A : Type 0} where
   pairs-left P [] (z ∷ m) a y i = absurd a
   pairs-left P (x ∷ l) (z ∷ m) a y (inl e) = (x, inl refl, subst (λ w. P x w) (sym e) (a .0))
   pairs-left P (x ∷ l) (z ∷ m) a y (inr i) = let r = pairs-left P l m (a .1) y i in (r .0, inr (r .1), r .2)
+
+  -- place by place
+  pub pairs-at : (P : A → A → Type 0) (l m : List A) (i : ℕ) (d : A) → AllPairs P l m → i < length l → P (getD l i d) (getD m i d)
+  pairs-at P [] m i d a h = absurd (omega arith)
+  pairs-at P (x ∷ xs) [] i d a h = absurd a
+  pairs-at P (x ∷ xs) (y ∷ ys) zero d a h = a .0
+  pairs-at P (x ∷ xs) (y ∷ ys) (suc i) d a h = pairs-at P xs ys i d (a .1) (omega arith)
+
+  pub pairs-from : (P : A → A → Type 0) (l m : List A) (d : A) → length l ≡ length m → ((i : ℕ) → i < length l → P (getD l i d) (getD m i d)) → AllPairs P l m
+  pairs-from P [] [] d e h = tt
+  pairs-from P [] (y ∷ ys) d e h = absurd (omega arith)
+  pairs-from P (x ∷ xs) [] d e h = absurd (omega arith)
+  pairs-from P (x ∷ xs) (y ∷ ys) d e h = (h 0 (omega arith), pairs-from P xs ys d (omega arith) (λ i l. h (suc i) (omega arith)))

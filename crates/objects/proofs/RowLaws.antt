@@ -65,7 +65,7 @@ module _ (text : Bytes) (rows : Words) (a b c first count : ℕ) where
   unfolding kindOf
   named-kind k h = past k h _ _ _ _ _ _ _ _ _ _ _
 
-  named-type : (k : ℕ) → 10 ≤ k → typeFrom k a b c first count ≡ «Type».Named (typeKey a) first count
+  pub named-type : (k : ℕ) → 10 ≤ k → typeFrom k a b c first count ≡ «Type».Named (typeKey a) first count
   unfolding typeFrom
   named-type k h = past k h _ _ _ _ _ _ _ _ _ _ _
 
@@ -128,11 +128,11 @@ module _ (text : Bytes) (rows : Words) (t : TypeKey) where
 
 -- ---- a member's row
 
-by-form : (P : ℕ → Type 0) → P 0 → P 1 → P 2 → ((k : ℕ) → 3 ≤ k → P k) → (k : ℕ) → P k
+pub by-form : (P : ℕ → Type 0) → P 0 → P 1 → P 2 → ((k : ℕ) → 3 ≤ k → P k) → (k : ℕ) → P k
 by-form P p0 p1 p2 last k = pick P k 0 zero-le p0 λ h. pick P k 1 h p1 λ h. pick P k 2 h p2 λ h. last k h
 
 module _ (tag : Bytes) where
-  last-form : (k : ℕ) → 3 ≤ k → entityOf k tag ≡ Method true
+  pub last-form : (k : ℕ) → 3 ≤ k → entityOf k tag ≡ Method true
   unfolding entityOf
   last-form k h = rw (ne-eqb k 0 (λ e. omega arith), ne-eqb k 1 (λ e. omega arith), ne-eqb k 2 (λ e. omega arith))
 

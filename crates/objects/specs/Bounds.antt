@@ -59,6 +59,10 @@ refusalUnit = 65_536
 abbrev pub programAnswer : ℕ
 programAnswer = 16_384
 
+-- comparing types: a bit for each pair of types that was met, and one for each that was opened, 32 to a word
+abbrev pub markWords : ℕ
+markWords = 4_096
+
 -- ---- the rows of a loaded table: four counts, then a region for each kind of row (specs/Rows.antt)
 
 -- words of a type's row and of a member's

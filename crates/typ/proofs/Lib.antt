@@ -1,0 +1,12 @@
+pub mod Spans
+pub mod ReadLaws
+pub mod MemberRead
+pub mod ContentLaws
+pub mod Bits
+pub mod Zero
+pub mod StepAt
+pub mod Marked
+pub mod Passing
+pub mod Rank
+pub mod Cycle
+pub mod Top

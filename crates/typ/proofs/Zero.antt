@@ -1,0 +1,28 @@
+-- Lists of zeros, and no mark in them.
+use mathlib.Core.Path.{_≡_, refl, sym, ap, _∙_}
+use mathlib.Core.Bool.{false}
+use mathlib.Core.List.{List}
+use Prim.Native.Nat.{ℕ, zero, suc, _+_, _/_, _<_, _≤_}
+use native.Mathlib.Omega.{arith}
+use native.Mathlib.Nat.{zero-div}
+use lib.ListN.{length, getD, set, replicate, length-replicate, getD-replicate}
+use lib.Seq.{getD-set-same, getD-set-other, ext-getD}
+use borrow.Author.Count.{below-more}
+use Rattle.typ.specs.Marks.{bitAt, met}
+
+pub zero-more : (l : List ℕ) (i : ℕ) → i < length l → ((k : ℕ) → k < i → getD l k 0 ≡ 0) → (k : ℕ) → k < i + 1 → getD (set l i 0) k 0 ≡ 0
+zero-more l i h z =
+    below-more (λ (k : ℕ). getD (set l i 0) k 0 ≡ 0) i
+    (λ k lt. getD-set-other l i k 0 0 (λ e. omega arith) ∙ z k lt) (getD-set-same l i 0 0 h)
+
+pub zero-all : (l : List ℕ) (n i : ℕ) → length l ≡ n → n ≤ i → ((k : ℕ) → k < i → getD l k 0 ≡ 0) → l ≡ replicate n 0
+zero-all l n i e h z = ext-getD 0 l (replicate n 0) (e ∙ sym (length-replicate n 0)) (λ k lt. z k (omega arith) ∙ sym (getD-replicate n k 0 0 (omega arith)))
+
+pub getD-zeros : (n k : ℕ) → _≡_ {A = ℕ} (getD (replicate n 0) k 0) 0
+getD-zeros zero k = refl
+getD-zeros (suc n) zero = refl
+getD-zeros (suc n) (suc k) = getD-zeros n k
+
+pub none-met : (l : List ℕ) → l ≡ replicate (length l) 0 → (p : ℕ) → met l p ≡ false
+unfolding met bitAt
+none-met l e p = rw (ap (λ (m : List ℕ). getD m (p / 32) 0) e ∙ getD-zeros (length l) (p / 32), zero-div)

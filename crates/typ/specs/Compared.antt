@@ -1,0 +1,94 @@
+-- What comparing two types has shown, by the steps of the rules (`sameIn`) and by the marks before and after: the contracts of the cycle of calls. A pair
+-- of types is met, and then opened when its parts are compared; a pair that is met and not opened is put off.
+use mathlib.Core.Path.{_≡_}
+use mathlib.Core.Bool.{Bool, true, false}
+use mathlib.Core.List.{List}
+use mathlib.Core.Logic.{_⊎_}
+use Prim.Native.Nat.{ℕ, suc, _+_, _*_, _<_, _≤_}
+use Rattle.objects.specs.declared.TypeKey.{TypeKey}
+use Rattle.objects.specs.Bounds.{maxTypes}
+use Rattle.objects.specs.Table.{Table, size, kindNumber, kindAt}
+use Rattle.rules.specs.Identity.{ownNumber}
+use Rattle.rules.specs.StepIdentity.{sameIn}
+use Rattle.typ.specs.Marks.{met, meet, unmet}
+
+-- how many pairs of types there may be
+abbrev pub pairs : ℕ
+pairs = 65_536
+
+-- the mark of a pair that is met, and of one that is opened
+abbrev pub pair : TypeKey → TypeKey → ℕ
+pair x y = maxTypes * x .0 + y .0
+
+abbrev pub opened : TypeKey → TypeKey → ℕ
+opened x y = pairs + pair x y
+
+-- marks only grow
+pub record Grown (l l′ : List ℕ) : Type 0 where
+  pub fewer : unmet l′ ≤ unmet l
+  pub kept : (p : ℕ) → met l p ≡ true → met l′ p ≡ true
+
+-- whether the pair numbered p is opened now: it counts as identical where it was met before, and where it is put off
+pub record Entered (l l′ : List ℕ) (p : ℕ) (r : Bool) : Type 0 where
+  pub passed : r ≡ false → ((met l p ≡ true) × (l′ ≡ l)) ⊎ ((met l p ≡ false) × (l′ ≡ meet l p))
+  pub entered : r ≡ true → (met l p ≡ false) × (met (meet l p) (pairs + p) ≡ false) × (l′ ≡ meet (meet l p) (pairs + p))
+
+-- the pair numbered p is not put off
+unfoldable pub Clean : List ℕ → ℕ → Type 0
+Clean l p = met l p ≡ true → met l (pairs + p) ≡ true
+
+module _ (T : Table) where
+  -- types of one kind and one own number
+  pub record Kin (x y : TypeKey) : Type 0 where
+    pub left : x .0 < size T
+    pub right : y .0 < size T
+    pub kinds : kindNumber (kindAt T x) ≡ kindNumber (kindAt T y)
+    pub owns : ownNumber x (kindAt T x) ≡ ownNumber y (kindAt T y)
+
+  -- x and y differ along some chain
+  abbrev pub Apart : TypeKey → TypeKey → Type 0
+  Apart x y = (n : ℕ) × (sameIn T n x y ≡ false)
+
+  -- every pair met is one of kin
+  unfoldable pub Well : List ℕ → Type 0
+  Well l = (a b : TypeKey) → a .0 < maxTypes → b .0 < maxTypes → met l (pair a b) ≡ true → Kin a b
+
+  -- every pair met agrees for n steps
+  unfoldable pub AllMet : ℕ → List ℕ → Type 0
+  AllMet n l = (a b : TypeKey) → a .0 < maxTypes → b .0 < maxTypes → met l (pair a b) ≡ true → sameIn T n a b ≡ true
+
+  -- every pair opened since l agrees for one step more
+  unfoldable pub NewMet : ℕ → List ℕ → List ℕ → Type 0
+  NewMet n l l′ = (a b : TypeKey) → a .0 < maxTypes → b .0 < maxTypes → met l (opened a b) ≡ false → met l′ (opened a b) ≡ true → sameIn T (suc n) a b ≡ true
+
+  -- what differs among the pairs met since l makes x and y differ
+  unfoldable pub Leads : List ℕ → List ℕ → TypeKey → TypeKey → Type 0
+  Leads l l′ x y = (a b : TypeKey) → a .0 < maxTypes → b .0 < maxTypes → met l (pair a b) ≡ false → met l′ (pair a b) ≡ true → Apart a b → Apart x y
+
+  -- with the marks l before and l′ after: if all pairs met agree for n steps, x and y do for `more n`
+  pub record Went (more : ℕ → ℕ) (l l′ : List ℕ) (x y : TypeKey) (r : Bool) : Type 0 where
+    pub grown : Grown l l′
+    pub well : Well l′
+    pub leads : Leads l l′ x y
+    pub same-if : r ≡ true → (n : ℕ) → AllMet n l′ → (sameIn T (more n) x y ≡ true) × NewMet n l l′
+    pub differ-if : r ≡ false → Apart x y
+
+  -- two types have been compared; the parts of two types have been
+  abbrev pub Compared : List ℕ → List ℕ → TypeKey → TypeKey → Bool → Type 0
+  Compared = Went (λ n. n)
+
+  abbrev pub PartsCompared : List ℕ → List ℕ → TypeKey → TypeKey → Bool → Type 0
+  PartsCompared = Went suc
+
+  -- what is known while pairs that were put off are opened
+  pub record State (l : List ℕ) (x y : TypeKey) : Type 0 where
+    pub well : Well l
+    pub same-if : (n : ℕ) → AllMet n l → (sameIn T n x y ≡ true) × ((a b : TypeKey) → a .0 < maxTypes → b .0 < maxTypes → met l (opened a b) ≡ true → sameIn T (suc n) a b ≡ true)
+    pub leads : (a b : TypeKey) → a .0 < maxTypes → b .0 < maxTypes → met l (pair a b) ≡ true → Apart a b → Apart x y
+
+  -- the pair numbered p has been seen to: 0 where its types differ, and so x and y; 1 where it was not put off; 2 where it was, and has been opened
+  pub record Turn (l l′ : List ℕ) (x y : TypeKey) (p r : ℕ) : Type 0 where
+    pub small : r ≤ 2
+    pub if-0 : r ≡ 0 → Apart x y
+    pub if-1 : r ≡ 1 → (l′ ≡ l) × Clean l p
+    pub if-2 : r ≡ 2 → (unmet l′ < unmet l) × State l′ x y

@@ -1,0 +1,4 @@
+pub mod Parts
+pub mod Contents
+pub mod Marks
+pub mod Compared

@@ -1,0 +1,221 @@
+// I: type identity. Two functions call each other, as in goscript: one compares types, the other their parts. A pair of types met before counts as
+// identical, since whatever tells it apart is found where it was met first.
+ghost use mathlib.Core.Path.{_≡_};
+ghost use mathlib.Core.Bool.{true, false};
+ghost use Prim.Native.Nat.{ℕ, _+_, _<_, _≤_};
+ghost use lib.ListN.{length, replicate};
+ghost use Rattle.objects.specs.Bounds.{markWords};
+ghost use Rattle.objects.specs.Table.{kindNumber, kindAt};
+ghost use Rattle.objects.specs.Rows.{typeCount, tableOf};
+ghost use Rattle.rules.specs.Library.{Library};
+ghost use Rattle.rules.specs.Identity.{identical};
+ghost use Rattle.typ.specs.Marks.{met};
+ghost use Rattle.typ.specs.Compared.{pairs, Clean, Entered, Kin, Well, Compared, PartsCompared, State, Turn};
+use crate::marks::clear;
+use crate::marks::is_met;
+use crate::marks::set_met;
+use crate::parts::alike_at;
+use crate::parts::own_number;
+use crate::parts::part_at;
+use crate::parts::part_count;
+use objects::TypeKey;
+use objects::rows::kind_number;
+
+// 256 types: so many pairs, a bit each for those that were met, and as many for those that were opened.
+const TYPES: usize = 256;
+
+const PAIRS: usize = 65_536;
+
+const PAIR_WORDS: usize = 2_048;
+
+// So many calls of each of the two may be nested before pairs are put off.
+const DEEP: usize = 4_000;
+
+fn less(deep: usize) -> usize {
+    if deep == 0 { 0 } else { deep - 1 }
+}
+
+// Kinds of several parts: map, tuple, func, struct and iface.
+fn several(kind: u32) -> bool
+    ensures { λ r. ⌜ (r ≡ false → kind ≡ 9 → ⊥) ⌝ }
+{
+    if kind == 4 {
+        return true;
+    }
+    5 < kind
+}
+
+// Whether the pair numbered p is opened now. It is not if it was met before; and at depth 0 it is put off: met, and not opened.
+fn enter(marks: &mut [u32], p: usize, deep: usize) -> bool
+    requires { ⌜ (p < pairs) × (markWords ≤ length (now marks)) ⌝ }
+    ensures { λ r. ⌜ Entered (now (marks .entry)) (now (marks .exit)) p r ⌝ }
+{
+    if is_met(marks, p) {
+        return false;
+    }
+    set_met(marks, p);
+    if deep == 0 {
+        return false;
+    }
+    if is_met(marks, PAIRS + p) {
+        return false;
+    }
+    set_met(marks, PAIRS + p);
+    true
+}
+
+// Types x and y are compared. Interfaces lie on cycles, so that a pair of them must be marked; every other pair of several parts is marked too, for it
+// would be compared twice as often at each level otherwise.
+fn identical_impl(
+    text: &[u8],
+    rows: &[u32],
+    marks: &mut [u32],
+    x: TypeKey,
+    y: TypeKey,
+    deep: usize,
+) -> bool
+    requires { ⌜ Library (now text) (now rows) ⌝ }
+    requires { ⌜ (x .0 < typeCount (now rows)) × (y .0 < typeCount (now rows)) × (markWords ≤ length (now marks)) ⌝ }
+    requires { ⌜ Well (tableOf (now text) (now rows)) (now marks) ⌝ }
+    ensures { λ r. ⌜ Compared (tableOf (now (text .entry)) (now (rows .entry))) (now (marks .entry)) (now (marks .exit)) x y r ⌝ }
+{
+    if x.0 == y.0 {
+        return true;
+    }
+    let k = kind_number(rows, x);
+    if k != kind_number(rows, y) {
+        return false;
+    }
+    if own_number(rows, x) != own_number(rows, y) {
+        return false;
+    }
+    let lower = less(deep);
+    if several(k) {
+        if !enter(marks, TYPES * (x.0 as usize) + y.0 as usize, deep) {
+            return true;
+        }
+        return identical_impl_o(text, rows, marks, x, y, lower);
+    }
+    identical_impl_o(text, rows, marks, x, y, lower)
+}
+
+// The parts of x and y, which have one kind and one own number, are compared in turn.
+fn identical_impl_o(
+    text: &[u8],
+    rows: &[u32],
+    marks: &mut [u32],
+    x: TypeKey,
+    y: TypeKey,
+    deep: usize,
+) -> bool
+    requires { ⌜ Library (now text) (now rows) ⌝ }
+    requires { ⌜ Kin (tableOf (now text) (now rows)) x y × (markWords ≤ length (now marks)) ⌝ }
+    requires { ⌜ Well (tableOf (now text) (now rows)) (now marks) ⌝ }
+    ensures { λ r. ⌜ PartsCompared (tableOf (now (text .entry)) (now (rows .entry))) (now (marks .entry)) (now (marks .exit)) x y r ⌝ }
+{
+    let n = part_count(rows, x);
+    let mut i: u32 = 0;
+    while i < n {
+        if !alike_at(text, rows, x, y, i) {
+            return false;
+        }
+        let p = part_at(rows, x, i);
+        let q = part_at(rows, y, i);
+        if !identical_impl(text, rows, marks, p, q, deep) {
+            return false;
+        }
+        i += 1;
+    }
+    true
+}
+
+// The pair numbered p is opened, if it was put off: 1 where it was not, 2 where it was, and 0 where its types differ, and so x and y.
+fn open_at(text: &[u8], rows: &[u32], marks: &mut [u32], x: TypeKey, y: TypeKey, p: usize) -> u32
+    requires { ⌜ Library (now text) (now rows) ⌝ }
+    requires { ⌜ (p < pairs) × (markWords ≤ length (now marks)) ⌝ }
+    requires { ⌜ State (tableOf (now text) (now rows)) (now marks) x y ⌝ }
+    ensures { λ r. ⌜ Turn (tableOf (now (text .entry)) (now (rows .entry))) (now (marks .entry)) (now (marks .exit)) x y p r ⌝ }
+{
+    if !is_met(marks, p) {
+        return 1;
+    }
+    if is_met(marks, PAIRS + p) {
+        return 1;
+    }
+    set_met(marks, PAIRS + p);
+    let a = TypeKey((p / TYPES) as u32);
+    let b = TypeKey((p % TYPES) as u32);
+    if identical_impl_o(text, rows, marks, a, b, DEEP) {
+        2
+    } else {
+        0
+    }
+}
+
+// Whether no pair is put off: the bits of those met are the bits of those opened.
+fn settled(marks: &[u32]) -> bool
+    requires { ⌜ markWords ≤ length (now marks) ⌝ }
+    ensures { λ r. ⌜ (r ≡ true → (p : ℕ) → p < pairs → Clean (now (marks .entry)) p) ⌝ }
+{
+    let mut i: usize = 0;
+    while i < PAIR_WORDS {
+        if marks[i] != marks[PAIR_WORDS + i] {
+            return false;
+        }
+        i += 1;
+    }
+    true
+}
+
+// Types x and y are identical. What was put off is opened, round and round, until nothing is left.
+fn decide(text: &[u8], rows: &[u32], marks: &mut [u32], x: TypeKey, y: TypeKey) -> bool
+    requires { ⌜ Library (now text) (now rows) ⌝ }
+    requires { ⌜ (x .0 < typeCount (now rows)) × (y .0 < typeCount (now rows)) × (markWords ≤ length (now marks)) ⌝ }
+    requires { ⌜ ((p : ℕ) → met (now marks) p ≡ false) ⌝ }
+    ensures { λ r. ⌜ r ≡ identical (tableOf (now (text .entry)) (now (rows .entry))) x y ⌝ }
+{
+    if !identical_impl(text, rows, marks, x, y, DEEP) {
+        return false;
+    }
+    if settled(marks) {
+        return true;
+    }
+    let mut p: usize = 0;
+    let mut left: usize = PAIRS;
+    while left > 0 {
+        let r = open_at(text, rows, marks, x, y, p);
+        if r == 0 {
+            return false;
+        }
+        if r == 1 {
+            left -= 1;
+        } else {
+            left = PAIRS;
+        }
+        p = (p + 1) % PAIRS;
+    }
+    true
+}
+
+// Types x and y are identical. The marks are 0 before and after. Types that differ at once, and one type with itself, leave them alone; so does a named
+// type, whose own number is its alone.
+pub fn identical(text: &[u8], rows: &[u32], marks: &mut [u32], x: TypeKey, y: TypeKey) -> bool
+    requires { ⌜ Library (now text) (now rows) ⌝ }
+    requires { ⌜ (x .0 < typeCount (now rows)) × (y .0 < typeCount (now rows)) × (markWords ≤ length (now marks)) ⌝ }
+    requires { ⌜ now marks ≡ replicate (length (now marks)) 0 ⌝ }
+    ensures { λ r. ⌜ r ≡ identical (tableOf (now (text .entry)) (now (rows .entry))) x y ⌝ }
+    ensures { λ _. ⌜ now (marks .exit) ≡ now (marks .entry) ⌝ }
+{
+    if x.0 == y.0 {
+        return true;
+    }
+    if kind_number(rows, x) != kind_number(rows, y) {
+        return false;
+    }
+    if own_number(rows, x) != own_number(rows, y) {
+        return false;
+    }
+    let r = decide(text, rows, marks, x, y);
+    clear(marks);
+    r
+}

@@ -1,0 +1,208 @@
+// What a type is made of, read off the rows of a loaded table: the number that belongs to it, its parts by their places, and whether members at the same
+// place are called alike. Names and paths are compared on the text; no id is built.
+ghost use mathlib.Core.Path.{_≡_};
+ghost use Prim.Native.Nat.{_+_, _<_};
+ghost use Rattle.objects.specs.Rows.{tableOf, memberAt, bytesAt, pkgOf};
+ghost use Rattle.objects.specs.Types.{firstRead};
+ghost use Rattle.objects.specs.Table.{dirNumber, bit, pathOf};
+ghost use Rattle.text.specs.Bytes.{exported};
+ghost use Rattle.rules.specs.Members.{samePath, sameMember};
+ghost use Rattle.rules.specs.Identity.{alikeMember};
+ghost use Rattle.typ.specs.Parts.{ownRead, partCount, partAt, tagLength, pathLength, alikeAt};
+use crate::basic::BasicType;
+use objects::Dir;
+use objects::ObjKey;
+use objects::PackageKey;
+use objects::Type;
+use objects::TypeKey;
+use objects::rows::element;
+use objects::rows::first_member;
+use objects::rows::is_embedded;
+use objects::rows::is_method;
+use objects::rows::kind_number;
+use objects::rows::member_type;
+use objects::rows::member_word;
+use objects::rows::package_count;
+use objects::rows::package_word;
+use objects::rows::type_of;
+use text::compare::same_part;
+
+// ---- a type
+
+// "0 both ways, 1 send only, 2 receive only"
+pub fn dir_number(d: Dir) -> u32
+    ensures { λ r. ⌜ r ≡ dirNumber d ⌝ }
+{
+    match d {
+        Dir::Both => 0,
+        Dir::Send => 1,
+        Dir::Receive => 2,
+    }
+}
+
+// The number that belongs to a type beside its kind, its parts and its members.
+pub fn own_number(rows: &[u32], t: TypeKey) -> u32
+    ensures { λ r. ⌜ r ≡ ownRead (now (rows .entry)) t ⌝ }
+{
+    let ty = type_of(rows, t);
+    match ty {
+        Type::Basic(k) => BasicType(k).real_type().0,
+        Type::Array(n, _) => n,
+        Type::Slice(_) => 0,
+        Type::Pointer(_) => 0,
+        Type::Map(_, _) => 0,
+        Type::Chan(d, _) => dir_number(d),
+        Type::Tuple(_, n) => n,
+        Type::Func(v, _, _) => if v { 1 } else { 0 },
+        Type::Struct(_, n) => n,
+        Type::Iface(_, n) => n,
+        Type::Named(_, _, _) => t.0,
+    }
+}
+
+// How many types it is made of.
+pub fn part_count(rows: &[u32], t: TypeKey) -> u32
+    ensures { λ r. ⌜ r ≡ partCount (now (rows .entry)) t ⌝ }
+{
+    let ty = type_of(rows, t);
+    match ty {
+        Type::Basic(_) => 0,
+        Type::Array(_, _) => 1,
+        Type::Slice(_) => 1,
+        Type::Pointer(_) => 1,
+        Type::Map(_, _) => 2,
+        Type::Chan(_, _) => 1,
+        Type::Tuple(_, n) => n,
+        Type::Func(_, _, _) => 2,
+        Type::Struct(_, n) => n,
+        Type::Iface(_, n) => n,
+        Type::Named(_, _, _) => 0,
+    }
+}
+
+// The i-th of them.
+pub fn part_at(rows: &[u32], t: TypeKey, i: u32) -> TypeKey
+    requires { ⌜ firstRead (now rows) t + i < 65_536 ⌝ }
+    ensures { λ r. ⌜ r ≡ partAt (now (rows .entry)) t i ⌝ }
+{
+    let ty = type_of(rows, t);
+    match ty {
+        Type::Basic(_) => TypeKey(0),
+        Type::Array(_, e) => e,
+        Type::Slice(e) => e,
+        Type::Pointer(e) => e,
+        Type::Map(k, e) => if i == 0 { k } else { e },
+        Type::Chan(_, e) => e,
+        Type::Tuple(first, _) => element(rows, first + i),
+        Type::Func(_, p, r) => if i == 0 { p } else { r },
+        Type::Struct(first, _) => member_type(rows, ObjKey(first + i)),
+        Type::Iface(first, _) => member_type(rows, ObjKey(first + i)),
+        Type::Named(_, _, _) => TypeKey(0),
+    }
+}
+
+// ---- members
+
+// "first byte A to Z", of a name at a place of the text
+pub fn exported_at(text: &[u8], at: usize, len: usize) -> bool
+    ensures { λ r. ⌜ r ≡ exported (bytesAt (now (text .entry)) at len) ⌝ }
+{
+    if len == 0 {
+        return false;
+    }
+    if at < text.len() {
+        let b = text[at];
+        return 65 <= b && b <= 90;
+    }
+    false
+}
+
+// A method has no tag.
+pub fn tag_length(rows: &[u32], m: ObjKey) -> u32
+    ensures { λ r. ⌜ r ≡ tagLength (now (rows .entry)) m ⌝ }
+{
+    if is_method(rows, m) {
+        0
+    } else {
+        member_word(rows, m, 6)
+    }
+}
+
+pub fn path_length(rows: &[u32], p: PackageKey) -> u32
+    ensures { λ r. ⌜ r ≡ pathLength (now (rows .entry)) p ⌝ }
+{
+    if p.0 < package_count(rows) {
+        package_word(rows, p, 1)
+    } else {
+        0
+    }
+}
+
+// "equal package paths or no package on both sides"; a and b are a package's number and one, 0 for none.
+pub fn same_package(text: &[u8], rows: &[u32], a: u32, b: u32) -> bool
+    ensures { λ r. ⌜ r ≡ samePath (pathOf (tableOf (now (text .entry)) (now (rows .entry))) (pkgOf a)) (pathOf (tableOf (now (text .entry)) (now (rows .entry))) (pkgOf b)) ⌝ }
+{
+    if a == b {
+        return true;
+    }
+    if a == 0 {
+        return false;
+    }
+    if b == 0 {
+        return false;
+    }
+    let p = PackageKey(a - 1);
+    let q = PackageKey(b - 1);
+    let pa = package_word(rows, p, 0);
+    let pn = path_length(rows, p);
+    let qa = package_word(rows, q, 0);
+    let qn = path_length(rows, q);
+    same_part(text, pa as usize, pn as usize, qa as usize, qn as usize)
+}
+
+// "equal names, and if not exported also equal package paths or no package on both sides (`same_id`)"
+pub fn same_member(text: &[u8], rows: &[u32], m: ObjKey, n: ObjKey) -> bool
+    ensures { λ r. ⌜ r ≡ sameMember (tableOf (now (text .entry)) (now (rows .entry))) (memberAt (now (text .entry)) (now (rows .entry)) m) (memberAt (now (text .entry)) (now (rows .entry)) n) ⌝ }
+{
+    let ma = member_word(rows, m, 0);
+    let ml = member_word(rows, m, 1);
+    let na = member_word(rows, n, 0);
+    let nl = member_word(rows, n, 1);
+    if !same_part(text, ma as usize, ml as usize, na as usize, nl as usize) {
+        return false;
+    }
+    if exported_at(text, ma as usize, ml as usize) {
+        return true;
+    }
+    same_package(text, rows, member_word(rows, m, 2), member_word(rows, n, 2))
+}
+
+// One identity, both embedded or neither, one tag: "tags count".
+pub fn alike(text: &[u8], rows: &[u32], m: ObjKey, n: ObjKey) -> bool
+    ensures { λ r. ⌜ r ≡ alikeMember (tableOf (now (text .entry)) (now (rows .entry))) (memberAt (now (text .entry)) (now (rows .entry)) m) (memberAt (now (text .entry)) (now (rows .entry)) n) ⌝ }
+{
+    if !same_member(text, rows, m, n) {
+        return false;
+    }
+    if is_embedded(rows, m) != is_embedded(rows, n) {
+        return false;
+    }
+    let ma = member_word(rows, m, 5);
+    let ml = tag_length(rows, m);
+    let na = member_word(rows, n, 5);
+    let nl = tag_length(rows, n);
+    same_part(text, ma as usize, ml as usize, na as usize, nl as usize)
+}
+
+// The i-th members of x and y are called alike.
+pub fn alike_at(text: &[u8], rows: &[u32], x: TypeKey, y: TypeKey, i: u32) -> bool
+    requires { ⌜ (firstRead (now rows) x + i < 65_536) × (firstRead (now rows) y + i < 65_536) ⌝ }
+    ensures { λ r. ⌜ r ≡ alikeAt (now (text .entry)) (now (rows .entry)) x y i ⌝ }
+{
+    if kind_number(rows, x) < 8 {
+        return true;
+    }
+    let m = ObjKey(first_member(rows, x) + i);
+    let n = ObjKey(first_member(rows, y) + i);
+    alike(text, rows, m, n)
+}
