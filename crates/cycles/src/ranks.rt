@@ -13,6 +13,7 @@ use objects::rows::type_count;
 use objects::rows::type_word;
 use objects::writers::put_rank;
 
+// Which no reader of the table looks at.
 pub fn rank(rows: &[u32], t: TypeKey) -> u32
     ensures { λ r. ⌜ r ≡ rankRead (now (rows .entry)) t ⌝ }
 {
@@ -79,8 +80,8 @@ fn pass(rows: &mut [u32], next: u32) -> u32
     after
 }
 
-// Passes until one gives no rank: each is linear in the contents, and there are at most two more than types (in the worst case, types that all refer to
-// the next one, quadratic in all).
+// Passes until one gives no rank. Each is linear in the contents, and there is at most one more than there are types: in the worst case, types that each
+// contain the next, the whole is quadratic.
 pub fn peel(rows: &mut [u32])
     requires { ⌜ Laid (now rows) × Refers (now rows) ⌝ }
     ensures { λ _. ⌜ Peeled (now (rows .entry)) (now (rows .exit)) ⌝ }

@@ -93,7 +93,8 @@ fn on_cycle(rows: &[u32], t: TypeKey) -> bool
     }
 }
 
-// The line of the least type that contains itself. Each search is linear in the contents; a type with a rank asks for none.
+// The line of the least type that contains itself. A search is linear in the contents, and only a type without rank asks for one: in the worst case, where
+// nearly all types merely lead to a cycle, the whole is quadratic.
 pub fn first_back(rows: &[u32]) -> Stage
     requires { ⌜ Ranks (now rows) ⌝ }
     ensures { λ r. ⌜ Finds (now (rows .entry)) r ⌝ }
