@@ -14,3 +14,4 @@ pub mod SetKeys
 pub mod PointerSets
 pub mod MethodSetIs
 pub mod MissingIs
+pub mod Runs
