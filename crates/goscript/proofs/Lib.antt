@@ -15,3 +15,5 @@ pub mod PointerSets
 pub mod MethodSetIs
 pub mod MissingIs
 pub mod Runs
+pub mod Arms
+pub mod Unmet

@@ -36,7 +36,6 @@ abbrev pub _and_ : Run → Run → Run
 _and_ a b dup = onward b (a dup)
 
 infixr 35 _and_
-
 -- `!xs.iter().enumerate().any(|(i, x)| ..)`, asked of lists of one length only: c of each two at the same place, in order
 abbrev pub allSame : {A : Type 0} → (A → A → Run) → List A → List A → Run
 allSame c [] [] = check true
