@@ -17,3 +17,5 @@ pub mod MissingIs
 pub mod Runs
 pub mod Arms
 pub mod Unmet
+pub mod IdenticalIs
+pub mod ComparableIs
