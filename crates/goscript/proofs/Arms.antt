@@ -1,11 +1,11 @@
 -- One turn of `identical_impl` is one step of the rules: each arm of its `match`, read with a test of types in place of the recursion (`armB`), is `stepKinds`
 -- with that test (`arm-step`); and each arm shows it if the recursion shows what it is asked for (`arm-judged`, for interfaces `methods-judged`).
 use mathlib.Core.Path.{_≡_, refl, sym, ap, ap₂, _∙_}
-use mathlib.Core.Bool.{Bool, true, false, _&&_, Bool·beq}
+use mathlib.Core.Bool.{Bool, true, false, _&&_, Bool·beq, and-true, and-assoc}
 use mathlib.Core.List.{List, [], _∷_, map, append-nil}
 use mathlib.Core.Logic.{inl, inr}
 use mathlib.Core.Option.{some}
-use Prim.Native.Nat.{ℕ, suc}
+use Prim.Native.Nat.{ℕ}
 use lib.Dec.{eqb}
 use lib.ListN.{length}
 use Rattle.objects.specs.Lists.{In}
@@ -16,24 +16,16 @@ use Rattle.objects.specs.Table.{Table, dirNumber, bit, Entity, Field, Method, i
 use Rattle.objects.proofs.ListLaws.{clash, In-append-l, map-In-to}
 use Rattle.objects.proofs.BoolLaws.{iff-eq}
 use Rattle.rules.specs.Members.{Identity, identityOf, idBytes, sameId, sameMember}
-use Rattle.rules.specs.Identity.{realType, ownNumber, parts, Pair, alike, alikeMember}
+use Rattle.rules.specs.Identity.{realType, ownNumber, parts, Pair, alike}
 use Rattle.rules.specs.StepIdentity.{pairwise, stepKinds, sameIn}
 use Rattle.rules.specs.Load.{stands}
 use Rattle.rules.proofs.MemberLaws.{sameId-true, sameId-self}
 use Rattle.rules.proofs.IdLaws.{Proper, id-injective}
 use Rattle.gospec.specs.Go.{SameForm, basics, arrays, slices, pointers, maps, chans, tuples, funcs, structs, ifaces, nameds}
-use Rattle.goscript.specs.Identical.{Verdict, Run, check, _and_, allSame, first, last, identicalImplO, sameField, sameVar, sameMethod, arm}
+use Rattle.goscript.specs.Identical.{Run, check, _and_, allSame, first, last, identicalImplO, sameField, sameVar, sameMethod, arm}
 use Rattle.goscript.proofs.Runs.{allB, Sub, Judged, check-judged, and-judged, all-judged, o-judged}
 
 -- ---- Booleans
-
-and-true : (a : Bool) → a ≡ a && true
-and-true true = refl
-and-true false = refl
-
-and-assoc : (a b c : Bool) → a && (b && c) ≡ (a && b) && c
-and-assoc true b c = refl
-and-assoc false b c = refl
 
 -- two members compared in goscript's order, and the others after them
 turned : (i e t a r p : Bool) → (e && (t && (i && r))) && (a && p) ≡ (((i && e) && t) && a) && (r && p)
@@ -119,27 +111,21 @@ module _ (T : Table) (R : TypeKey → TypeKey → Bool) where
       ∙ turned (sameMember T m n) true true (alike T ms ns) (R (m .type) (n .type)) (pairwise R (typesOf ms) (typesOf ns))
       ∙ ap (λ c. (c && alike T ms ns) && (R (m .type) (n .type) && pairwise R (typesOf ms) (typesOf ns))) (bare (sameMember T m n) (m .entity) (n .entity) ks ls (a .0) (b .0))
 
-  one : (a r : Bool) → a && r ≡ (a && true) && (r && true)
-  one a r = ap₂ (λ b s. b && s) (and-true a) (and-true r)
-
-  two : (a r s : Bool) → a && (r && s) ≡ (a && true) && (r && (s && true))
-  two a r s = ap₂ (λ b c. b && (r && c)) (and-true a) (and-true s)
-
   -- ONE TURN IS ONE STEP
   pub arm-step : (x y : TypeKey) (k l : Kind) → SameForm k l → eqb (x .0) (y .0) ≡ false → (isIface k ≡ true → Listed T (membersOf k)) → (isIface l ≡ true → Listed T (membersOf l))
       → armB T R x k y l ≡ stepKinds T R x k y l
   unfolding armB ownNumber parts
-  arm-step x y k l (basics {j = i} {k = j}) ne p q = and-true (eqb (realType i) (realType j)) ∙ and-true (eqb (realType i) (realType j) && true)
-  arm-step x y k l (arrays {n = n} {m = m} {e = e} {f = f}) ne p q = one (eqb n m) (R e f)
-  arm-step x y k l (slices {e = e} {f = f}) ne p q = and-true (R e f)
-  arm-step x y k l (pointers {e = e} {f = f}) ne p q = and-true (R e f)
-  arm-step x y k l (maps {j = j} {e = e} {k = i} {f = f}) ne p q = ap (λ b. R j i && b) (and-true (R e f))
-  arm-step x y k l (chans {c = c} {d = d} {e = e} {f = f}) ne p q = one (eqb (dirNumber c) (dirNumber d)) (R e f)
-  arm-step x y k l (tuples {es = es} {fs = fs}) ne p q = ap₂ (λ b c. b && c) (and-true (eqb (length es) (length fs))) (rw (append-nil es, append-nil fs) (vars-step es fs))
-  arm-step x y k l (funcs {v = v} {w = w} {p = a} {r = b} {q = c} {s = d}) ne p q = two (eqb (bit v) (bit w)) (R a c) (R b d)
-  arm-step x y k l (structs {fs = fs} {gs = gs}) ne p q = ap (λ b. eqb (length fs) (length gs) && b) (fields-step fs gs) ∙ and-assoc (eqb (length fs) (length gs)) (alike T fs gs) (pairwise R (typesOf fs) (typesOf gs))
+  arm-step x y k l basics ne p q = simp and-true
+  arm-step x y k l arrays ne p q = simp and-true
+  arm-step x y k l slices ne p q = simp and-true
+  arm-step x y k l pointers ne p q = simp and-true
+  arm-step x y k l maps ne p q = simp and-true
+  arm-step x y k l chans ne p q = simp and-true
+  arm-step x y k l tuples ne p q = simp (and-true, append-nil, vars-step)
+  arm-step x y k l funcs ne p q = simp and-true
+  arm-step x y k l (structs {fs = fs} {gs = gs}) ne p q = ap (λ b. eqb (length fs) (length gs) && b) (fields-step fs gs) ∙ sym (and-assoc (eqb (length fs) (length gs)) (alike T fs gs) (pairwise R (typesOf fs) (typesOf gs)))
   arm-step x y k l (ifaces {ms = ms} {ns = ns}) ne p q =
-      ap (λ b. eqb (length ms) (length ns) && b) (methods-from ms ns ms ns (p refl) (q refl)) ∙ and-assoc (eqb (length ms) (length ns)) (alike T ms ns) (pairwise R (typesOf ms) (typesOf ns))
+      ap (λ b. eqb (length ms) (length ns) && b) (methods-from ms ns ms ns (p refl) (q refl)) ∙ sym (and-assoc (eqb (length ms) (length ns)) (alike T ms ns) (pairwise R (typesOf ms) (typesOf ns)))
   arm-step x y k l nameds ne p q = rw ne
 
 -- ---- what the arms show

@@ -1,17 +1,18 @@
 -- `comparable` of typ.rs gives the rules' C, on every sound table: no type contains itself by value, so that the calls inside each other are at most as many as
 -- there are types.
 use mathlib.Core.Path.{_≡_, refl, sym, ap, _∙_, subst}
-use mathlib.Core.Bool.{Bool, true, false, not, _&&_}
+use mathlib.Core.Bool.{Bool, true, false, _||_}
 use mathlib.Core.List.{List, [], _∷_, map}
 use mathlib.Core.Logic.{inl, inr}
-use mathlib.Core.Option.{Option, none, some}
+use mathlib.Core.Option.{Option, some}
 use Prim.Native.Nat.{ℕ, zero, suc, _+_, _≤_, _<_}
 use native.Mathlib.Omega.{arith}
 use lib.ListN.{length, length-map}
+use borrow.Author.Tests.{not-true}
 use Rattle.objects.specs.Lists.{every, In}
 use Rattle.objects.specs.declared.TypeKey.{TypeKey}
 use Rattle.objects.specs.Table.{Table, size, sameType, Member, Kind, Basic, Array, Slice, Pointer, Map, Chan, Tuple, Func, Struct, Iface, Named, isTuple, isNamed, byValue, kindAt, under}
-use Rattle.objects.proofs.ListLaws.{cases, clash, or-l, un-not, In-map, map-In-to}
+use Rattle.objects.proofs.ListLaws.{cases, clash, or-l, In-map, map-In-to}
 use Rattle.objects.proofs.KeyLaws.{key-eq, same-key, same-self}
 use Rattle.objects.proofs.KindLaws.{named-is, under-plain, under-named}
 use Rattle.objects.proofs.Pigeons.{Distinct, pigeons}
@@ -117,7 +118,7 @@ module _ (T : Table) (sound : Sound T) where
       ∙ ap some (sym (comparable-step T sound t ∙ ap (comparableKind (comparable T)) k))
     where
       plain : isNamed (kindAt T u) ≡ false
-      plain = let a : mayName T u ≡ true = ap (typeAllowed T t) (sym k) ∙ sound .allowed t in or-l (isNamed (kindAt T u)) (isTuple (kindAt T u)) (borrow.Author.Tests.not-true _ a)
+      plain = let a : mayName T u ≡ true = ap (typeAllowed T t) (sym k) ∙ sound .allowed t in or-l (isNamed (kindAt T u)) (isTuple (kindAt T u)) (not-true (isNamed (kindAt T u) || isTuple (kindAt T u)) a)
 
   gives : (n : ℕ) → Gives n
   unfolding comparableGo

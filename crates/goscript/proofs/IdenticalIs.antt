@@ -1,6 +1,6 @@
 -- `identical` of typ.rs gives the rules' I, on every sound table, whichever interface pairs it counts as identical because they were met before.
-use mathlib.Core.Path.{_≡_, refl, sym, ap, _∙_, subst}
-use mathlib.Core.Bool.{Bool, true, false, _&&_}
+use mathlib.Core.Path.{_≡_, sym, ap, _∙_, subst}
+use mathlib.Core.Bool.{true, false}
 use mathlib.Core.List.{List, [], _∷_, map}
 use mathlib.Core.Option.{some}
 use Prim.Native.Nat.{ℕ, zero, suc, _≤_, _<_}
@@ -11,7 +11,7 @@ use lib.ListN.{length}
 use borrow.Author.Tests.{eqb-true}
 use Rattle.objects.specs.Lists.{any, In}
 use Rattle.objects.specs.declared.TypeKey.{TypeKey}
-use Rattle.objects.specs.Table.{Table, size, sameType, Member, Kind, Iface, kindNumber, isIface, membersOf, kindAt}
+use Rattle.objects.specs.Table.{Table, size, sameType, Member, Iface, kindNumber, isIface, membersOf, kindAt}
 use Rattle.objects.proofs.ListLaws.{cases, clash, some-In}
 use Rattle.objects.proofs.KindLaws.{iface-is}
 use Rattle.rules.specs.Identity.{ownNumber, parts, Pair, samePair, identical}
@@ -23,7 +23,7 @@ use Rattle.rules.proofs.IdLaws.{member-proper}
 use Rattle.rules.proofs.IdentityLaws.{pair, identical-steps}
 use Rattle.gospec.proofs.Forms.{number-form}
 use Rattle.goscript.specs.Identical.{Verdict, same, differ, out, allSame, sameMethod, arm, identicalImpl, enoughCalls, answer, identicalGo}
-use Rattle.goscript.proofs.Runs.{allB, Sub, Agrees, Judged, judged-as, stays, self-judged, lower, opened, begun}
+use Rattle.goscript.proofs.Runs.{allB, Agrees, Judged, judged-as, stays, self-judged, lower, opened, begun}
 use Rattle.goscript.proofs.Arms.{methodB, armB, Listed, arm-step, methods-judged, arm-judged}
 use Rattle.goscript.proofs.Unmet.{samePair-eq, measure, measure-part, measure-opened, measure-most}
 

@@ -1,12 +1,12 @@
 -- What a comparison of specs/Identical.antt shows, whichever comparisons it is made of (`Judged`): `true` shows that what was claimed holds at n steps if each
 -- pair in `dup` agrees at n steps, and that those put in meanwhile then agree at one step more; `false` shows that the claim fails at some number of steps.
 use mathlib.Core.Path.{_≡_, refl, subst, fun-ext}
-use mathlib.Core.Bool.{Bool, true, false, _&&_}
+use mathlib.Core.Bool.{Bool, true, false, _&&_, and-false}
 use mathlib.Core.List.{List, [], _∷_}
 use mathlib.Core.Logic.{_⊎_, inl, inr}
 use mathlib.Core.Option.{some}
 use Prim.Native.Nat.{ℕ, zero, suc}
-use Rattle.objects.specs.Lists.{any, In}
+use Rattle.objects.specs.Lists.{In}
 use Rattle.objects.specs.declared.TypeKey.{TypeKey}
 use Rattle.objects.specs.Table.{Table, sameType}
 use Rattle.objects.proofs.ListLaws.{cases, either}
@@ -26,10 +26,6 @@ allB c (a ∷ as′) (b ∷ bs) = c a b && allB c as′ bs
 
 abbrev pub Sub : List Pair → List Pair → Type 0
 Sub d e = (p : Pair) → In p d → In p e
-
-and-false : (a b : Bool) → b ≡ false → a && b ≡ false
-and-false true b h = h
-and-false false b h = refl
 
 abbrev pub Agrees : Table → ℕ → Pair → Type 0
 Agrees T n p = sameIn T n (p .left) (p .right) ≡ true
@@ -67,7 +63,7 @@ module _ (T : Table) where
     holds = λ n a. and-i (g .holds n (λ p i. a p (h .kept p i))) (h .holds n a);
     new = λ n a p i. either (h .new n a p i) (λ j. g .new n (λ q k. a q (h .kept q k)) p j) (λ s. inr s);
   }
-  then d e A B differ g h = (h .0, and-false (A (h .0)) (B (h .0)) (h .1))
+  then d e A B differ g h = (h .0, rw (h .1, and-false))
   then d e A B out g h = h
 
   pub and-judged : (a b : Run) (A B : ℕ → Bool) (d : List Pair) → Judged T d A (a d) → ((e : List Pair) → Sub d e → Judged T e B (b e)) → Judged T d (λ n. A n && B n) ((a and b) d)

@@ -2,27 +2,28 @@
 -- are inside each other than `enoughCalls`.
 use mathlib.Core.Path.{_≡_, refl, ap, ap₂, _∙_}
 use mathlib.Core.Bool.{Bool, true, false, cond, not, _&&_, _||_}
-use mathlib.Core.List.{List, [], _∷_, _++_, map}
+use mathlib.Core.List.{List, [], _∷_, map}
 use mathlib.Core.Logic.{inl, inr}
-use Prim.Native.Nat.{ℕ, zero, suc, _+_, _*_, _≤_, _<_}
+use Prim.Native.Nat.{ℕ, suc, _+_, _*_, _≤_, _<_}
 use native.Mathlib.Omega.{arith}
 use native.Mathlib.Nat.{suc-mul, mul-le-mul-right}
 use lib.Dec.{ltb}
 use lib.ListN.{length, length-map, length-append}
 use borrow.Author.Tests.{ltb-true}
-use Rattle.objects.specs.Lists.{any, keep, flat, every, upTo, In}
+use Rattle.objects.specs.Lists.{any, keep, flat, upTo, In}
 use Rattle.objects.specs.declared.TypeKey.{TypeKey}
-use Rattle.objects.specs.Table.{Table, size, typeKey, sameType, Entity, Field, Method, Member, Kind, Basic, Array, Slice, Pointer, Map, Chan, Tuple, Func, Struct, Iface, Named, isTuple, isStruct, isIface, isNamed, refs, membersOf, kindAt}
-use Rattle.objects.proofs.ListLaws.{cases, clash, either, and-l, and-r, any-In, some-In, In-append, In-map, map-In-to, flat-In-to}
+use Rattle.objects.specs.Table.{Table, size, typeKey, sameType, Entity, Field, Method, Member, Kind, Basic, Array, Slice, Pointer, Map, Chan, Tuple, Func, Struct, Iface, Named, isTuple, isIface, isNamed, refs, membersOf, kindAt}
+use Rattle.objects.proofs.ListLaws.{cases, clash, either, or-l, or-r, and-l, and-r, any-In, some-In, In-append, In-map, map-In-to, flat-In-to}
 use Rattle.objects.proofs.BoolLaws.{and-i}
 use Rattle.objects.proofs.PartLaws.{every-In}
 use Rattle.objects.proofs.KeyLaws.{same-key, same-self}
 use Rattle.objects.proofs.Numbers.{upTo-length, upTo-has}
 use Rattle.rules.specs.Identity.{parts, Pair, samePair}
-use Rattle.rules.specs.Checks.{mayRefer, mayEmbed, mayHave, smallerTuple, endsInSlice, typeAllowed, memberAllowed}
+use Rattle.rules.specs.Checks.{mayRefer, mayEmbed, smallerTuple, endsInSlice, typeAllowed, memberAllowed}
 use Rattle.rules.specs.Load.{stands}
-use Rattle.rules.specs.Sound.{Sound, MemberOf}
+use Rattle.rules.specs.Sound.{Sound}
 use Rattle.rules.proofs.IdentityLaws.{pair}
+use Rattle.goscript.proofs.LevelsEnd.{smaller}
 use Rattle.goscript.proofs.Runs.{Sub}
 
 -- ---- how many of a list pass a test
@@ -110,23 +111,18 @@ module _ (T : Table) where
   unfolding rank
   rank-most u h = cases (isNamed (kindAt T u) || isIface (kindAt T u)) (λ e. rw e (omega arith)) (λ e. rw e (omega arith))
 
-  -- "refer to a smaller number than their type's, unless the target is named or iface"
-  falls : (t : ℕ) (u : TypeKey) → ltb (u .0) t || isNamed (kindAt T u) || isIface (kindAt T u) ≡ true → rank u < suc t
+  falls : (t u : TypeKey) → (isNamed (kindAt T u) ≡ false → isIface (kindAt T u) ≡ false → u .0 < t .0) → rank u < suc (t .0)
   unfolding rank
   falls t u h =
       cases (isNamed (kindAt T u) || isIface (kindAt T u))
       (λ e. rw e (omega arith))
-      (λ e. let l = ltb-true (u .0) t (one (ltb (u .0) t) (isNamed (kindAt T u)) (isIface (kindAt T u)) e h) in rw e (omega arith))
-    where
-      one : (a b c : Bool) → b || c ≡ false → a || b || c ≡ true → a ≡ true
-      one true b c n h = refl
-      one false b c n h = clash h n
+      (λ e. let l = h (or-l (isNamed (kindAt T u)) (isIface (kindAt T u)) e) (or-r (isNamed (kindAt T u)) (isIface (kindAt T u)) e) in rw e (omega arith))
 
   referred : (t u : TypeKey) → mayRefer T t u ≡ true → rank u < suc (t .0)
-  referred t u h = falls (t .0) u (and-r (not (isTuple (kindAt T u))) (ltb (u .0) (t .0) || isNamed (kindAt T u) || isIface (kindAt T u)) h)
+  referred t u h = falls t u (smaller T t u h)
 
   tupled : (t u : TypeKey) → smallerTuple T t u ≡ true → rank u < suc (t .0)
-  tupled t u h = falls (t .0) u (rw (and-r (isTuple (kindAt T u)) (ltb (u .0) (t .0)) h))
+  tupled t u h = falls t u (λ n i. ltb-true (u .0) (t .0) (and-r (isTuple (kindAt T u)) (ltb (u .0) (t .0)) h))
 
   ref-falls : (t u : TypeKey) (k : Kind) → typeAllowed T t k ≡ true → isNamed k ≡ false → In u (refs k) → rank u < suc (t .0)
   ref-falls t u (Basic k) a n i = absurd i
