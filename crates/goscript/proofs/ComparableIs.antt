@@ -22,7 +22,7 @@ use Rattle.rules.specs.Comparable.{comparableKind, comparable}
 use Rattle.rules.specs.Sound.{Sound}
 use Rattle.rules.proofs.RangeLaws.{content-in}
 use Rattle.rules.proofs.ComparableLaws.{comparable-step}
-use Rattle.goscript.specs.Comparable.{andThen, allComparable, comparableUnder, comparableGo}
+use Rattle.goscript.specs.Comparable.{andThen, allComparable, comparableUnder, comparableImpl}
 
 -- ---- one turn
 
@@ -102,18 +102,18 @@ module _ (T : Table) (sound : Sound T) where
   -- ---- the calls
 
   abbrev Gives : ℕ → Type 0
-  Gives n = (l : List TypeKey) (t : TypeKey) → t .0 < size T → Came l t → size T ≤ n + length l → comparableGo T n t ≡ some (comparable T t)
+  Gives n = (l : List TypeKey) (t : TypeKey) → t .0 < size T → Came l t → size T ≤ n + length l → comparableImpl T n t ≡ some (comparable T t)
 
   -- the type under t is judged by what it contains
   judged : (n : ℕ) → Gives n → (l : List TypeKey) (u : TypeKey) → isNamed (kindAt T u) ≡ false → ((e : TypeKey) → In e (contents T u) → Came l e) → size T ≤ n + length l
-      → comparableUnder (comparableGo T n) (kindAt T u) ≡ some (comparable T u)
-  judged n rec l u nn c le = turn-is (comparableGo T n) (comparable T) (kindAt T u) nn (λ e i. rec l e (content-in T sound u e i) (c e i) le) ∙ ap some (sym (comparable-step T sound u))
+      → comparableUnder (comparableImpl T n) (kindAt T u) ≡ some (comparable T u)
+  judged n rec l u nn c le = turn-is (comparableImpl T n) (comparable T) (kindAt T u) nn (λ e i. rec l e (content-in T sound u e i) (c e i) le) ∙ ap some (sym (comparable-step T sound u))
 
   named : (n : ℕ) → Gives n → (l : List TypeKey) (t u : TypeKey) (ms : List Member) → kindAt T t ≡ Named u ms → t .0 < size T → Came l t → size T ≤ suc n + length l
-      → comparableUnder (comparableGo T n) (kindAt T (under T t)) ≡ some (comparable T t)
+      → comparableUnder (comparableImpl T n) (kindAt T (under T t)) ≡ some (comparable T t)
   unfolding comparableKind
   named n rec l t u ms k h c le =
-      ap (λ x. comparableUnder (comparableGo T n) (kindAt T x)) (under-named T t u ms k)
+      ap (λ x. comparableUnder (comparableImpl T n) (kindAt T x)) (under-named T t u ms k)
       ∙ judged n rec (t ∷ l) u plain (λ e i. on (t ∷ l) u e (through l t u h c (rw k (inl refl))) i) (omega arith)
       ∙ ap some (sym (comparable-step T sound t ∙ ap (comparableKind (comparable T)) k))
     where
@@ -121,13 +121,13 @@ module _ (T : Table) (sound : Sound T) where
       plain = let a : mayName T u ≡ true = ap (typeAllowed T t) (sym k) ∙ sound .allowed t in or-l (isNamed (kindAt T u)) (isTuple (kindAt T u)) (not-true (isNamed (kindAt T u) || isTuple (kindAt T u)) a)
 
   gives : (n : ℕ) → Gives n
-  unfolding comparableGo
+  unfolding comparableImpl
   gives zero l t h c le = let f = few l t h c in absurd (omega arith)
   gives (suc n) l t h c le =
       cases (isNamed (kindAt T t))
       (λ e. let r = named-is (kindAt T t) e in named n (gives n) l t (r .0) (r .1) (r .2) h c le)
-      (λ e. ap (λ x. comparableUnder (comparableGo T n) (kindAt T x)) (under-plain T t e) ∙ judged n (gives n) (t ∷ l) t e (λ u i. through l t u h c i) (omega arith))
+      (λ e. ap (λ x. comparableUnder (comparableImpl T n) (kindAt T x)) (under-plain T t e) ∙ judged n (gives n) (t ∷ l) t e (λ u i. through l t u h c i) (omega arith))
 
   -- GOSCRIPT'S COMPARABILITY IS C'S, and its recursion ends
-  pub comparable-is-goscript : (t : TypeKey) → t .0 < size T → (n : ℕ) → size T ≤ n → comparableGo T n t ≡ some (comparable T t)
+  pub comparable-is-goscript : (t : TypeKey) → t .0 < size T → (n : ℕ) → size T ≤ n → comparableImpl T n t ≡ some (comparable T t)
   comparable-is-goscript t h n le = gives n [] t h (record { contain = λ q i. absurd i; distinct = tt; inside = λ q i. absurd i }) (omega arith)

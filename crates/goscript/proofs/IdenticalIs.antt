@@ -22,7 +22,7 @@ use Rattle.rules.proofs.RangeLaws.{kind-out, part-in}
 use Rattle.rules.proofs.IdLaws.{member-proper}
 use Rattle.rules.proofs.IdentityLaws.{pair, identical-steps}
 use Rattle.gospec.proofs.Forms.{number-form}
-use Rattle.goscript.specs.Identical.{Verdict, same, differ, out, allSame, sameMethod, arm, identicalImpl, enoughCalls, answer, identicalGo}
+use Rattle.goscript.specs.Identical.{Verdict, same, differ, out, allSame, sameMethod, arm, identicalImpl, enoughCalls, answer, identicalAnswer}
 use Rattle.goscript.proofs.Runs.{allB, Agrees, Judged, judged-as, stays, self-judged, lower, opened, begun}
 use Rattle.goscript.proofs.Arms.{methodB, armB, Listed, arm-step, methods-judged, arm-judged}
 use Rattle.goscript.proofs.Unmet.{samePair-eq, measure, measure-part, measure-opened, measure-most}
@@ -111,7 +111,7 @@ module _ (T : Table) (sound : Sound T) where
       (λ k. rw k (1, kinds-differ x y k))))
 
   -- GOSCRIPT'S IDENTITY IS I'S, and its recursion ends
-  pub identical-is-goscript : (x y : TypeKey) → x .0 < size T → (n : ℕ) → enoughCalls T ≤ n → identicalGo T n x y ≡ some (identical T x y)
+  pub identical-is-goscript : (x y : TypeKey) → x .0 < size T → (n : ℕ) → enoughCalls T ≤ n → identicalAnswer T n x y ≡ some (identical T x y)
   identical-is-goscript x y hx n le = let m = measure-most T [] x hx in go (identicalImpl T n x y []) (shown n x y [] hx (omega arith))
     where
       go : (v : Verdict) → Judged T [] (λ n. sameIn T n x y) v → answer v ≡ some (identical T x y)

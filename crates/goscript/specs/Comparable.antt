@@ -6,6 +6,7 @@ use Prim.Native.Nat.{ℕ, zero, suc}
 use lib.Dec.{eqb}
 use Rattle.objects.specs.declared.TypeKey.{TypeKey}
 use Rattle.objects.specs.Table.{Table, Member, Kind, Basic, Array, Slice, Pointer, Map, Chan, Tuple, Func, Struct, Iface, Named, kindAt, under}
+use Rattle.gospec.specs.Go.{untypedNil}
 
 -- `a && b`, where b is not asked if a is false
 abbrev pub andThen : Option Bool → Option Bool → Option Bool
@@ -20,7 +21,7 @@ allComparable R (f ∷ fs) = andThen (R (f .type)) (allComparable R fs)
 
 -- `match self.underlying_val(objs)`
 unfoldable pub comparableUnder : (TypeKey → Option Bool) → Kind → Option Bool
-comparableUnder R (Basic k) = some (not (eqb k 25))
+comparableUnder R (Basic k) = some (not (eqb k untypedNil))
 comparableUnder R (Array n e) = R e
 comparableUnder R (Slice e) = some false
 comparableUnder R (Pointer e) = some true
@@ -33,6 +34,6 @@ comparableUnder R (Iface ms) = some true
 comparableUnder R (Named u ms) = some false
 
 module _ (T : Table) where
-  unfoldable pub comparableGo : ℕ → TypeKey → Option Bool
-  comparableGo zero t = none
-  comparableGo (suc n) t = comparableUnder (comparableGo n) (kindAt T (under T t))
+  unfoldable pub comparableImpl : ℕ → TypeKey → Option Bool
+  comparableImpl zero t = none
+  comparableImpl (suc n) t = comparableUnder (comparableImpl n) (kindAt T (under T t))

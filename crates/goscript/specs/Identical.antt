@@ -1,5 +1,6 @@
 -- `identical`, `identical_impl` and `identical_impl_o` of typ.rs on values. The `HashSet` of pairs is the list of those that were inserted; it is handed on
--- by each comparison that gives `true`, and one that gives `false` ends all. Tags are compared (`cmp_tags` is true).
+-- by each comparison that gives `true`, and one that gives `false` ends all. Tags are compared (`cmp_tags` is true), and an interface has its full method
+-- list (`all_methods` is not None).
 use mathlib.Core.Bool.{Bool, true, false, cond, Bool·beq}
 use mathlib.Core.List.{List, [], _∷_}
 use mathlib.Core.Option.{Option, none, some}
@@ -111,5 +112,5 @@ answer differ = some false
 answer out = none
 
 -- `identical`
-abbrev pub identicalGo : Table → ℕ → TypeKey → TypeKey → Option Bool
-identicalGo T n x y = answer (identicalImpl T n x y [])
+abbrev pub identicalAnswer : Table → ℕ → TypeKey → TypeKey → Option Bool
+identicalAnswer T n x y = answer (identicalImpl T n x y [])
