@@ -45,7 +45,7 @@ module _ (T : Table) where
       inside e = elim (decLt (u .0) (size T)) [ yes h ↦ omega arith | no h ↦ clash e (ap isStruct (kind-out T u h)) ]
 
   -- "refer to a smaller number than their type's, unless the target is named or iface"
-  smaller : (t e : TypeKey) → mayRefer T t e ≡ true → isNamed (kindAt T e) ≡ false → isIface (kindAt T e) ≡ false → e .0 < t .0
+  pub smaller : (t e : TypeKey) → mayRefer T t e ≡ true → isNamed (kindAt T e) ≡ false → isIface (kindAt T e) ≡ false → e .0 < t .0
   smaller t e h n i = ltb-true (e .0) (t .0) (first (ltb (e .0) (t .0)) (isNamed (kindAt T e)) (isIface (kindAt T e)) n i (and-r (not (isTuple (kindAt T e))) (ltb (e .0) (t .0) || isNamed (kindAt T e) || isIface (kindAt T e)) h))
     where
       first : (a b c : Bool) → b ≡ false → c ≡ false → a || b || c ≡ true → a ≡ true

@@ -14,3 +14,8 @@ pub mod SetKeys
 pub mod PointerSets
 pub mod MethodSetIs
 pub mod MissingIs
+pub mod Runs
+pub mod Arms
+pub mod Unmet
+pub mod IdenticalIs
+pub mod ComparableIs

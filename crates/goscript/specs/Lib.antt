@@ -3,3 +3,5 @@ pub mod Lookup
 pub mod Maps
 pub mod MethodSets
 pub mod Missing
+pub mod Identical
+pub mod Comparable
