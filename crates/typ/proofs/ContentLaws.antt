@@ -12,7 +12,7 @@ use borrow.Author.Tests.{eqb-true, eqb-false, not-true, not-false}
 use Rattle.objects.specs.declared.TypeKey.{TypeKey}
 use Rattle.objects.specs.declared.«Type».{«Type»}
 use Rattle.objects.specs.Lists.{Bytes, In, every, upTo}
-use Rattle.objects.specs.Table.{Member, Kind, typeKey, objKey, size, byValue, kindAt}
+use Rattle.objects.specs.Table.{Member, byValue, kindAt}
 use Rattle.objects.specs.Rows.{Words, typeCount, tableOf, membersFrom}
 use Rattle.objects.specs.Types.{kindMeant, typeRead, firstRead, totalRead}
 use Rattle.objects.proofs.ListLaws.{cases, clash, and-r, In-map, map-In-to}

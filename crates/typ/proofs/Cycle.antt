@@ -1,9 +1,9 @@
 -- The answers of `identical_impl` and `identical_impl_o`, in the terms of what their code knows at each place, and what falls from call to call.
-use mathlib.Core.Path.{_≡_, refl, sym, ap, _∙_}
+use mathlib.Core.Path.{_≡_, refl, sym, _∙_}
 use mathlib.Core.Bool.{Bool, true, false, not}
 use mathlib.Core.List.{List}
-use mathlib.Core.Logic.{_⊎_, inl, inr}
-use Prim.Native.Nat.{ℕ, zero, suc, _+_, _*_, _/_, _<_, _≤_}
+use mathlib.Core.Logic.{inl, inr}
+use Prim.Native.Nat.{ℕ, zero, suc, _+_, _*_, _<_, _≤_}
 use native.Mathlib.Omega.{arith}
 use lib.ListN.{length}
 use borrow.Author.Tests.{not-true, not-false}
@@ -25,7 +25,7 @@ use Rattle.typ.specs.Compared.{pairs, pair, opened, Entered, Kin, Apart,
 use Rattle.typ.proofs.Bits.{unmet-falls}
 use Rattle.typ.proofs.ReadLaws.{own-read, place-small}
 use Rattle.typ.proofs.StepAt.{counts}
-use Rattle.typ.proofs.Marked.{length-meet, in-l, in-m, went-met, went-off, well-open, went-open}
+use Rattle.typ.proofs.Marked.{in-l, in-m, went-met, went-off, well-open, went-open}
 use Rattle.typ.proofs.Passing.{Passed}
 use Rattle.typ.proofs.Rank.{rank, high, high-le, high-rank, part-inside, rank-part}
 

@@ -3,7 +3,7 @@ use mathlib.Core.Path.{_≡_, refl, sym, ap, _∙_}
 use mathlib.Core.Bool.{Bool, true, false}
 use mathlib.Core.List.{List}
 use mathlib.Core.Logic.{_⊎_, inl, inr}
-use Prim.Native.Nat.{ℕ, suc, _+_, _*_, _/_, _<_, _≤_}
+use Prim.Native.Nat.{ℕ, suc, _/_, _<_, _≤_}
 use native.Mathlib.Omega.{arith}
 use native.Mathlib.Nat.{le-trans}
 use lib.Dec.{eqb}
@@ -16,8 +16,8 @@ use Rattle.objects.proofs.ListLaws.{cases, clash, either}
 use Rattle.objects.proofs.KeyLaws.{key-eq}
 use Rattle.rules.specs.StepIdentity.{sameIn}
 use Rattle.rules.proofs.StepLaws.{same-less, same-self}
-use Rattle.typ.specs.Marks.{met, meet, unmet}
-use Rattle.typ.specs.Compared.{pairs, pair, opened, Kin, Apart, Well, AllMet, NewMet, Leads, Grown, Went, Compared, PartsCompared}
+use Rattle.typ.specs.Marks.{met, meet}
+use Rattle.typ.specs.Compared.{pair, opened, Kin, Apart, Well, AllMet, NewMet, Leads, Grown, Compared, PartsCompared}
 use Rattle.typ.proofs.Bits.{met-same, met-other, unmet-falls}
 
 pub length-meet : (l : List ℕ) (p : ℕ) → length (meet l p) ≡ length l

@@ -1,11 +1,11 @@
 -- What is read off a member's row is what the rules say of it: its name, its package's path, its tag, and whether two members are called alike.
-use mathlib.Core.Path.{_≡_, refl, sym, ap, ap₂, _∙_}
+use mathlib.Core.Path.{_≡_, refl, sym, ap, _∙_}
 use mathlib.Core.Bool.{Bool, true, false, cond, not, _&&_, Bool·beq}
-use mathlib.Core.List.{List, [], _∷_}
+use mathlib.Core.List.{[], _∷_}
 use mathlib.Core.Option.{Option, none, some}
 use Prim.Native.Nat.{ℕ, zero, suc, _+_, _-_, _<_, _≤_}
 use native.Mathlib.Omega.{arith}
-use lib.Dec.{eqb, ltb, leb}
+use lib.Dec.{ltb, leb}
 use lib.ListN.{length, getD, take, drop, List·getD-eq-default}
 use lib.Seq.{drop-cons}
 use borrow.Author.Tests.{ne-eqb, lt-ltb, le-ltb, le-leb, lt-leb, ltb-true, ltb-false, not-true, not-false}
@@ -13,12 +13,11 @@ use Rattle.objects.specs.declared.TypeKey.{TypeKey}
 use Rattle.objects.specs.declared.ObjKey.{ObjKey}
 use Rattle.objects.specs.declared.PackageKey.{PackageKey}
 use Rattle.objects.specs.Lists.{Bytes}
-use Rattle.objects.specs.Table.{Member, objKey, packageKey, isEmbedded, isMethod, tagOf, pathOf}
+use Rattle.objects.specs.Table.{objKey, packageKey, tagOf, pathOf}
 use Rattle.objects.specs.Rows.{Words, packageCount, memberWord, packageWord, bytesAt, entityOf, pkgOf, memberAt, pathRead, tableOf}
 use Rattle.objects.specs.Types.{numberRead, firstRead, embeddedRead, methodRead}
-use Rattle.objects.proofs.ListLaws.{cases, clash}
-use Rattle.objects.proofs.BoolLaws.{beq-self, false-of, beq-true}
-use Rattle.objects.proofs.RowLaws.{by-form, last-form, path-read, package-count-read, embedded-meant, method-meant}
+use Rattle.objects.proofs.ListLaws.{cases}
+use Rattle.objects.proofs.RowLaws.{by-form, last-form, path-read, package-count-read, embedded-meant}
 use Rattle.text.specs.Bytes.{sameBytes, firstIs, isCapital, exported}
 use Rattle.text.proofs.ByteLaws.{same-true}
 use Rattle.rules.specs.Members.{identityFrom, identityOf, samePath, sameId, sameMember}

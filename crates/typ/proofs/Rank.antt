@@ -1,7 +1,7 @@
 -- What falls in the cycle of calls beside the pairs not met: a number of the type compared, with those of its parts below it. References go to smaller
 -- numbers, but to named types and interfaces; a named type has no parts, and a pair of interfaces is met.
 use mathlib.Core.Path.{_≡_, refl, sym, _∙_}
-use mathlib.Core.Bool.{true, false, cond, not, _&&_, _||_}
+use mathlib.Core.Bool.{true, cond, not, _&&_, _||_}
 use mathlib.Core.List.{List, [], _∷_, _++_}
 use mathlib.Core.Logic.{_⊎_, inl, inr, _≢_}
 use Prim.Native.Nat.{ℕ, _+_, _*_, _<_, _≤_}
@@ -23,7 +23,6 @@ use Rattle.rules.specs.Identity.{parts}
 use Rattle.rules.specs.Checks.{mayRefer, smallerTuple, typeAllowed, memberAllowed, endsInSlice}
 use Rattle.rules.specs.Load.{stands}
 use Rattle.rules.specs.Library.{Library}
-use Rattle.rules.specs.Sound.{Sound}
 use Rattle.rules.proofs.RangeLaws.{part-in}
 use Rattle.typ.specs.Parts.{partCount, partAt}
 use Rattle.typ.proofs.ReadLaws.{library-sound, parts-read}

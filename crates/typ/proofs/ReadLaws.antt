@@ -1,12 +1,11 @@
 -- What is read off a type's row (specs/Parts.antt) is what the rules say of the table that the rows hold: its own number and its parts.
 use mathlib.Core.Path.{_≡_, refl, sym, ap, _∙_}
-use mathlib.Core.List.{[], map, append-nil}
+use mathlib.Core.List.{map, append-nil}
 use Prim.Native.Nat.{ℕ, suc, _+_, _-_, _<_, _≤_}
 use native.Mathlib.Omega.{arith}
 use borrow.Author.Tests.{ne-eqb}
 use Rattle.objects.specs.declared.TypeKey.{TypeKey}
 use Rattle.objects.specs.declared.«Type».{«Type»}
-use Rattle.objects.specs.Bounds.{maxElements}
 use Rattle.objects.specs.Lists.{Bytes, upTo}
 use Rattle.objects.specs.Table.{Member, objKey, kindAt}
 use Rattle.objects.specs.Rows.{Words, typeCount, from, elementAt, memberAt, elementsFrom, membersFrom, tableOf}

@@ -5,8 +5,7 @@ use Prim.Native.Nat.{ℕ, _+_, _<_, _≤_}
 use native.Mathlib.Omega.{arith}
 use Rattle.objects.specs.declared.TypeKey.{TypeKey}
 use Rattle.objects.specs.declared.«Type».{«Type»}
-use Rattle.objects.specs.Lists.{Bytes}
-use Rattle.objects.specs.Bounds.{maxMembers, maxElements}
+use Rattle.objects.specs.Bounds.{maxElements}
 use Rattle.objects.specs.Rows.{Words, typeCount, typeWord, elementCount, memberCountOf}
 use Rattle.objects.specs.Types.{typeFrom, typeRead, firstRead, totalRead}
 use Rattle.objects.specs.Laid.{Laid, endOf}

@@ -1,8 +1,8 @@
 -- One step of identity by places: two types of one kind and one own number agree for one step more exactly if at each place their members are called
 -- alike and their parts agree.
 use mathlib.Core.Path.{_≡_, refl, sym, ap, _∙_}
-use mathlib.Core.Bool.{Bool, true, false}
-use mathlib.Core.List.{List, [], _∷_, map}
+use mathlib.Core.Bool.{true}
+use mathlib.Core.List.{[], map}
 use mathlib.Core.Logic.{_≢_}
 use Prim.Native.Nat.{ℕ, suc, _+_, _<_, _≤_}
 use native.Mathlib.Omega.{arith}
@@ -11,10 +11,10 @@ use lib.ListN.{length, length-map}
 use borrow.Author.Tests.{eqb-true, eqb-false, eq-eqb, lt-ltb, le-ltb, ltb-true, ltb-false}
 use Rattle.objects.specs.declared.TypeKey.{TypeKey}
 use Rattle.objects.specs.Lists.{Bytes, upTo}
-use Rattle.objects.specs.Table.{Member, Kind, Basic, Array, Slice, Pointer, Map, Chan, Tuple, Func, Struct, Iface, Named, objKey, size, kindNumber, membersOf, kindAt}
-use Rattle.objects.specs.Rows.{Words, typeCount, memberAt, membersFrom, kindRead, tableOf}
+use Rattle.objects.specs.Table.{Member, Kind, Basic, Array, Slice, Pointer, Map, Chan, Tuple, Func, Struct, Iface, Named, objKey, kindNumber, membersOf, kindAt}
+use Rattle.objects.specs.Rows.{Words, typeCount, memberAt, membersFrom, tableOf}
 use Rattle.objects.specs.Types.{numberRead, firstRead, totalRead}
-use Rattle.objects.proofs.ListLaws.{cases, clash}
+use Rattle.objects.proofs.ListLaws.{cases}
 use Rattle.objects.proofs.KeyLaws.{key-eq}
 use Rattle.objects.proofs.PairLaws.{AllPairs, pairs-self, pairs-at, pairs-from}
 use Rattle.objects.proofs.Numbers.{each-length, each-pairs, pairs-each}

@@ -11,7 +11,7 @@ use borrow.Author.Tests.{eqb-true, eqb-false, not-true, not-false}
 use Rattle.objects.specs.declared.TypeKey.{TypeKey}
 use Rattle.objects.specs.Bounds.{maxTypes, markWords}
 use Rattle.objects.specs.Table.{Table, typeKey}
-use Rattle.objects.proofs.ListLaws.{cases, clash, either}
+use Rattle.objects.proofs.ListLaws.{cases, clash}
 use Rattle.objects.proofs.BoolLaws.{false-of}
 use Rattle.objects.proofs.KeyLaws.{key-eq}
 use Rattle.rules.specs.Identity.{identical}
@@ -19,7 +19,7 @@ use Rattle.rules.specs.StepIdentity.{sameIn}
 use Rattle.rules.specs.Sound.{Sound}
 use Rattle.rules.proofs.StepLaws.{same-zero}
 use Rattle.rules.proofs.IdentityLaws.{identical-steps, identical-self}
-use Rattle.typ.specs.Marks.{bitAt, met, meet, unmet}
+use Rattle.typ.specs.Marks.{met, meet, unmet}
 use Rattle.typ.specs.Compared.{pairs, pair, opened, Clean, Grown, Kin, Apart, Well, AllMet, NewMet, Leads, Compared, PartsCompared, State, Turn}
 use Rattle.typ.proofs.Bits.{met-other, unmet-falls}
 use Rattle.typ.proofs.Marked.{grown-meet, all-less, pair-one}

@@ -1,6 +1,5 @@
 // Identity and comparability of types, as goscript's typ.rs has them, on the rows of a loaded table: `identical`, `comparable`, and `BasicType` with
 // `real_type`.
-ghost use mathlib.Core.Path.{_≡_};
 
 pub mod basic; // the basic types
 pub mod comparable; // C

@@ -4,7 +4,7 @@ ghost use mathlib.Core.Path.{_≡_};
 ghost use Prim.Native.Nat.{_+_, _<_};
 ghost use Rattle.objects.specs.Rows.{tableOf, memberAt, bytesAt, pkgOf};
 ghost use Rattle.objects.specs.Types.{firstRead};
-ghost use Rattle.objects.specs.Table.{dirNumber, bit, pathOf};
+ghost use Rattle.objects.specs.Table.{dirNumber, pathOf};
 ghost use Rattle.text.specs.Bytes.{exported};
 ghost use Rattle.rules.specs.Members.{samePath, sameMember};
 ghost use Rattle.rules.specs.Identity.{alikeMember};

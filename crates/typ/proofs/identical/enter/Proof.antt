@@ -1,6 +1,5 @@
 use borrow.Author.Needs.{needs}
 use mathlib.Core.Path.{sym, _∙_}
-use native.Mathlib.Omega.{arith}
 use Rattle.typ.proofs.Cycle.{enter-met, enter-off, enter-open}
 use Rattle.typ.proofs.identical.enter.Statement.{statement}
 use Rattle.typ.proofs.identical.enter.Tie as tie

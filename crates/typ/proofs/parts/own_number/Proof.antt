@@ -1,5 +1,5 @@
 use borrow.Author.Needs.{needs}
-use mathlib.Core.Path.{refl, sym, ap, _∙_}
+use mathlib.Core.Path.{sym, ap, _∙_}
 use Rattle.objects.specs.Table.{bit}
 use Rattle.typ.specs.Parts.{ownIn}
 use Rattle.typ.proofs.ReadLaws.{own-as}

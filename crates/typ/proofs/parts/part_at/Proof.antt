@@ -1,5 +1,5 @@
 use borrow.Author.Needs.{needs}
-use mathlib.Core.Path.{refl, sym, ap, _∙_}
+use mathlib.Core.Path.{_∙_}
 use native.Mathlib.Omega.{arith}
 use Rattle.typ.specs.Parts.{partIn}
 use Rattle.typ.proofs.ReadLaws.{part-as, span-as, part-first, part-second}

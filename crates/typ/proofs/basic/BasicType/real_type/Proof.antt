@@ -1,4 +1,3 @@
-use borrow.Author.Needs.{needs}
 use Rattle.typ.proofs.ReadLaws.{real-byte, real-rune, real-rest}
 use Rattle.typ.proofs.basic.BasicType.real_type.Statement.{statement}
 use Rattle.typ.proofs.basic.BasicType.real_type.Tie as tie
