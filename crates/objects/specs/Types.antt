@@ -1,11 +1,13 @@
--- What the code reads off the rows of types and members: each reader as a function of the words, and the kind that a `Type` of the code stands for.
--- proofs/RowLaws.antt ties each of them to the table that the rows hold.
+-- What the code reads off the rows of types and members: each reader as a function of the words, the kind that a `Type` of the code stands for, and
+-- what a `Stage` of it found. proofs/RowLaws.antt ties each reader to the table that the rows hold.
 use mathlib.Core.Bool.{Bool, cond, _&&_}
+use mathlib.Core.Option.{Option, none, some}
 use Prim.Native.Nat.{ℕ}
 use lib.Dec.{eqb, ltb}
 use Rattle.objects.specs.declared.TypeKey.{TypeKey}
 use Rattle.objects.specs.declared.ObjKey.{ObjKey}
 use Rattle.objects.specs.declared.«Type».{«Type»}
+use Rattle.objects.specs.declared.Stage.{Stage}
 use Rattle.objects.specs.Lists.{Bytes}
 use Rattle.objects.specs.Table.{Kind, Basic, Array, Slice, Pointer, Map, Chan, Tuple, Func, Struct, Iface, Named, typeKey}
 use Rattle.objects.specs.Rows.{Words, typeWord, memberWord, dirAt, membersFrom, elementsFrom}
@@ -93,3 +95,10 @@ module _ (rows : Words) where
 
   unfoldable pub ptrRead : ObjKey → Bool
   ptrRead m = ltb 2 (memberWord rows m 4)
+
+-- ---- a stage of loading
+
+-- the line that was found, if there is one
+unfoldable pub found : Stage → Option ℕ
+found Stage.Passed = none
+found (Stage.Bad line) = some line

@@ -1,5 +1,5 @@
-// The keys of a type table, as goscript's objects.rs has them, the direction of a channel, and what a type's row says. A type number, a member number
-// and a package number are each a kind of their own, so that none is read as another.
+// The keys of a type table, as goscript's objects.rs has them, the direction of a channel, what a type's row says, and what a stage of loading finds. A
+// type number, a member number and a package number are each a kind of their own, so that none is read as another.
 
 pub mod rows; // the readers of a loaded table
 pub mod writers; // what adds a line to it
@@ -30,4 +30,10 @@ pub enum Type {
     Struct(u32, u32),
     Iface(u32, u32),
     Named(TypeKey, u32, u32),
+}
+
+// What a stage of loading finds: nothing, or the line of the first that fails.
+pub enum Stage {
+    Passed,
+    Bad(u32),
 }
