@@ -10,8 +10,8 @@ use Rattle.gospec.specs.Go.{SameNames, Identical}
 use Rattle.gospec.specs.GoSelectors.{underlying, Denotes, Callable}
 use Rattle.gospec.specs.Says.{blank}
 
--- t's method set includes m: "x.f is a legal selector that denotes that .. method f" (Struct types, of promoted methods), the method set of t contains it, t's
--- value being addressable or not, and its type is m's.
+-- t's method set includes m: "x.f is a legal selector that denotes that .. method f" (Struct types, of promoted methods), the method set of t itself contains
+-- it (no address is taken), and its type is m's.
 pub record HasMethod (T : Table) (R : TypeKey → Type 0) (t : TypeKey) (m : Member) : Type 0 where
   pub places : List ℕ
   pub found : Member

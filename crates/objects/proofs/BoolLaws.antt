@@ -1,6 +1,6 @@
--- Laws of conjunction, of two and of a list, and of equality of Booleans, beside those of ListLaws and PartLaws.
+-- Laws of conjunction, of two and of a list, of negation and of equality of Booleans, beside those of ListLaws and PartLaws.
 use mathlib.Core.Path.{_≡_, refl, sym}
-use mathlib.Core.Bool.{Bool, true, false, _&&_, Bool·beq}
+use mathlib.Core.Bool.{Bool, true, false, not, _&&_, Bool·beq}
 use mathlib.Core.List.{List, [], _∷_}
 use mathlib.Core.Logic.{_⊎_, inl, inr}
 use Rattle.objects.specs.Lists.{every, In}
@@ -8,6 +8,10 @@ use Rattle.objects.proofs.ListLaws.{clash}
 
 pub and-i : {a b : Bool} → a ≡ true → b ≡ true → a && b ≡ true
 and-i p q = rw p q
+
+pub and-yes : (a : Bool) → a && true ≡ a
+and-yes true = refl
+and-yes false = refl
 
 pub and-no : (a b : Bool) → a && b ≡ false → (a ≡ false) ⊎ (b ≡ false)
 and-no true b h = inr h
@@ -22,6 +26,10 @@ pub iff-eq : (a b : Bool) → (a ≡ true → b ≡ true) → (b ≡ true → a 
 iff-eq true b f g = sym (f refl)
 iff-eq false true f g = g refl
 iff-eq false false f g = refl
+
+pub not-yes : (b : Bool) → not b ≡ true → b ≡ false
+not-yes true h = sym h
+not-yes false h = refl
 
 pub false-of : (b : Bool) → (b ≡ true → ⊥) → b ≡ false
 false-of true h = absurd (h refl)

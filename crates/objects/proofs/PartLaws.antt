@@ -1,12 +1,14 @@
 -- Laws of the parts of a list: what stands before a member, the last, places, and lists in order (specs/Lists.antt).
 use mathlib.Core.Path.{_≡_, refl, sym, ap, _∙_}
-use mathlib.Core.Bool.{Bool, true}
+use mathlib.Core.Bool.{Bool, true, _&&_}
 use mathlib.Core.List.{List, [], _∷_, _++_, append-assoc, append-nil, cons≢nil}
 use mathlib.Core.Logic.{_⊎_, inl, inr}
-use Prim.Native.Nat.{ℕ, zero, suc, _<_, _≤_}
+use Prim.Native.Nat.{ℕ, zero, suc, _+_, _<_, _≤_}
+use native.Mathlib.Numerals.{add-one}
 use native.Mathlib.Omega.{arith}
 use lib.Dec.{ltb}
-use lib.ListN.{length, getD}
+use lib.ListN.{length, getD, drop, drop-of-length-le}
+use lib.Seq.{drop-cons}
 use borrow.Author.Tests.{ltb-true}
 use Rattle.objects.specs.Lists.{every, lastOr, lastOf, onLast, flat, In, Sorted}
 use Rattle.objects.proofs.ListLaws.{and-l, and-r, either}
@@ -49,7 +51,19 @@ module _ {A : Type 0} where
       first rest x (inl e) = rw e next
       first rest x (inr i) = trans y z x next (rest x i)
 
+  -- each from a place on passes the test
+  pub every-next : (p : A → Bool) (l : List A) (i : ℕ) (x : A) → i < length l → getD l i x ≡ x → every p (drop i l) ≡ p x && every p (drop (i + 1) l)
+  every-next p l i x h e = rw (drop-cons l i x h, e, add-one i)
+
+  pub every-end : (p : A → Bool) (l : List A) (i : ℕ) → length l ≤ i → every p (drop i l) ≡ true
+  every-end p l i h = rw (drop-of-length-le l h)
+
   -- ---- one more at the end
+
+  pub last-snoc : (l : List A) (x : A) → lastOf (l ++ (x ∷ [])) ≡ x ∷ []
+  last-snoc [] x = refl
+  last-snoc (y ∷ []) x = refl
+  last-snoc (y ∷ z ∷ l) x = last-snoc (z ∷ l) x
 
   pub all-snoc : (P : A → Type 0) (l : List A) (y : A) → ((x : A) → In x l → P x) → P y → (x : A) → In x (l ++ (y ∷ [])) → P x
   all-snoc P [] y h k x (inl e) = rw e k

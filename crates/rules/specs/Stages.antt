@@ -3,8 +3,9 @@ use mathlib.Core.Bool.{Bool, true, false}
 use mathlib.Core.List.{List, [], _∷_}
 use mathlib.Core.Option.{Option, none, some}
 use Prim.Native.Nat.{ℕ}
-use Rattle.objects.specs.Table.{Table}
-use Rattle.rules.specs.Checks.{Item, lineOfItem}
+use Rattle.objects.specs.declared.TypeKey.{TypeKey}
+use Rattle.objects.specs.Table.{Table, Kind, membersOf}
+use Rattle.rules.specs.Checks.{Item, typeItem, memberItems, lineOfItem}
 use Rattle.rules.specs.Load.{Loaded, refused}
 
 unfoldable pub firstLine : Table → (Item → Bool) → List Item → Option ℕ
@@ -23,3 +24,13 @@ staged n (some line) rest = refused n line
 unfoldable pub orElse : Option ℕ → Option ℕ → Option ℕ
 orElse none b = b
 orElse (some a) b = some a
+
+-- ---- the lines of one type
+
+-- the F or M lines under the T line of t, which is of kind k
+unfoldable pub linesUnder : TypeKey → Kind → List Item
+linesUnder t k = memberItems t k [] (membersOf k)
+
+-- its T line and those under it
+unfoldable pub linesOf : TypeKey → Kind → List Item
+linesOf t k = typeItem t k ∷ linesUnder t k

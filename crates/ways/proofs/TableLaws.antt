@@ -38,7 +38,7 @@ use Rattle.ways.proofs.Bridge.{ways-are}
 
 -- ---- places
 
-places-from : (n : ℕ) (ms : List Member) (p : Place) → In p (placesFrom n ms) → (n ≤ p .place) × In (p .member) ms
+pub places-from : (n : ℕ) (ms : List Member) (p : Place) → In p (placesFrom n ms) → (n ≤ p .place) × In (p .member) ms
 places-from n (m ∷ ms) p (inl e) = rw e (omega arith, inl refl)
 places-from n (m ∷ ms) p (inr i) = let r = places-from (suc n) ms p i in let h = r .0 in (omega arith, inr (r .1))
 

@@ -1,0 +1,193 @@
+-- The other pairs of texts of specs/Incident.antt are growths too.
+use mathlib.Core.Path.{_≡_, refl, ap}
+use mathlib.Core.Bool.{true, false}
+use mathlib.Core.List.{[], _∷_}
+use mathlib.Core.Logic.{inl, inr}
+use Prim.Native.Nat.{ℕ, zero, suc, _<_}
+use native.Mathlib.Omega.{arith}
+use Rattle.objects.specs.declared.TypeKey.{TypeKey}
+use Rattle.objects.specs.declared.PackageKey.{PackageKey}
+use Rattle.objects.specs.Table.{Table, typeKey, objKey, packageKey, Field, Method, Basic, Tuple, Func, Struct, Iface, Named, Pointer, kindAt}
+use Rattle.text.specs.Bytes.{ascii}
+use Rattle.rules.specs.Load.{load, loaded}
+use Rattle.rules.specs.Rows.{called}
+use Rattle.growth.specs.Grown.{Numbers, Grew, grew-tuple, grew-func, grew-iface, grew-pointer, grew-struct, grew-named, GrownTexts}
+use Rattle.growth.specs.Incident.{alone, both, three, elsewhere, own}
+use Rattle.growth.proofs.Shown.{free-by, shift, shift-in, member-own}
+use Rattle.growth.proofs.Disk.{line, writer, catalogue, writer-loads, catalogue-loads}
+
+-- ---- a package and a type in front, and a method of the block writer: P, T and M lines
+
+abbrev flushing : Table
+flushing = record {
+  packages = ascii "office" ∷ ascii "disk" ∷ [];
+  types =
+      Basic 2
+      ∷ Tuple []
+      ∷ Func false (typeKey 1) (typeKey 1)
+      ∷ Struct []
+      ∷ Named (typeKey 3) (line 0 "Close" 1 2 (Method true) ∷ line 1 "Flush" 1 2 (Method true) ∷ [])
+      ∷ Struct (line 2 "BlockWriter" 1 4 (Field true []) ∷ [])
+      ∷ Named (typeKey 5) []
+      ∷ Pointer (typeKey 6)
+      ∷ Iface (line 3 "Close" 1 2 (Method false) ∷ [])
+      ∷ [];
+  typeLines = 4 ∷ 5 ∷ 6 ∷ 7 ∷ 8 ∷ 11 ∷ 13 ∷ 14 ∷ 15 ∷ [];
+  memberLines = 9 ∷ 10 ∷ 12 ∷ 16 ∷ [];
+}
+
+abbrev moved : Numbers
+moved = record { pk = λ p. packageKey (suc (p .0)); ty = λ t. typeKey (suc (t .0)); mem = λ m. objKey (shift 1 1 (m .0)) }
+
+flushing-grew : (t : ℕ) → t < 8 → Grew moved writer (typeKey t) (kindAt writer (typeKey t)) (kindAt flushing (typeKey (suc t)))
+unfolding kindAt
+flushing-grew zero h = grew-tuple
+flushing-grew (suc zero) h = grew-func
+flushing-grew (suc (suc zero)) h = grew-struct [] refl (inl refl)
+flushing-grew (suc (suc (suc zero))) h = grew-named (line 1 "Flush" 1 2 (Method true) ∷ []) refl
+flushing-grew (suc (suc (suc (suc zero)))) h = grew-struct [] refl (inl refl)
+flushing-grew (suc (suc (suc (suc (suc zero))))) h = grew-named [] refl
+flushing-grew (suc (suc (suc (suc (suc (suc zero)))))) h = grew-pointer
+flushing-grew (suc (suc (suc (suc (suc (suc (suc zero))))))) h = grew-iface
+flushing-grew (suc (suc (suc (suc (suc (suc (suc (suc t)))))))) h = absurd (omega arith)
+
+flushing-loads : load elsewhere ≡ loaded flushing
+unfolding called
+flushing-loads = refl
+
+pub elsewhere-grown : GrownTexts alone elsewhere
+elsewhere-grown = record {
+  old = writer;
+  new = flushing;
+  oldLoads = writer-loads;
+  newLoads = flushing-loads;
+  numbers = moved;
+  grown = record {
+    packageIn = λ p h. omega arith;
+    packageOwn = λ p q h k e. let z : suc (p .0) ≡ suc (q .0) = ap (λ (x : PackageKey). x .0) e in let same : p .0 ≡ q .0 = omega arith in ap packageKey same;
+    typeIn = λ t h. omega arith;
+    typeOwn = λ t u h k e. let z : suc (t .0) ≡ suc (u .0) = ap (λ (x : TypeKey). x .0) e in let same : t .0 ≡ u .0 = omega arith in ap typeKey same;
+    memberIn = λ m h. shift-in 1 1 3 (m .0) h;
+    memberOwn = λ m o h k e. member-own 1 1 m o e;
+    paths = λ p h. refl;
+    grew = λ t h. flushing-grew (t .0) h;
+  };
+}
+
+-- ---- the catalogue's own `Close`: an M line at the end of a named type
+
+abbrev closing : Table
+closing = record {
+  packages = ascii "disk" ∷ [];
+  types =
+      Tuple []
+      ∷ Func false (typeKey 0) (typeKey 0)
+      ∷ Struct []
+      ∷ Named (typeKey 2) (line 0 "Close" 0 1 (Method true) ∷ [])
+      ∷ Struct (line 1 "BlockWriter" 0 3 (Field true []) ∷ [])
+      ∷ Named (typeKey 4) (line 2 "Close" 0 1 (Method true) ∷ [])
+      ∷ Pointer (typeKey 5)
+      ∷ Iface (line 3 "Close" 0 1 (Method false) ∷ [])
+      ∷ [];
+  typeLines = 3 ∷ 4 ∷ 5 ∷ 6 ∷ 8 ∷ 10 ∷ 12 ∷ 13 ∷ [];
+  memberLines = 7 ∷ 9 ∷ 11 ∷ 14 ∷ [];
+}
+
+-- only members from a number on move up, by one
+abbrev from : ℕ → Numbers
+from k = record { pk = λ p. p; ty = λ t. t; mem = λ m. objKey (shift k 1 (m .0)) }
+
+closing-grew : (t : ℕ) → t < 8 → Grew (from 2) writer (typeKey t) (kindAt writer (typeKey t)) (kindAt closing (typeKey t))
+unfolding kindAt
+closing-grew zero h = grew-tuple
+closing-grew (suc zero) h = grew-func
+closing-grew (suc (suc zero)) h = grew-struct [] refl (inl refl)
+closing-grew (suc (suc (suc zero))) h = grew-named [] refl
+closing-grew (suc (suc (suc (suc zero)))) h = grew-struct [] refl (inl refl)
+closing-grew (suc (suc (suc (suc (suc zero))))) h = grew-named (line 2 "Close" 0 1 (Method true) ∷ []) refl
+closing-grew (suc (suc (suc (suc (suc (suc zero)))))) h = grew-pointer
+closing-grew (suc (suc (suc (suc (suc (suc (suc zero))))))) h = grew-iface
+closing-grew (suc (suc (suc (suc (suc (suc (suc (suc t)))))))) h = absurd (omega arith)
+
+closing-loads : load own ≡ loaded closing
+unfolding called
+closing-loads = refl
+
+pub own-grown : GrownTexts alone own
+own-grown = record {
+  old = writer;
+  new = closing;
+  oldLoads = writer-loads;
+  newLoads = closing-loads;
+  numbers = from 2;
+  grown = record {
+    packageIn = λ p h. h;
+    packageOwn = λ p q h k e. e;
+    typeIn = λ t h. h;
+    typeOwn = λ t u h k e. e;
+    memberIn = λ m h. shift-in 2 1 3 (m .0) h;
+    memberOwn = λ m o h k e. member-own 2 1 m o e;
+    paths = λ p h. refl;
+    grew = λ t h. closing-grew (t .0) h;
+  };
+}
+
+-- ---- a third type that the catalogue embeds: T lines with theirs, and an F line
+
+abbrev taping : Table
+taping = record {
+  packages = ascii "disk" ∷ [];
+  types =
+      Tuple []
+      ∷ Func false (typeKey 0) (typeKey 0)
+      ∷ Struct []
+      ∷ Named (typeKey 2) (line 0 "Close" 0 1 (Method true) ∷ [])
+      ∷ Struct []
+      ∷ Named (typeKey 4) (line 1 "Close" 0 1 (Method true) ∷ [])
+      ∷ Struct (line 2 "BlockWriter" 0 3 (Field true []) ∷ line 3 "Cartridge" 0 5 (Field true []) ∷ line 4 "Tape" 0 11 (Field true []) ∷ [])
+      ∷ Named (typeKey 6) []
+      ∷ Pointer (typeKey 7)
+      ∷ Iface (line 5 "Close" 0 1 (Method false) ∷ [])
+      ∷ Struct []
+      ∷ Named (typeKey 10) (line 6 "Close" 0 1 (Method true) ∷ [])
+      ∷ [];
+  typeLines = 3 ∷ 4 ∷ 5 ∷ 6 ∷ 8 ∷ 9 ∷ 11 ∷ 15 ∷ 16 ∷ 17 ∷ 19 ∷ 20 ∷ [];
+  memberLines = 7 ∷ 10 ∷ 12 ∷ 13 ∷ 14 ∷ 18 ∷ 21 ∷ [];
+}
+
+taping-grew : (t : ℕ) → t < 10 → Grew (from 4) catalogue (typeKey t) (kindAt catalogue (typeKey t)) (kindAt taping (typeKey t))
+unfolding kindAt
+taping-grew zero h = grew-tuple
+taping-grew (suc zero) h = grew-func
+taping-grew (suc (suc zero)) h = grew-struct [] refl (inl refl)
+taping-grew (suc (suc (suc zero))) h = grew-named [] refl
+taping-grew (suc (suc (suc (suc zero)))) h = grew-struct [] refl (inl refl)
+taping-grew (suc (suc (suc (suc (suc zero))))) h = grew-named [] refl
+taping-grew (suc (suc (suc (suc (suc (suc zero)))))) h = grew-struct (line 4 "Tape" 0 11 (Field true []) ∷ []) refl (inr (free-by (from 4) catalogue (typeKey 6) 7 refl refl))
+taping-grew (suc (suc (suc (suc (suc (suc (suc zero))))))) h = grew-named [] refl
+taping-grew (suc (suc (suc (suc (suc (suc (suc (suc zero)))))))) h = grew-pointer
+taping-grew (suc (suc (suc (suc (suc (suc (suc (suc (suc zero))))))))) h = grew-iface
+taping-grew (suc (suc (suc (suc (suc (suc (suc (suc (suc (suc t)))))))))) h = absurd (omega arith)
+
+taping-loads : load three ≡ loaded taping
+unfolding called
+taping-loads = refl
+
+pub three-grown : GrownTexts both three
+three-grown = record {
+  old = catalogue;
+  new = taping;
+  oldLoads = catalogue-loads;
+  newLoads = taping-loads;
+  numbers = from 4;
+  grown = record {
+    packageIn = λ p h. h;
+    packageOwn = λ p q h k e. e;
+    typeIn = λ t h. omega arith;
+    typeOwn = λ t u h k e. e;
+    memberIn = λ m h. let l = shift-in 4 1 5 (m .0) h in omega arith;
+    memberOwn = λ m o h k e. member-own 4 1 m o e;
+    paths = λ p h. refl;
+    grew = λ t h. taping-grew (t .0) h;
+  };
+}

@@ -1,0 +1,11 @@
+pub mod GrowWays
+pub mod GrowKinds
+pub mod GrowIdentity
+pub mod GrowGraph
+pub mod GrowSelect
+pub mod GrowMissing
+pub mod Promised
+pub mod Computed
+pub mod Shown
+pub mod Disk
+pub mod Growths

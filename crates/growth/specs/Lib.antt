@@ -1,0 +1,4 @@
+pub mod Grown
+pub mod Promise
+pub mod Calls
+pub mod Incident
