@@ -1,0 +1,2 @@
+pub mod MemberRuns
+pub mod ClashLaws
