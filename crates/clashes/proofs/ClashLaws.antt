@@ -4,6 +4,7 @@ use mathlib.Core.Bool.{Bool, true, false, not, _&&_, _||_}
 use mathlib.Core.List.{List, [], _∷_}
 use mathlib.Core.Option.{Option, none, some}
 use Prim.Native.Nat.{ℕ, _+_, _≤_, _<_}
+use native.Mathlib.Numerals.{add-one}
 use native.Mathlib.Omega.{arith}
 use lib.Dec.{eqb}
 use lib.ListN.{length, take}
@@ -11,28 +12,34 @@ use borrow.Author.Tests.{eq-eqb, ne-eqb, not-false}
 use Rattle.objects.specs.declared.TypeKey.{TypeKey}
 use Rattle.objects.specs.declared.ObjKey.{ObjKey}
 use Rattle.objects.specs.declared.Stage.{Stage}
-use Rattle.objects.specs.Lists.{Bytes, any, In}
-use Rattle.objects.specs.Table.{Table, Member, Kind, Named, typeKey, objKey, size, kindNumber, membersOf, fieldsOf, hasType, hasPackage, kindAt}
+use Rattle.objects.specs.Lists.{Bytes, any, In, Sorted}
+use Rattle.objects.specs.Table.{Table, Member, Kind, Named, typeKey, objKey, size, kindNumber, isIface, membersOf, fieldsOf, hasType, hasPackage, kindAt}
 use Rattle.objects.specs.Rows.{Words, typeCount, typeWord, memberWord, memberAt, membersFrom, tableOf}
 use Rattle.objects.specs.Types.{numberRead, firstRead, totalRead, found}
 use Rattle.objects.specs.Laid.{Laid}
-use Rattle.objects.proofs.ListLaws.{cases, clash, either, or-false, and-r}
+use Rattle.objects.proofs.ListLaws.{cases, clash, either, or-false, or-true, or-l, or-r, and-r}
 use Rattle.objects.proofs.PartLaws.{parted}
-use Rattle.objects.proofs.RowLaws.{size-read, number-read, fields-read, kind-beyond, members-have}
+use Rattle.objects.proofs.RowLaws.{size-read, number-read, fields-read, kind-beyond, members-have, members-more}
 use Rattle.text.specs.Bytes.{isBlank}
 use Rattle.rules.specs.Members.{sameMember}
-use Rattle.rules.specs.Checks.{Item, memberItem, items, lacking, ascends, clashing}
+use Rattle.rules.specs.Checks.{Item, memberItem, items, lacking, ascends, equalsField, clashing}
 use Rattle.rules.specs.Stages.{firstLine, linesUnder, linesOf}
+use Rattle.rules.specs.Sound.{Lower}
 use Rattle.rules.proofs.StageLaws.{first-here, first-later}
 use Rattle.rules.proofs.CheckLaws.{member-item}
 use Rattle.rules.proofs.ItemLaws.{lines-on, membersLeft, members-on, members-stop}
 use Rattle.references.specs.Lines.{linesRead}
 use Rattle.references.proofs.RowKinds.{named-row, some-under, members-row, members-count, members-get, member-there}
 use Rattle.references.proofs.Walking.{member-line}
-use Rattle.clashes.specs.Packaged.{PackagedFrom, Packaged}
+use Rattle.clashes.specs.Known.{PackagedFrom, Packaged, Rising}
 use Rattle.clashes.proofs.MemberRuns.{members-take}
+use Rattle.clashes.proofs.RisingLaws.{none-same, rising-more}
 
 -- ---- one line, by the kind of the type above it
+
+and-none : (a : Bool) → a && false ≡ false
+and-none true = refl
+and-none false = refl
 
 module _ (T : Table) (t : TypeKey) (before : List Member) (m : Member) where
   -- not blank, and one of those before has its identity
@@ -42,6 +49,20 @@ module _ (T : Table) (t : TypeKey) (before : List Member) (m : Member) where
   clash-iface : (k : Kind) → kindNumber k ≡ 9 → {a b : Bool} → a ≡ again → b ≡ not (ascends T before m) → a || b ≡ clashing T (memberItem t k before m)
   unfolding clashing
   clash-iface k e pa pb = rw (pa, pb, e) (sym (or-false (again || not (ascends T before m))))
+
+  -- the methods before ascend
+  clash-rising : (k : Kind) → kindNumber k ≡ 9 → Sorted (Lower T) before → {b : Bool} → b ≡ not (ascends T before m) → b ≡ clashing T (memberItem t k before m)
+  clash-rising k e s {b = b} pb =
+      cases (ascends T before m)
+      (λ up. let z : again ≡ false = rw (none-same T before m s up) (and-none (not (isBlank (m .name)))) in clash-iface k e (sym z) pb)
+      (λ down. let q : b ≡ true = pb ∙ ap not down in q ∙ sym (or-true again) ∙ ap (λ x. again || x) (sym q) ∙ clash-iface k e refl pb)
+
+  -- a method that passes comes after them
+  clash-passes : (k : Kind) → kindNumber k ≡ 9 → clashing T (memberItem t k before m) ≡ false → ascends T before m ≡ true
+  unfolding clashing
+  clash-passes k e h =
+      let z : isIface k && not (ascends T before m) ≡ false = or-r again (isIface k && not (ascends T before m)) (or-l (again || (isIface k && not (ascends T before m))) (equalsField T k m) h) in
+      not-false (ascends T before m) (rw e at z)
 
   clash-named : (u : TypeKey) (ms : List Member) {a b : Bool} → a ≡ again → b ≡ any (sameMember T m) (fieldsOf (kindAt T u)) → a || b ≡ clashing T (memberItem t (Named u ms) before m)
   unfolding clashing
@@ -84,16 +105,17 @@ module _ (text : Bytes) (rows : Words) (t : TypeKey) (h : t .0 < typeCount rows)
   abbrev line : Kind → List Member → Item
   line k before = memberItem t k before (memberAt text rows (objKey (firstRead rows t + i)))
 
+  pub clashes-iface : Rising text rows t i → {first : ℕ} → first ≡ firstRead rows t → {k : ℕ} → k ≡ numberRead rows t → k ≡ 9
+      → {b : Bool} → b ≡ not (ascends (tableOf text rows) (membersFrom text rows first i) (memberAt text rows (objKey (first + i))))
+      → b ≡ clashing (tableOf text rows) (line (kindAt (tableOf text rows) t) (take i (membersOf (kindAt (tableOf text rows) t))))
+  clashes-iface s pf pk e pb =
+      clash-rising (tableOf text rows) t (membersFrom text rows (firstRead rows t) i) (memberAt text rows (objKey (firstRead rows t + i))) (kindAt (tableOf text rows) t)
+      (number-read text rows t h ∙ sym pk ∙ e) (s (sym pk ∙ e)) (rw pf at pb)
+      ∙ ap (λ bs. clashing (tableOf text rows) (line (kindAt (tableOf text rows) t) bs)) (sym above)
+
   module _ {first : ℕ} (pf : first ≡ firstRead rows t) {a : Bool}
       (pa : a ≡ not (isBlank (memberAt text rows (objKey (first + i)) .name)) && any (sameMember (tableOf text rows) (memberAt text rows (objKey (first + i)))) (membersFrom text rows first i))
       {k : ℕ} (pk : k ≡ numberRead rows t) where
-    pub clashes-iface : k ≡ 9 → {b : Bool} → b ≡ not (ascends (tableOf text rows) (membersFrom text rows first i) (memberAt text rows (objKey (first + i))))
-        → a || b ≡ clashing (tableOf text rows) (line (kindAt (tableOf text rows) t) (take i (membersOf (kindAt (tableOf text rows) t))))
-    clashes-iface e pb =
-        clash-iface (tableOf text rows) t (membersFrom text rows (firstRead rows t) i) (memberAt text rows (objKey (firstRead rows t + i))) (kindAt (tableOf text rows) t)
-        (number-read text rows t h ∙ sym pk ∙ e) (rw pf at pa) (rw pf at pb)
-        ∙ ap (λ bs. clashing (tableOf text rows) (line (kindAt (tableOf text rows) t) bs)) (sym above)
-
     pub clashes-named : k ≡ 10 → {w : ℕ} → w ≡ typeWord rows t 1 → {b : Bool}
         → b ≡ any (sameMember (tableOf text rows) (memberAt text rows (objKey (first + i)))) (fieldsOf (kindAt (tableOf text rows) (typeKey w)))
         → a || b ≡ clashing (tableOf text rows) (line (kindAt (tableOf text rows) t) (take i (membersOf (kindAt (tableOf text rows) t))))
@@ -125,6 +147,19 @@ module _ (text : Bytes) (rows : Words) (t : TypeKey) (h : t .0 < typeCount rows)
     clash-stop laid e pf p =
         members-stop (tableOf text rows) (clashing (tableOf text rows)) t _ i (memberAt text rows (objKey (firstRead rows t + i))) counted (members-get text rows t h i _ l) (sym pb ∙ e)
         ∙ ap some (member-line text rows t _ _ (objKey (firstRead rows t + i)) (member-there rows laid t h i l) ∙ sym (rw pf at p))
+
+    pub rising-on : b ≡ false → Rising text rows t i → Rising text rows t (i + 1)
+    rising-on e s n =
+        let T = tableOf text rows in
+        let m = memberAt text rows (objKey (firstRead rows t + i)) in
+        let before = membersFrom text rows (firstRead rows t) i in
+        let z : clashing T (line (kindAt T t) before) ≡ false = ap (λ bs. clashing T (line (kindAt T t) bs)) (sym above) ∙ sym pb ∙ e in
+        rw (add-one i, members-more text rows (firstRead rows t) i)
+        (rising-more T before m (s n) (clash-passes T t before m (kindAt T t) (number-read text rows t h ∙ n) z))
+
+pub rising-start : (text : Bytes) (rows : Words) (t : TypeKey) → Rising text rows t 0
+unfolding membersFrom
+rising-start text rows t e = tt
 
 -- a T line does not clash
 pub lines-clash : (T : Table) (t : TypeKey) (k : Kind) {r : Option ℕ} → r ≡ firstLine T (clashing T) (linesUnder t k) → r ≡ firstLine T (clashing T) (linesOf t k)

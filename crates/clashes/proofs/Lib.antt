@@ -1,2 +1,3 @@
 pub mod MemberRuns
+pub mod RisingLaws
 pub mod ClashLaws

@@ -1,1 +1,1 @@
-pub mod Packaged
+pub mod Known

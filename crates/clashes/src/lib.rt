@@ -1,5 +1,6 @@
 // Refusal 9 over the rows of a table: the line of the first member whose identity clashes, or that does not come after the method before it in an
-// interface. At worst each member is compared with all those above it under its T line; names of different lengths differ at once.
+// interface. At worst each field and each method of a named type is compared with all those above it under its T line; names of different lengths
+// differ at once.
 ghost use mathlib.Core.Path.{_≡_};
 ghost use mathlib.Core.Bool.{true, not, _&&_};
 ghost use mathlib.Core.Option.{none};
@@ -16,7 +17,7 @@ ghost use Rattle.rules.specs.Members.{sameMember};
 ghost use Rattle.rules.specs.Checks.{memberItem, items, lacking, ascends, clashing};
 ghost use Rattle.rules.specs.Stages.{firstLine, linesUnder};
 ghost use Rattle.references.specs.Lines.{linesRead};
-ghost use Rattle.clashes.specs.Packaged.{PackagedFrom, Packaged};
+ghost use Rattle.clashes.specs.Known.{PackagedFrom, Packaged, Rising};
 use obj::below_id;
 use obj::is_blank;
 use obj::same_member;
@@ -92,21 +93,20 @@ fn falls(text: &[u8], rows: &[u32], first: u32, n: u32) -> bool
 
 // ---- the lines of a type
 
-// The line of member i under t clashes.
+// The line of member i under t clashes. Methods of an interface that ascend have different identities, so that the one above is all that counts.
 fn member_clashes(text: &[u8], rows: &[u32], t: TypeKey, i: u32) -> bool
-    requires { ⌜ Laid (now rows) × Packaged (now text) (now rows) × (t .0 < typeCount (now rows)) × (i < linesRead (now rows) t) ⌝ }
+    requires { ⌜ Laid (now rows) × Packaged (now text) (now rows) × (t .0 < typeCount (now rows)) × (i < linesRead (now rows) t) × Rising (now text) (now rows) t i ⌝ }
     ensures { λ r. ⌜ r ≡ clashing (tableOf (now (text .entry)) (now (rows .entry))) (memberItem t (kindAt (tableOf (now (text .entry)) (now (rows .entry))) t) (take i (membersOf (kindAt (tableOf (now (text .entry)) (now (rows .entry))) t))) (memberAt (now (text .entry)) (now (rows .entry)) (objKey (firstRead (now (rows .entry)) t + i)))) ⌝ }
 {
     let first = first_member(rows, t);
     let m = ObjKey(first + i);
-    let again = repeats(text, rows, m, first, i);
     match kind_number(rows, t) {
-        9 => or(again, falls(text, rows, first, i)),
+        9 => falls(text, rows, first, i),
         10 => or(
-            again,
+            repeats(text, rows, m, first, i),
             in_fields(text, rows, m, TypeKey(type_word(rows, t, 1))),
         ),
-        _ => again,
+        _ => repeats(text, rows, m, first, i),
     }
 }
 
