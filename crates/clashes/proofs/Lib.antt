@@ -1,0 +1,3 @@
+pub mod MemberRuns
+pub mod RisingLaws
+pub mod ClashLaws

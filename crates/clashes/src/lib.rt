@@ -1,0 +1,149 @@
+// Refusal 9 over the rows of a table: the line of the first member whose identity clashes, or that does not come after the method before it in an
+// interface. At worst each field and each method of a named type is compared with all those above it under its T line; names of different lengths
+// differ at once.
+ghost use mathlib.Core.Path.{_≡_};
+ghost use mathlib.Core.Bool.{true, not, _&&_};
+ghost use mathlib.Core.Option.{none};
+ghost use Prim.Native.Nat.{_+_, _≤_, _<_};
+ghost use lib.ListN.{take};
+ghost use Rattle.objects.specs.Bounds.{maxElements};
+ghost use Rattle.objects.specs.Lists.{any};
+ghost use Rattle.objects.specs.Table.{objKey, hasPackage, membersOf, fieldsOf, kindAt};
+ghost use Rattle.objects.specs.Rows.{typeCount, memberAt, membersFrom, tableOf};
+ghost use Rattle.objects.specs.Types.{firstRead, found};
+ghost use Rattle.objects.specs.Laid.{Laid};
+ghost use Rattle.text.specs.Bytes.{isBlank};
+ghost use Rattle.rules.specs.Members.{sameMember};
+ghost use Rattle.rules.specs.Checks.{memberItem, items, lacking, ascends, clashing};
+ghost use Rattle.rules.specs.Stages.{firstLine, linesUnder};
+ghost use Rattle.references.specs.Lines.{linesRead};
+ghost use Rattle.clashes.specs.Known.{PackagedFrom, Packaged, Rising};
+use obj::below_id;
+use obj::is_blank;
+use obj::same_member;
+use objects::ObjKey;
+use objects::Stage;
+use objects::TypeKey;
+use objects::rows::first_member;
+use objects::rows::kind_number;
+use objects::rows::member_total;
+use objects::rows::member_word;
+use objects::rows::type_count;
+use objects::rows::type_word;
+use references::member_lines;
+use text::bytes::or;
+
+// ---- members of one identity
+
+// One of n members from a first one on has the identity of m.
+fn any_same(text: &[u8], rows: &[u32], m: ObjKey, first: u32, n: u32) -> bool
+    requires { ⌜ (hasPackage (tableOf (now text) (now rows)) (memberAt (now text) (now rows) m .pkg) ≡ true) × PackagedFrom (now text) (now rows) first n × (first + n ≤ maxElements) ⌝ }
+    ensures { λ r. ⌜ r ≡ any (sameMember (tableOf (now (text .entry)) (now (rows .entry))) (memberAt (now (text .entry)) (now (rows .entry)) m)) (membersFrom (now (text .entry)) (now (rows .entry)) first n) ⌝ }
+{
+    let mut i = 0;
+    while i < n {
+        if same_member(text, rows, m, ObjKey(first + i)) {
+            return true;
+        }
+        i += 1;
+    }
+    false
+}
+
+// "Blank fields `_` may repeat."
+fn repeats(text: &[u8], rows: &[u32], m: ObjKey, first: u32, n: u32) -> bool
+    requires { ⌜ (hasPackage (tableOf (now text) (now rows)) (memberAt (now text) (now rows) m .pkg) ≡ true) × PackagedFrom (now text) (now rows) first n × (first + n ≤ maxElements) ⌝ }
+    ensures { λ r. ⌜ r ≡ not (isBlank (memberAt (now (text .entry)) (now (rows .entry)) m .name)) && any (sameMember (tableOf (now (text .entry)) (now (rows .entry))) (memberAt (now (text .entry)) (now (rows .entry)) m)) (membersFrom (now (text .entry)) (now (rows .entry)) first n) ⌝ }
+{
+    if is_blank(text, rows, m) {
+        false
+    } else {
+        any_same(text, rows, m, first, n)
+    }
+}
+
+// "A named type's method differs from the fields of its struct."
+fn in_fields(text: &[u8], rows: &[u32], m: ObjKey, u: TypeKey) -> bool
+    requires { ⌜ Laid (now rows) × Packaged (now text) (now rows) × (hasPackage (tableOf (now text) (now rows)) (memberAt (now text) (now rows) m .pkg) ≡ true) ⌝ }
+    ensures { λ r. ⌜ r ≡ any (sameMember (tableOf (now (text .entry)) (now (rows .entry))) (memberAt (now (text .entry)) (now (rows .entry)) m)) (fieldsOf (kindAt (tableOf (now (text .entry)) (now (rows .entry))) u)) ⌝ }
+{
+    if type_count(rows) <= u.0 {
+        return false;
+    }
+    if kind_number(rows, u) == 8 {
+        any_same(text, rows, m, first_member(rows, u), member_total(rows, u))
+    } else {
+        false
+    }
+}
+
+// ---- methods of an interface
+
+// Of the members from a first one on, the one behind n of them does not come after the last of these.
+fn falls(text: &[u8], rows: &[u32], first: u32, n: u32) -> bool
+    requires { ⌜ PackagedFrom (now text) (now rows) first (n + 1) × (first + n ≤ maxElements) ⌝ }
+    ensures { λ r. ⌜ r ≡ not (ascends (tableOf (now (text .entry)) (now (rows .entry))) (membersFrom (now (text .entry)) (now (rows .entry)) first n) (memberAt (now (text .entry)) (now (rows .entry)) (objKey (first + n)))) ⌝ }
+{
+    if n == 0 {
+        false
+    } else {
+        !below_id(text, rows, ObjKey(first + (n - 1)), ObjKey(first + n))
+    }
+}
+
+// ---- the lines of a type
+
+// The line of member i under t clashes. Methods of an interface that ascend have different identities, so that the one above is all that counts.
+fn member_clashes(text: &[u8], rows: &[u32], t: TypeKey, i: u32) -> bool
+    requires { ⌜ Laid (now rows) × Packaged (now text) (now rows) × (t .0 < typeCount (now rows)) × (i < linesRead (now rows) t) × Rising (now text) (now rows) t i ⌝ }
+    ensures { λ r. ⌜ r ≡ clashing (tableOf (now (text .entry)) (now (rows .entry))) (memberItem t (kindAt (tableOf (now (text .entry)) (now (rows .entry))) t) (take i (membersOf (kindAt (tableOf (now (text .entry)) (now (rows .entry))) t))) (memberAt (now (text .entry)) (now (rows .entry)) (objKey (firstRead (now (rows .entry)) t + i)))) ⌝ }
+{
+    let first = first_member(rows, t);
+    let m = ObjKey(first + i);
+    match kind_number(rows, t) {
+        9 => falls(text, rows, first, i),
+        10 => or(
+            repeats(text, rows, m, first, i),
+            in_fields(text, rows, m, TypeKey(type_word(rows, t, 1))),
+        ),
+        _ => repeats(text, rows, m, first, i),
+    }
+}
+
+fn first_clash(text: &[u8], rows: &[u32], t: TypeKey) -> Stage
+    requires { ⌜ Laid (now rows) × Packaged (now text) (now rows) × (t .0 < typeCount (now rows)) ⌝ }
+    ensures { λ r. ⌜ found r ≡ firstLine (tableOf (now (text .entry)) (now (rows .entry))) (clashing (tableOf (now (text .entry)) (now (rows .entry)))) (linesUnder t (kindAt (tableOf (now (text .entry)) (now (rows .entry))) t)) ⌝ }
+{
+    let first = first_member(rows, t);
+    let n = member_lines(rows, t);
+    let mut i = 0;
+    while i < n {
+        if member_clashes(text, rows, t, i) {
+            return Stage::Bad(member_word(rows, ObjKey(first + i), 7));
+        }
+        i += 1;
+    }
+    Stage::Passed
+}
+
+// ---- the whole table
+
+// 9, of a table that passed 7
+pub fn clashing(text: &[u8], rows: &[u32]) -> Stage
+    requires { ⌜ Laid (now rows) × (firstLine (tableOf (now text) (now rows)) (lacking (tableOf (now text) (now rows))) (items (tableOf (now text) (now rows))) ≡ none) ⌝ }
+    ensures { λ r. ⌜ found r ≡ firstLine (tableOf (now (text .entry)) (now (rows .entry))) (clashing (tableOf (now (text .entry)) (now (rows .entry)))) (items (tableOf (now (text .entry)) (now (rows .entry)))) ⌝ }
+{
+    let n = type_count(rows);
+    let mut t = 0;
+    while t < n {
+        match first_clash(text, rows, TypeKey(t)) {
+            Stage::Passed => {
+                t += 1;
+            }
+            Stage::Bad(line) => {
+                return Stage::Bad(line);
+            }
+        }
+    }
+    Stage::Passed
+}

@@ -1,0 +1,2 @@
+pub mod IdentityLaws
+pub mod IdLaws
