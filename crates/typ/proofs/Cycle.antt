@@ -106,7 +106,7 @@ module _ (text : Bytes) (rows : Words) (lib : Library text rows) where
     -- ---- their parts
 
     module _ (i n : ℕ) (e : n ≡ partCount rows x) (h : i < n) where
-      right-part : i < partCount rows y
+      pub right-part : i < partCount rows y
       right-part = omega (arith, counts text rows x y left-in right-in (k .kinds) (k .owns))
 
       pub left-place : firstRead rows x + i < 65_536

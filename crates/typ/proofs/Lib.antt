@@ -1,10 +1,10 @@
 pub mod Spans
 pub mod ReadLaws
+pub mod StepAt
 pub mod MemberRead
 pub mod ContentLaws
 pub mod Bits
 pub mod Zero
-pub mod StepAt
 pub mod Marked
 pub mod Passing
 pub mod Rank

@@ -87,12 +87,12 @@ module _ (text : Bytes) (rows : Words) where
     pub named-count : numberRead rows x ≡ 10 → partCount rows x ≡ 0
     named-count e = sym count-parts ∙ ap length (named-parts (kindAt (tableOf text rows) x) (number-read text rows x h ∙ e))
 
-    members-read : 8 ≤ numberRead rows x → membersOf (kindAt (tableOf text rows) x) ≡ membersFrom text rows (firstRead rows x) (totalRead rows x)
+    pub members-read : 8 ≤ numberRead rows x → membersOf (kindAt (tableOf text rows) x) ≡ membersFrom text rows (firstRead rows x) (totalRead rows x)
     members-read g =
         let m = members-meant text rows x (numberRead rows x) g in
         rw (kind-read text rows x h) (rw (number-meant text rows x, eq-eqb (numberRead rows x) (numberRead rows x) refl) at m)
 
-    count-members : 8 ≤ numberRead rows x → numberRead rows x ≢ 10 → partCount rows x ≡ totalRead rows x
+    pub count-members : 8 ≤ numberRead rows x → numberRead rows x ≢ 10 → partCount rows x ≡ totalRead rows x
     count-members g n =
         let e = number-read text rows x h in
         sym count-parts ∙ members-parts (kindAt (tableOf text rows) x) (rw e g) (rw e n) ∙ ap length (members-read g) ∙ members-length text rows (firstRead rows x) (totalRead rows x)
@@ -103,7 +103,7 @@ module _ (text : Bytes) (rows : Words) where
     pub counts : partCount rows x ≡ partCount rows y
     counts = sym (count-parts x hx) ∙ parts-long x y (kindAt (tableOf text rows) x) (kindAt (tableOf text rows) y) kinds owns ∙ count-parts y hy
 
-    numbers : numberRead rows x ≡ numberRead rows y
+    pub numbers : numberRead rows x ≡ numberRead rows y
     numbers = sym (number-read text rows x hx) ∙ kinds ∙ number-read text rows y hy
 
     one-name : numberRead rows x ≡ 10 → x ≡ y

@@ -67,7 +67,7 @@ module _ (rows : Words) where
   contentAt t i = contentIn rows (typeRead rows t) i
 
 module _ (text : Bytes) (rows : Words) where
-  -- types met before are comparable: each was judged, and nothing that was met contains itself
+  -- every type met is comparable
   unfoldable pub MetComparable : List ℕ → Type 0
   MetComparable met = (t : ℕ) → t < typeCount rows → getD met t 0 ≢ 0 → comparable (tableOf text rows) (typeKey t) ≡ true
 

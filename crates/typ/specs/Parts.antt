@@ -5,11 +5,10 @@ use Prim.Native.Nat.{ℕ, zero, suc, _+_}
 use lib.Dec.{ltb}
 use Rattle.objects.specs.declared.TypeKey.{TypeKey}
 use Rattle.objects.specs.declared.ObjKey.{ObjKey}
-use Rattle.objects.specs.declared.PackageKey.{PackageKey}
 use Rattle.objects.specs.declared.«Type».{«Type»}
 use Rattle.objects.specs.Lists.{Bytes}
 use Rattle.objects.specs.Table.{typeKey, objKey, dirNumber, bit}
-use Rattle.objects.specs.Rows.{Words, packageCount, memberWord, packageWord, elementAt, memberAt, tableOf}
+use Rattle.objects.specs.Rows.{Words, memberWord, elementAt, memberAt, tableOf}
 use Rattle.objects.specs.Types.{typeRead, numberRead, firstRead, memberTypeRead, methodRead}
 use Rattle.rules.specs.Identity.{realType, alikeMember}
 
@@ -42,19 +41,19 @@ countIn («Type».Iface first count) = count
 countIn («Type».Named u first count) = 0
 
 -- the first of two, or the second
-abbrev pub either-at : ℕ → TypeKey → TypeKey → TypeKey
-either-at zero a b = a
-either-at (suc i) a b = b
+abbrev pub eitherAt : ℕ → TypeKey → TypeKey → TypeKey
+eitherAt zero a b = a
+eitherAt (suc i) a b = b
 
 unfoldable pub partIn : Words → «Type» → ℕ → TypeKey
 partIn rows («Type».Basic k) i = typeKey 0
 partIn rows («Type».Array n e) i = e
 partIn rows («Type».Slice e) i = e
 partIn rows («Type».Pointer e) i = e
-partIn rows («Type».Map k e) i = either-at i k e
+partIn rows («Type».Map k e) i = eitherAt i k e
 partIn rows («Type».Chan d e) i = e
 partIn rows («Type».Tuple first count) i = elementAt rows (first + i)
-partIn rows («Type».Func v p r) i = either-at i p r
+partIn rows («Type».Func v p r) i = eitherAt i p r
 partIn rows («Type».Struct first count) i = memberTypeRead rows (objKey (first + i))
 partIn rows («Type».Iface first count) i = memberTypeRead rows (objKey (first + i))
 partIn rows («Type».Named u first count) i = typeKey 0
@@ -76,10 +75,6 @@ module _ (rows : Words) where
   -- how long a member's tag is: a method has none
   unfoldable pub tagLength : ObjKey → ℕ
   tagLength m = cond (methodRead rows m) 0 (memberWord rows m 6)
-
-  -- how long a package's path is: a package that the table lacks has none
-  unfoldable pub pathLength : PackageKey → ℕ
-  pathLength p = cond (ltb (p .0) (packageCount rows)) (packageWord rows p 1) 0
 
 module _ (text : Bytes) (rows : Words) where
   -- the i-th members of x and y are called alike; a type without members has nothing that is called

@@ -21,7 +21,7 @@ pub fn set_met(marks: &mut [u32], p: usize)
     marks[p / 32] = w + (1u32 << (p % 32));
 }
 
-// Every word is 0 again: one store a word, which is less than the search for those that were set.
+// Every word is 0 again: one store for each, 4,096 after two types were compared, whichever were set.
 pub fn clear(marks: &mut [u32])
     ensures { λ _. ⌜ now (marks .exit) ≡ replicate (length (now (marks .entry))) 0 ⌝ }
 {

@@ -1,18 +1,19 @@
 // What a type is made of, read off the rows of a loaded table: the number that belongs to it, its parts by their places, and whether members at the same
-// place are called alike. Names and paths are compared on the text; no id is built.
+// place are called alike.
 ghost use mathlib.Core.Path.{_≡_};
+ghost use mathlib.Core.Bool.{true};
 ghost use Prim.Native.Nat.{_+_, _<_};
-ghost use Rattle.objects.specs.Rows.{tableOf, memberAt, bytesAt, pkgOf};
+ghost use Rattle.objects.specs.Rows.{tableOf, memberAt};
 ghost use Rattle.objects.specs.Types.{firstRead};
-ghost use Rattle.objects.specs.Table.{dirNumber, pathOf};
-ghost use Rattle.text.specs.Bytes.{exported};
-ghost use Rattle.rules.specs.Members.{samePath, sameMember};
+ghost use Rattle.objects.specs.Table.{dirNumber, hasPackage};
 ghost use Rattle.rules.specs.Identity.{alikeMember};
-ghost use Rattle.typ.specs.Parts.{ownRead, partCount, partAt, tagLength, pathLength, alikeAt};
+ghost use Rattle.rules.specs.Library.{Library};
+ghost use Rattle.typ.specs.Parts.{ownRead, partCount, partAt, tagLength, alikeAt};
+ghost use Rattle.typ.specs.Compared.{Kin};
 use crate::basic::BasicType;
+use obj::same_member;
 use objects::Dir;
 use objects::ObjKey;
-use objects::PackageKey;
 use objects::Type;
 use objects::TypeKey;
 use objects::rows::element;
@@ -22,8 +23,6 @@ use objects::rows::is_method;
 use objects::rows::kind_number;
 use objects::rows::member_type;
 use objects::rows::member_word;
-use objects::rows::package_count;
-use objects::rows::package_word;
 use objects::rows::type_of;
 use text::compare::same_part;
 
@@ -103,20 +102,6 @@ pub fn part_at(rows: &[u32], t: TypeKey, i: u32) -> TypeKey
 
 // ---- members
 
-// "first byte A to Z", of a name at a place of the text
-pub fn exported_at(text: &[u8], at: usize, len: usize) -> bool
-    ensures { λ r. ⌜ r ≡ exported (bytesAt (now (text .entry)) at len) ⌝ }
-{
-    if len == 0 {
-        return false;
-    }
-    if at < text.len() {
-        let b = text[at];
-        return 65 <= b && b <= 90;
-    }
-    false
-}
-
 // A method has no tag.
 pub fn tag_length(rows: &[u32], m: ObjKey) -> u32
     ensures { λ r. ⌜ r ≡ tagLength (now (rows .entry)) m ⌝ }
@@ -128,57 +113,9 @@ pub fn tag_length(rows: &[u32], m: ObjKey) -> u32
     }
 }
 
-pub fn path_length(rows: &[u32], p: PackageKey) -> u32
-    ensures { λ r. ⌜ r ≡ pathLength (now (rows .entry)) p ⌝ }
-{
-    if p.0 < package_count(rows) {
-        package_word(rows, p, 1)
-    } else {
-        0
-    }
-}
-
-// "equal package paths or no package on both sides"; a and b are a package's number and one, 0 for none.
-pub fn same_package(text: &[u8], rows: &[u32], a: u32, b: u32) -> bool
-    ensures { λ r. ⌜ r ≡ samePath (pathOf (tableOf (now (text .entry)) (now (rows .entry))) (pkgOf a)) (pathOf (tableOf (now (text .entry)) (now (rows .entry))) (pkgOf b)) ⌝ }
-{
-    if a == b {
-        return true;
-    }
-    if a == 0 {
-        return false;
-    }
-    if b == 0 {
-        return false;
-    }
-    let p = PackageKey(a - 1);
-    let q = PackageKey(b - 1);
-    let pa = package_word(rows, p, 0);
-    let pn = path_length(rows, p);
-    let qa = package_word(rows, q, 0);
-    let qn = path_length(rows, q);
-    same_part(text, pa as usize, pn as usize, qa as usize, qn as usize)
-}
-
-// "equal names, and if not exported also equal package paths or no package on both sides (`same_id`)"
-pub fn same_member(text: &[u8], rows: &[u32], m: ObjKey, n: ObjKey) -> bool
-    ensures { λ r. ⌜ r ≡ sameMember (tableOf (now (text .entry)) (now (rows .entry))) (memberAt (now (text .entry)) (now (rows .entry)) m) (memberAt (now (text .entry)) (now (rows .entry)) n) ⌝ }
-{
-    let ma = member_word(rows, m, 0);
-    let ml = member_word(rows, m, 1);
-    let na = member_word(rows, n, 0);
-    let nl = member_word(rows, n, 1);
-    if !same_part(text, ma as usize, ml as usize, na as usize, nl as usize) {
-        return false;
-    }
-    if exported_at(text, ma as usize, ml as usize) {
-        return true;
-    }
-    same_package(text, rows, member_word(rows, m, 2), member_word(rows, n, 2))
-}
-
 // One identity, both embedded or neither, one tag: "tags count".
 pub fn alike(text: &[u8], rows: &[u32], m: ObjKey, n: ObjKey) -> bool
+    requires { ⌜ (hasPackage (tableOf (now text) (now rows)) (memberAt (now text) (now rows) m .pkg) ≡ true) × (hasPackage (tableOf (now text) (now rows)) (memberAt (now text) (now rows) n .pkg) ≡ true) ⌝ }
     ensures { λ r. ⌜ r ≡ alikeMember (tableOf (now (text .entry)) (now (rows .entry))) (memberAt (now (text .entry)) (now (rows .entry)) m) (memberAt (now (text .entry)) (now (rows .entry)) n) ⌝ }
 {
     if !same_member(text, rows, m, n) {
@@ -196,7 +133,8 @@ pub fn alike(text: &[u8], rows: &[u32], m: ObjKey, n: ObjKey) -> bool
 
 // The i-th members of x and y are called alike.
 pub fn alike_at(text: &[u8], rows: &[u32], x: TypeKey, y: TypeKey, i: u32) -> bool
-    requires { ⌜ (firstRead (now rows) x + i < 65_536) × (firstRead (now rows) y + i < 65_536) ⌝ }
+    requires { ⌜ Library (now text) (now rows) ⌝ }
+    requires { ⌜ Kin (tableOf (now text) (now rows)) x y × (i < partCount (now rows) x) ⌝ }
     ensures { λ r. ⌜ r ≡ alikeAt (now (text .entry)) (now (rows .entry)) x y i ⌝ }
 {
     if kind_number(rows, x) < 8 {

@@ -132,7 +132,7 @@ identical-impl-o-loop-holds : (t : ℕ) → identical-impl-o-lts.Need-loop-holds
 identical-impl-o-loop-holds t c = (search needs, search needs, passed-none _ _ _ _ _ (c .before .before .before .before .pre .1 .1 .1))
 
 identical-impl-o-alike-at-requires : (t : ℕ) → identical-impl-o-lts.Need-alike-at-requires (calls-o t) (identical-impl-o-at t) identical-impl-o.Post identical-impl-o-Inv-loop identical-impl-o-μ-loop
-identical-impl-o-alike-at-requires t c κs = (left-place _ _ (c .before .before .before .before .before .before .pre .1 .0) _ _ (c .before .before .before .before .before .before .pre .1 .1 .0 .0) _ _ (c .before .before .part-count .ensures) (c .loop-test .taken), right-place _ _ (c .before .before .before .before .before .before .pre .1 .0) _ _ (c .before .before .before .before .before .before .pre .1 .1 .0 .0) _ _ (c .before .before .part-count .ensures) (c .loop-test .taken))
+identical-impl-o-alike-at-requires t c κs = (c .before .before .before .before .before .before .pre .1 .0, ((c .before .before .before .before .before .before .pre .1 .1 .0 .0), omega (arith, c .before .before .part-count .ensures, c .loop-test .taken)))
 
 identical-impl-o-same-length : (t : ℕ) → identical-impl-o-lts.Need-same-length (calls-o t) (identical-impl-o-at t) identical-impl-o.Post identical-impl-o-Inv-loop identical-impl-o-μ-loop
 identical-impl-o-same-length t c = search needs
