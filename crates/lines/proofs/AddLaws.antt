@@ -49,12 +49,12 @@ module _ (rows : Words) (at count line : ℕ) (laid : Laid rows) {n : ℕ} (p : 
   abbrev path : Line
   path = packageLine (bytesAt text at count)
 
-  pub package-late : (n ≡ 0 → ⊥) → Grown text rows line (some path) rows (Verdict.Refused 5)
-  package-late ne = misplaced text rows line path laid (no-types text rows ∙ ap (λ k. eqb k 0) (sym p) ∙ ne-eqb n 0 ne)
+  pub package-late : 0 < n → Grown text rows line (some path) rows (Verdict.Refused 5)
+  package-late h = misplaced text rows line path laid (no-types text rows ∙ ap (λ k. eqb k 0) (sym p) ∙ ne-eqb n 0 (λ e. omega arith))
 
-  module _ (z : n ≡ 0) {m : ℕ} (q : m ≡ packageCount rows) where
+  module _ (z : n ≤ 0) {m : ℕ} (q : m ≡ packageCount rows) where
     early : inPlace (tableOf text rows) path ≡ true
-    early = no-types text rows ∙ ap (λ k. eqb k 0) (sym p) ∙ eq-eqb n 0 z
+    early = no-types text rows ∙ ap (λ k. eqb k 0) (sym p) ∙ eq-eqb n 0 (omega arith)
 
     pub package-full : maxPackages ≤ m → Grown text rows line (some path) rows (Verdict.Refused 6)
     package-full h = crowded text rows line path laid early (ap (λ k. ltb k maxPackages) (package-count-read text rows ∙ sym q) ∙ le-ltb m maxPackages h)

@@ -86,14 +86,14 @@ fn add_package(rows: &mut [u32], at: u32, count: u32, line: u32) -> Verdict
     requires { ⌜ Laid (now rows) ⌝ }
     ensures { λ r. ⌜ ((text : Bytes) → Grown text (now (rows .entry)) line (some (packageLine (bytesAt text at count))) (now (rows .exit)) r) ⌝ }
 {
-    if type_count(rows) == 0 {
-        if package_count(rows) < MAX_PACKAGES {
-            put_package(rows, at, count);
-            return Verdict::Added;
-        }
-        return Verdict::Refused(6);
+    if 0 < type_count(rows) {
+        return Verdict::Refused(5);
     }
-    Verdict::Refused(5)
+    if package_count(rows) < MAX_PACKAGES {
+        put_package(rows, at, count);
+        return Verdict::Added;
+    }
+    Verdict::Refused(6)
 }
 
 fn add_type(rows: &mut [u32], kind: u32, a: u32, b: u32, c: u32, line: u32) -> Verdict
