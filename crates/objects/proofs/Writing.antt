@@ -229,3 +229,34 @@ pub element-holds : (rows : Words) (t : TypeKey) {n : ℕ} {r : Words} → Laid 
     → typeWord rows (lastType rows) 0 ≡ 6 → n ≡ elementCount rows → r ≡ raised rows
     → Holds (set (set r (elementsAt + n) (t .0)) 3 (n + 1)) (λ text. plusElement (tableOf text rows) t)
 element-holds rows t laid room some kind n-is r-is = rw (r-is, n-is) (element-stored rows laid t room some kind)
+
+-- ---- the count of elements, which only an element raises
+
+elements-kept : (rows : Words) (at : ℕ) (vs : List ℕ) (c v : ℕ) → 4 ≤ at → c < 3 → elementCount (set (sets rows at vs) c v) ≡ elementCount rows
+unfolding elementCount
+elements-kept rows at vs c v behind small = stored-below rows at vs c v behind (omega arith) 3 (omega arith) (λ e. omega arith)
+
+raised-elements : (rows : Words) → elementCount (raised rows) ≡ elementCount rows
+unfolding elementCount raised
+raised-elements rows = word-kept rows _ _ 3 (λ e. omega arith)
+
+pub package-elements : (rows : Words) (place len : ℕ) {p : ℕ} {r : Words} → p ≡ packageCount rows → r ≡ sets rows (packagesAt + 2 * p) (packageRow place len)
+    → elementCount (set r 0 (p + 1)) ≡ elementCount rows
+package-elements rows place len {p} p-is r-is = rw r-is (elements-kept rows (packagesAt + 2 * p) (packageRow place len) 0 (p + 1) (omega arith) (omega arith))
+
+pub type-elements : (rows : Words) (kind a b c line : ℕ) {n first : ℕ} {r : Words} → n ≡ typeCount rows → first ≡ endOf rows kind
+    → r ≡ sets rows (typesAt + rowWords * n) (typeRow kind a b c first line) → elementCount (set r 1 (n + 1)) ≡ elementCount rows
+type-elements rows kind a b c line {n} {first} n-is first-is r-is = rw r-is (elements-kept rows (typesAt + rowWords * n) (typeRow kind a b c first line) 1 (n + 1) (omega arith) (omega arith))
+
+pub member-elements : (rows : Words) (name len pkg type form tag width line : ℕ) {m : ℕ} {r r' : Words} → m ≡ memberCountOf rows → r ≡ raised rows
+    → r' ≡ sets r (membersAt + rowWords * m) (memberRow name len pkg type form tag width line) → elementCount (set r' 2 (m + 1)) ≡ elementCount rows
+member-elements rows name len pkg type form tag width line {m} m-is r-is r'-is =
+    rw (r'-is, r-is) (elements-kept (raised rows) (membersAt + rowWords * m) (memberRow name len pkg type form tag width line) 2 (m + 1) (omega arith) (omega arith) ∙ raised-elements rows)
+
+pub element-elements : (rows : Words) (t : ℕ) {n : ℕ} {r : Words} → Laid rows → n ≡ elementCount rows → r ≡ raised rows
+    → elementCount (set (set r (elementsAt + n) t) 3 (n + 1)) ≡ elementCount rows + 1
+unfolding elementCount raised
+element-elements rows t {n} {r} laid n-is r-is =
+    let l : length r ≡ length rows = ap length r-is ∙ length-set rows _ _ in
+    let h : 3 < length (set r (elementsAt + n) t) = rw (length-set r (elementsAt + n) t, l) (let w = laid .long in omega arith) in
+    word-put (set r (elementsAt + n) t) 3 (n + 1) h ∙ ap (λ x. x + 1) n-is

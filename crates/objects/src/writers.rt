@@ -85,6 +85,7 @@ fn raise(rows: &mut [u32])
 pub fn put_package(rows: &mut [u32], place: u32, len: u32)
     requires { ⌜ Laid (now rows) × (packageCount (now rows) < maxPackages) ⌝ }
     ensures { λ _. ⌜ Holds (now (rows .exit)) (λ text. plusPackage (tableOf text (now (rows .entry))) (bytesAt text place len)) ⌝ }
+    ensures { λ _. ⌜ elementCount (now (rows .exit)) ≡ elementCount (now (rows .entry)) ⌝ }
 {
     let p = package_count(rows);
     put_pair(rows, PACKAGES_AT + PACKAGE_WORDS * (p as usize), place, len);
@@ -95,6 +96,7 @@ pub fn put_package(rows: &mut [u32], place: u32, len: u32)
 pub fn put_type(rows: &mut [u32], kind: u32, a: u32, b: u32, c: u32, line: u32)
     requires { ⌜ Laid (now rows) × (typeCount (now rows) < maxTypes) ⌝ }
     ensures { λ _. ⌜ Holds (now (rows .exit)) (λ text. plusType (tableOf text (now (rows .entry))) line (kindOf text (now (rows .entry)) kind a b c 0 0)) ⌝ }
+    ensures { λ _. ⌜ elementCount (now (rows .exit)) ≡ elementCount (now (rows .entry)) ⌝ }
 {
     let n = type_count(rows);
     let first = start(rows, kind);
@@ -127,6 +129,7 @@ pub fn put_member(
 )
     requires { ⌜ Laid (now rows) × (memberCountOf (now rows) < maxMembers) × (0 < typeCount (now rows)) × (typeWord (now rows) (lastType (now rows)) 0 ≢ 6) ⌝ }
     ensures { λ _. ⌜ Holds (now (rows .exit)) (λ text. plusMember (tableOf text (now (rows .entry))) line (memberOf text (memberCountOf (now (rows .entry))) name len pkg (t .0) form tag width)) ⌝ }
+    ensures { λ _. ⌜ elementCount (now (rows .exit)) ≡ elementCount (now (rows .entry)) ⌝ }
 {
     let m = member_count(rows);
     raise(rows);
@@ -149,6 +152,7 @@ pub fn put_member(
 pub fn put_element(rows: &mut [u32], e: TypeKey)
     requires { ⌜ Laid (now rows) × (elementCount (now rows) < maxElements) × (0 < typeCount (now rows)) × (typeWord (now rows) (lastType (now rows)) 0 ≡ 6) ⌝ }
     ensures { λ _. ⌜ Holds (now (rows .exit)) (λ text. plusElement (tableOf text (now (rows .entry))) e) ⌝ }
+    ensures { λ _. ⌜ elementCount (now (rows .exit)) ≡ elementCount (now (rows .entry)) + 1 ⌝ }
 {
     let n = element_count(rows);
     raise(rows);

@@ -1,6 +1,6 @@
 use native.Mathlib.Omega.{arith}
 use lib.ListN.{length-set}
-use Rattle.objects.proofs.Writing.{element-holds}
+use Rattle.objects.proofs.Writing.{element-holds, element-elements}
 use borrow.Author.Needs.{needs}
 use Rattle.objects.proofs.writers.put_element.Statement.{statement}
 use Rattle.objects.proofs.writers.put_element.Tie as tie
@@ -33,7 +33,7 @@ same-length : tie.Need-same-length
 same-length c = search needs
 
 returns : tie.Need-returns
-returns c = element-holds _ (c .before .before .before .before .before .before .before .args .e) (c .before .before .before .before .before .before .before .pre .0) (c .before .before .before .before .before .before .before .pre .1) (c .before .before .before .before .before .before .before .pre .2) (c .before .before .before .before .before .before .before .pre .3) (c .before .before .before .before .element-count .ensures) (c .before .before .raise .ensures)
+returns c = (element-holds _ (c .before .before .before .before .before .before .before .args .e) (c .before .before .before .before .before .before .before .pre .0) (c .before .before .before .before .before .before .before .pre .1) (c .before .before .before .before .before .before .before .pre .2) (c .before .before .before .before .before .before .before .pre .3) (c .before .before .before .before .element-count .ensures) (c .before .before .raise .ensures), element-elements _ _ (c .before .before .before .before .before .before .before .pre .0) (c .before .before .before .before .element-count .ensures) (c .before .before .raise .ensures))
 
 pub put-element-spec : {M : Type 1} → statement M
 put-element-spec =

@@ -1,4 +1,4 @@
-use Rattle.objects.proofs.Writing.{package-holds}
+use Rattle.objects.proofs.Writing.{package-holds, package-elements}
 use borrow.Author.Needs.{needs}
 use Rattle.objects.proofs.writers.put_package.Statement.{statement}
 use Rattle.objects.proofs.writers.put_package.Tie as tie
@@ -28,7 +28,7 @@ same-length : tie.Need-same-length
 same-length c = search needs
 
 returns : tie.Need-returns
-returns c = package-holds _ _ _ (c .before .before .before .before .before .before .before .pre .0) (c .before .before .before .before .before .before .before .pre .1) (c .before .before .before .before .package-count .ensures) (c .before .before .put-pair .ensures)
+returns c = (package-holds _ _ _ (c .before .before .before .before .before .before .before .pre .0) (c .before .before .before .before .before .before .before .pre .1) (c .before .before .before .before .package-count .ensures) (c .before .before .put-pair .ensures), package-elements _ _ _ (c .before .before .before .before .package-count .ensures) (c .before .before .put-pair .ensures))
 
 pub put-package-spec : {M : Type 1} → statement M
 put-package-spec =

@@ -1,0 +1,68 @@
+-- What adding one line leaves (4 to 6), and what reading the whole text leaves (2 to 6).
+use mathlib.Core.Path.{_≡_}
+use mathlib.Core.Bool.{Bool, cond, _&&_, _||_}
+use mathlib.Core.List.{List, [], _∷_}
+use mathlib.Core.Option.{Option, none, some}
+use Prim.Native.Nat.{ℕ, suc, _+_, _≤_}
+use lib.Dec.{eqb, ltb}
+use lib.ListN.{length}
+use Rattle.objects.specs.declared.TypeKey.{TypeKey}
+use Rattle.objects.specs.Bounds.{maxMembers, maxPerType}
+use Rattle.objects.specs.Lists.{Bytes}
+use Rattle.objects.specs.Table.{Table, Kind, Basic, Array, Slice, Pointer, Map, Chan, Tuple, Func, Struct, Iface, Named}
+use Rattle.objects.specs.Rows.{Words, memberCountOf, elementCount, tableOf}
+use Rattle.objects.specs.Types.{totalRead}
+use Rattle.objects.specs.Laid.{Laid, lastType, plusElement}
+use Rattle.rules.specs.Forms.{Line, packageLine, typeLine, memberLine}
+use Rattle.rules.specs.Load.{Loaded, refused, loaded, lineAdded}
+use Rattle.lines.specs.declared.Verdict.{Verdict}
+
+unfoldable pub verdictMeant : Bytes → Words → ℕ → Verdict → Loaded
+verdictMeant text rows line Verdict.Added = loaded (tableOf text rows)
+verdictMeant text rows line (Verdict.Refused n) = refused n line
+
+-- ---- elements of tuples
+
+unfoldable pub tupleSize : Kind → ℕ
+tupleSize (Basic k) = 0
+tupleSize (Array n e) = 0
+tupleSize (Slice e) = 0
+tupleSize (Pointer e) = 0
+tupleSize (Map k e) = 0
+tupleSize (Chan d e) = 0
+tupleSize (Tuple es) = length es
+tupleSize (Func v p r) = 0
+tupleSize (Struct ms) = 0
+tupleSize (Iface ms) = 0
+tupleSize (Named u ms) = 0
+
+-- how many elements a line brings
+unfoldable pub lineElements : Line → ℕ
+lineElements (packageLine path) = 0
+lineElements (typeLine k) = tupleSize k
+lineElements (memberLine name pkg type e) = 0
+
+unfoldable pub elementsOf : Option Line → ℕ
+elementsOf none = 0
+elementsOf (some l) = lineElements l
+
+-- the table with more elements of its last type, a tuple
+unfoldable pub withElements : Table → List TypeKey → Table
+withElements T [] = T
+withElements T (e ∷ es) = withElements (plusElement T e) es
+
+-- ---- one line
+
+-- The rows behind a line: what the rules give for it, rows in order, and no more elements than it brings.
+pub record Grown (text : Bytes) (rows : Words) (line : ℕ) (o : Option Line) (after : Words) (v : Verdict) : Type 0 where
+  pub meant : lineAdded (tableOf text rows) line o ≡ verdictMeant text after line v
+  pub laid : Laid after
+  pub few : elementCount after ≤ elementCount rows + elementsOf o
+
+-- 5: a field stands under a struct, a method under a named type or interface
+unfoldable pub standsAt : ℕ → ℕ → Bool
+standsAt form kind = cond (ltb form 2) (eqb kind 8) (eqb kind 10 || eqb kind 9)
+
+-- 6: room for one member more, in all and under the last type
+unfoldable pub memberRoom : Words → Bool
+memberRoom rows = ltb (memberCountOf rows) maxMembers && ltb (totalRead rows (lastType rows)) maxPerType

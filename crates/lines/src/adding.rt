@@ -1,0 +1,201 @@
+// One line becomes a row, or is refused by its form, its place or its room ("4 to 6 are tried in turn on each line").
+ghost use mathlib.Core.Path.{_≡_};
+ghost use mathlib.Core.Option.{some};
+ghost use Prim.Native.Nat.{_+_, _≤_};
+ghost use lib.ListN.{length};
+ghost use Rattle.objects.specs.Bounds.{maxText, maxElements};
+ghost use Rattle.objects.specs.Lists.{Bytes};
+ghost use Rattle.objects.specs.Table.{kindNumber, typeKey};
+ghost use Rattle.objects.specs.Rows.{elementCount, bytesAt, pkgOf, entityOf, tableOf};
+ghost use Rattle.objects.specs.Laid.{Laid, lastType};
+ghost use Rattle.text.specs.Cursors.{fieldsLeft};
+ghost use Rattle.rules.specs.Forms.{packageLine, typeLine, memberLine, lineOf};
+ghost use Rattle.rules.specs.Load.{lastKind};
+ghost use Rattle.lines.specs.Steps.{bareKind, allRead, elementsRead, tupleOf};
+ghost use Rattle.lines.specs.Adding.{Grown, elementsOf, withElements, standsAt, memberRoom};
+use crate::Form;
+use crate::Small;
+use crate::Verdict;
+use crate::fields::MAX_REFERENCE;
+use crate::fields::small;
+use crate::forms::parse;
+use objects::TypeKey;
+use objects::rows::kind_number;
+use objects::rows::member_count;
+use objects::rows::member_total;
+use objects::rows::package_count;
+use objects::rows::type_count;
+use objects::writers::put_element;
+use objects::writers::put_member;
+use objects::writers::put_package;
+use objects::writers::put_type;
+use text::Cursor;
+
+pub const MAX_PACKAGES: u32 = 64;
+
+pub const MAX_TYPES: u32 = 256;
+
+pub const MAX_MEMBERS: u32 = 1_024;
+
+pub const MAX_PER_TYPE: u32 = 255;
+
+// ---- the type above
+
+pub fn last(rows: &[u32]) -> TypeKey
+    ensures { λ r. ⌜ r ≡ lastType (now (rows .entry)) ⌝ }
+{
+    let n = type_count(rows);
+    if n == 0 { TypeKey(0) } else { TypeKey(n - 1) }
+}
+
+// The number of its kind, 0 where there is none.
+pub fn above(rows: &[u32]) -> u32
+    ensures { λ r. ⌜ ((text : Bytes) → r ≡ kindNumber (lastKind (tableOf text (now (rows .entry))))) ⌝ }
+{
+    if type_count(rows) == 0 {
+        0
+    } else {
+        kind_number(rows, last(rows))
+    }
+}
+
+// 5: "F not under a struct, M not under a named type or interface"
+fn stands(form: u32, kind: u32) -> bool
+    ensures { λ r. ⌜ r ≡ standsAt form kind ⌝ }
+{
+    if form < 2 {
+        return kind == 8;
+    }
+    if kind == 10 { true } else { kind == 9 }
+}
+
+// 6: "1,025th member, or 256th member of one type"
+fn member_room(rows: &[u32]) -> bool
+    ensures { λ r. ⌜ r ≡ memberRoom (now (rows .entry)) ⌝ }
+{
+    if member_count(rows) < MAX_MEMBERS {
+        member_total(rows, last(rows)) < MAX_PER_TYPE
+    } else {
+        false
+    }
+}
+
+// ---- lines of right form
+
+fn add_package(rows: &mut [u32], at: u32, count: u32, line: u32) -> Verdict
+    requires { ⌜ Laid (now rows) ⌝ }
+    ensures { λ r. ⌜ ((text : Bytes) → Grown text (now (rows .entry)) line (some (packageLine (bytesAt text at count))) (now (rows .exit)) r) ⌝ }
+{
+    if 0 < type_count(rows) {
+        return Verdict::Refused(5);
+    }
+    if package_count(rows) < MAX_PACKAGES {
+        put_package(rows, at, count);
+        return Verdict::Added;
+    }
+    Verdict::Refused(6)
+}
+
+fn add_type(rows: &mut [u32], kind: u32, a: u32, b: u32, c: u32, line: u32) -> Verdict
+    requires { ⌜ Laid (now rows) ⌝ }
+    ensures { λ r. ⌜ ((text : Bytes) → Grown text (now (rows .entry)) line (some (typeLine (bareKind kind a b c))) (now (rows .exit)) r) ⌝ }
+{
+    if type_count(rows) < MAX_TYPES {
+        put_type(rows, kind, a, b, c, line);
+        return Verdict::Added;
+    }
+    Verdict::Refused(6)
+}
+
+fn add_member(
+    rows: &mut [u32],
+    name: u32,
+    count: u32,
+    pkg: u32,
+    t: u32,
+    form: u32,
+    tag: u32,
+    width: u32,
+    line: u32,
+) -> Verdict
+    requires { ⌜ Laid (now rows) ⌝ }
+    ensures { λ r. ⌜ ((text : Bytes) → Grown text (now (rows .entry)) line (some (memberLine (bytesAt text name count) (pkgOf pkg) (typeKey t) (entityOf form (bytesAt text tag width)))) (now (rows .exit)) r) ⌝ }
+{
+    if stands(form, above(rows)) {
+        if member_room(rows) {
+            put_member(rows, name, count, pkg, TypeKey(t), form, tag, width, line);
+            return Verdict::Added;
+        }
+        return Verdict::Refused(6);
+    }
+    Verdict::Refused(5)
+}
+
+// ---- tuples
+
+// Whether each field that is left is a type's number.
+fn listed(s: &[u8], c: Cursor) -> bool
+    ensures { λ r. ⌜ r ≡ allRead (fieldsLeft (now (s .entry)) c) ⌝ }
+{
+    let mut d = c;
+    loop {
+        if d.done() {
+            return true;
+        }
+        match small(s, d, MAX_REFERENCE) {
+            Small::Value(_, e) => d = e,
+            Small::Wrong => return false,
+        }
+    }
+}
+
+// The types' numbers that are left become elements of the last type.
+fn put_elements(s: &[u8], rows: &mut [u32], c: Cursor)
+    requires { ⌜ Laid (now rows) × (kindNumber (lastKind (tableOf (now s) (now rows))) ≡ 6) × (elementCount (now rows) + length (elementsRead (fieldsLeft (now s) c)) ≤ maxElements) ⌝ }
+    ensures { λ _. ⌜ Laid (now (rows .exit)) ⌝ }
+    ensures { λ _. ⌜ tableOf (now (s .entry)) (now (rows .exit)) ≡ withElements (tableOf (now (s .entry)) (now (rows .entry))) (elementsRead (fieldsLeft (now (s .entry)) c)) ⌝ }
+    ensures { λ _. ⌜ elementCount (now (rows .exit)) ≡ elementCount (now (rows .entry)) + length (elementsRead (fieldsLeft (now (s .entry)) c)) ⌝ }
+{
+    let mut d = c;
+    loop {
+        match small(s, d, MAX_REFERENCE) {
+            Small::Value(v, e) => {
+                put_element(rows, TypeKey(v));
+                d = e;
+            }
+            Small::Wrong => return,
+        }
+    }
+}
+
+fn add_tuple(s: &[u8], rows: &mut [u32], c: Cursor, line: u32) -> Verdict
+    requires { ⌜ Laid (now rows) × (elementCount (now rows) + elementsOf (tupleOf (fieldsLeft (now s) c)) ≤ maxElements) ⌝ }
+    ensures { λ r. ⌜ Grown (now (s .entry)) (now (rows .entry)) line (tupleOf (fieldsLeft (now (s .entry)) c)) (now (rows .exit)) r ⌝ }
+{
+    if listed(s, c) {
+        if type_count(rows) < MAX_TYPES {
+            put_type(rows, 6, 0, 0, 0, line);
+            put_elements(s, rows, c);
+            return Verdict::Added;
+        }
+        return Verdict::Refused(6);
+    }
+    Verdict::Refused(4)
+}
+
+// ---- any line
+
+pub fn add_line(s: &[u8], rows: &mut [u32], c: Cursor, line: u32) -> Verdict
+    requires { ⌜ (length (now s) ≤ maxText) × Laid (now rows) × (elementCount (now rows) + elementsOf (lineOf (fieldsLeft (now s) c)) ≤ maxElements) ⌝ }
+    ensures { λ r. ⌜ Grown (now (s .entry)) (now (rows .entry)) line (lineOf (fieldsLeft (now (s .entry)) c)) (now (rows .exit)) r ⌝ }
+{
+    match parse(s, c) {
+        Form::Package(at, count) => add_package(rows, at, count, line),
+        Form::Type(kind, a, b, d) => add_type(rows, kind, a, b, d, line),
+        Form::Tuple(d) => add_tuple(s, rows, d, line),
+        Form::Member(name, count, pkg, t, form, tag, width) => {
+            add_member(rows, name, count, pkg, t, form, tag, width, line)
+        }
+        Form::Wrong => Verdict::Refused(4),
+    }
+}
