@@ -95,7 +95,7 @@ def edges():
         (table(*packages[:64]), b'ok\t64\t0\t0\n'),
         (table(*packages[:65]), refused(6, 66)),
         (table(*full), b'ok\t0\t6\t1024\n'),
-        (table(*full, b'F\tX9\t-\t0\t0'), refused(6, 1033)),
+        (table(*full, b'F\tX9\t-\t0\t0'), refused(6, 1032)),
         (wide, b'ok\t1\t0\t0\n'),
         (wide[:-1] + b'p\n', refused(4, 2)),
         (tuple_line, b'ok\t0\t2\t0\n' if len(tuple_line) == 32768 and not tuple_line.endswith(b'00\n') else refused(4, 3)),
