@@ -47,10 +47,6 @@ maxPath = 128
 abbrev pub maxTag : ℕ
 maxTag = 128
 
--- 1: "fewer words than the number the team fixes in docs/, which is at most 4,194,304"
-abbrev pub workWords : ℕ
-workWords = 65_536
-
 -- "minus (refusal × 65,536 + line)"
 abbrev pub refusalUnit : ℕ
 refusalUnit = 65_536
@@ -62,6 +58,27 @@ programAnswer = 16_384
 -- comparing types: a bit for each pair of types that was met, and one for each that was opened, 32 to a word
 abbrev pub markWords : ℕ
 markWords = 4_096
+
+-- 1: "fewer words than the number the team fixes in docs/, which is at most 4,194,304": the marks are all that the work area has to hold
+abbrev pub workWords : ℕ
+workWords = markWords
+
+-- selection: a row of six words for each type that a search reaches, and for each type a word that says which row it has
+abbrev pub searchRow : ℕ
+searchRow = 6
+
+abbrev pub searchWords : ℕ
+searchWords = 1_792
+
+-- method sets: a row of four words for each name, and one for each type that says how it was first reached
+abbrev pub selRow : ℕ
+selRow = 4
+
+abbrev pub selWords : ℕ
+selWords = 4_096
+
+abbrev pub firstWords : ℕ
+firstWords = 1_024
 
 -- ---- the rows of a loaded table: four counts, then a region for each kind of row (specs/Rows.antt)
 
