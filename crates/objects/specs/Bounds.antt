@@ -70,12 +70,15 @@ searchRow = 6
 abbrev pub searchWords : ℕ
 searchWords = 1_792
 
--- method sets: a row of four words for each name, and one for each type that says how it was first reached
+-- method sets: a row of six words for each name, and a row of four for each type that says how it was first reached
 abbrev pub selRow : ℕ
-selRow = 4
+selRow = 6
 
 abbrev pub selWords : ℕ
-selWords = 4_096
+selWords = 6_144
+
+abbrev pub firstRow : ℕ
+firstRow = 4
 
 abbrev pub firstWords : ℕ
 firstWords = 1_024
