@@ -4,7 +4,6 @@ use mathlib.Core.Bool.{true, false}
 use mathlib.Core.List.{List, _∷_, _++_, map}
 use mathlib.Core.Logic.{inl, inr}
 use Prim.Native.Nat.{ℕ, zero, suc, _+_, _-_, _<_, _≤_}
-use native.Mathlib.Numerals.{add-one}
 use native.Mathlib.Omega.{arith}
 use native.Mathlib.Nat.{eq-or-lt-of-le}
 use lib.ListN.{length, getD, take, drop, set, replicate}
@@ -21,17 +20,49 @@ use Rattle.objects.proofs.SortedLaws.{sorted-same}
 use Rattle.text.specs.Bytes.{belowBytes}
 use Rattle.text.proofs.ByteLaws.{below-irrefl, below-trans}
 use Rattle.rules.specs.Library.{Library}
-use Rattle.rules.specs.Members.{Identity, identityOf, sameId, idBytes}
+use Rattle.rules.specs.Members.{Identity, identityOf, idBytes}
 use Rattle.rules.specs.MethodSet.{methodNames}
 use Rattle.rules.proofs.MethodNames.{Lower, names-listed, names-ascend}
 use Rattle.method_names.specs.declared.Place.{Place}
 use Rattle.method_names.specs.Names.{identityAt, NamesHeld, Indexed}
-use Rattle.method_names.specs.Search.{idAt, Listed, Placed, Known, Gathered, Filled}
+use Rattle.method_names.specs.Search.{idAt, Listed, Placed, Worded, Known, Gathered, Filled}
 use Rattle.method_names.proofs.KeyMembers.{member-is, key-below, stands-at, sound-rows}
 use Rattle.method_names.proofs.SortedParts.{In-put, put-In, put-In-self, In-parts, sorted-put, sorted-map}
-use Rattle.method_names.proofs.NameLaws.{found-at, new-at, same-identity, other-identity, by-word, known-set}
+use Rattle.method_names.proofs.SearchLaws.{found-at, new-at, same-identity, other-identity, by-word}
 
 module _ (text : Bytes) (rows : Words) where
+  -- ---- the word of one member
+
+  module _ (lib : Library text rows) (names : Words) (n : ℕ) (fits : n ≤ length names) (listed : Listed text rows (take n names)) (m : ℕ) (hm : m < memberCountOf rows)
+      {r : Place} (s : Placed text rows (take n names) (idAt text rows m) r) (i : ℕ) where
+    pub word-found : r ≡ Place.Found i → Worded text rows (take n names) m (getD names i 0 + 1)
+    word-found p =
+        let f = found-at text rows (take n names) (idAt text rows m) s p in
+        let c : length (take n names) ≡ n = length-take-le n names fits in
+        let inn : i < n = rw c at (f .0) in
+        let a : getD (take n names) i 0 ≡ getD names i 0 = getD-take n names i 0 inn in
+        let here : In (getD names i 0) (take n names) = subst (λ x. In x (take n names)) a (getD-In (take n names) i 0 (f .0)) in
+        let same = same-identity text rows lib (getD names i 0) m (listed .keys (getD names i 0) here) hm (rw a at (f .1)) in
+        record {
+          some = λ k e. let z : getD names i 0 ≡ k = omega arith in (subst (λ x. In x (take n names)) z here, subst (λ x. identityAt text rows x ≡ identityAt text rows m) z same);
+          none = λ k e j. absurd (omega arith);
+        }
+
+    pub word-none : r ≡ Place.At i → Worded text rows (take n names) m 0
+    word-none p =
+        let f = new-at text rows (take n names) (idAt text rows m) s p in
+        record {
+          some = λ k e. absurd (omega arith);
+          none = λ k w j. other-identity text rows lib k m (λ e.
+              either (In-parts i (take n names) k j)
+              (λ a. clash (subst (λ x. belowBytes x (idAt text rows m) ≡ true) e (f .1 k a)) (below-irrefl (idAt text rows m)))
+              (λ a. clash (subst (λ x. belowBytes (idAt text rows m) x ≡ true) e (f .2 k a)) (below-irrefl (idAt text rows m))));
+        }
+
+  -- the index with it
+  pub known-word : (l : List ℕ) (index : Words) (m x : ℕ) → m < length index → Worded text rows l m x → Known text rows l index → Known text rows l (set index m x)
+  known-word l index m x h s known j k hj e = by-word index m x h j (λ q w. rw q (s .some k (sym w ∙ e))) (λ q w. known j k hj (sym w ∙ e))
+
   -- ---- no name yet
 
   zeros : (n i : ℕ) → _≡_ {A = ℕ} (getD (replicate n 0) i 0) 0
@@ -76,16 +107,10 @@ module _ (text : Bytes) (rows : Words) where
       gather-found p h =
           let w = g .room in
           let lm = lib .laid .members in
-          let f = found-at text rows (take n names) (idAt text rows m) s p in
-          let c : length (take n names) ≡ n = length-take-le n names (w .0) in
-          let inn : i < n = rw c at (f .0) in
-          let a : getD (take n names) i 0 ≡ getD names i 0 = getD-take n names i 0 inn in
-          let here : In (getD names i 0) (take n names) = subst (λ x. In x (take n names)) a (getD-In (take n names) i 0 (f .0)) in
-          let same = same-identity text rows lib (getD names i 0) m (g .listed .keys (getD names i 0) here) left (rw a at (f .1)) in
           record {
             listed = g .listed;
             room = (w .0, omega arith);
-            known = known-set index m (getD names i 0 + 1) (omega arith) text rows (take n names) (getD names i 0) (add-one (getD names i 0)) here same (g .known);
+            known = known-word (take n names) index m (getD names i 0 + 1) (omega arith) (word-found lib names n (w .0) (g .listed) m left s i p) (g .known);
             done = λ k x y z. by-word index m (getD names i 0 + 1) (omega arith) k
                 (λ q v u. absurd (omega arith))
                 (λ q v u. g .done k (omega arith) y z (sym v ∙ u));
@@ -100,15 +125,21 @@ module _ (text : Bytes) (rows : Words) where
           let lm = lib .laid .members in
           let l = take n names in
           let f = new-at text rows l (idAt text rows m) s p in
-          subst-gathered put (record {
+          gathered put (record {
             sorted = sorted-put (λ (a b : ℕ). belowBytes (idAt text rows a) (idAt text rows b) ≡ true) i l m (g .listed .sorted) (f .1) (f .2);
             keys = λ k j. either (In-put i l m k j) (λ q. rw q left) (λ q. g .listed .keys k q);
             methods = λ k j. either (In-put i l m k j) (λ q. rw q e) (λ q. g .listed .methods k q);
-          }) (known-set index m (m + 1) (omega arith) text rows (take i l ++ (m ∷ drop i l)) m (add-one m) (put-In-self i l m) refl
-          (λ j y a b. let v = g .known j y a b in (put-In i l m y (v .0), v .1)))
+          }) (known-word (take i l ++ (m ∷ drop i l)) index m (m + 1) (omega arith) own (λ j y a b. let v = g .known j y a b in (put-In i l m y (v .0), v .1)))
         where
-          subst-gathered : {q : List ℕ} → take (n + 1) after ≡ q → Listed text rows q → Known text rows q (set index m (m + 1)) → Gathered text rows after (n + 1) (set index m (m + 1)) m
-          subst-gathered {q} eq li kn =
+          own : Worded text rows (take i (take n names) ++ (m ∷ drop i (take n names))) m (m + 1)
+          own = record {
+            some = λ k q. let z : m ≡ k = omega arith in (subst (λ x. In x (take i (take n names) ++ (m ∷ drop i (take n names)))) z (put-In-self i (take n names) m), ap (identityAt text rows) (sym z));
+            none = λ k q j. absurd (omega arith);
+          }
+
+          -- the names after it, whatever list they are
+          gathered : {q : List ℕ} → take (n + 1) after ≡ q → Listed text rows q → Known text rows q (set index m (m + 1)) → Gathered text rows after (n + 1) (set index m (m + 1)) m
+          gathered {q} eq li kn =
               let w = g .room in
               let lm = lib .laid .members in
               record {
@@ -132,47 +163,21 @@ module _ (text : Bytes) (rows : Words) where
   fill-end l index m p a b f = let z : m ≡ memberCountOf rows = omega arith in subst (Filled text rows l index) z f
 
   module _ (l : List ℕ) (index : Words) (m : ℕ) (g : Filled text rows l index m) where
-    -- the fields up to m, if what is known of m is
-    upto : ((k : ℕ) → wordAt index m ≡ 0 → In k l → sameId (identityAt text rows k) (identityAt text rows m) ≡ false) → Filled text rows l index (m + 1)
-    upto here = record {
+    pub fill-method : m < memberCountOf rows → methodRead rows (objKey m) ≡ true → Filled text rows l index (m + 1)
+    fill-method h e = record {
       known = g .known;
-      none = λ j k h c w i. either c
-          (λ a. let b : j ≤ m = omega arith in either (eq-or-lt-of-le b) (λ q. rw q (here k (subst (λ x. wordAt index x ≡ 0) q w) i)) (λ q. g .none j k h (inl q) w i))
-          (λ e. g .none j k h (inr e) w i);
+      none = λ j k hj c w i. either c
+          (λ a. let b : j ≤ m = omega arith in either (eq-or-lt-of-le b) (λ q. rw q (g .none m k h (inr e) (subst (λ x. wordAt index x ≡ 0) q w) i)) (λ q. g .none j k hj (inl q) w i))
+          (λ f. g .none j k hj (inr f) w i);
     }
 
-    pub fill-method : m < memberCountOf rows → methodRead rows (objKey m) ≡ true → Filled text rows l index (m + 1)
-    fill-method h e = upto (λ k w i. g .none m k h (inr e) w i)
-
-    module _ (lib : Library text rows) (i : ℕ) {r : Place} (s : Placed text rows l (idAt text rows m) r) where
-      pub fill-none : r ≡ Place.At i → Filled text rows l index (m + 1)
-      fill-none p =
-          let f = new-at text rows l (idAt text rows m) s p in
-          upto (λ k w j. other-identity text rows lib k m (λ e.
-          either (In-parts i l k j)
-          (λ a. clash (subst (λ x. belowBytes x (idAt text rows m) ≡ true) e (f .1 k a)) (below-irrefl (idAt text rows m)))
-          (λ a. clash (subst (λ x. belowBytes (idAt text rows m) x ≡ true) e (f .2 k a)) (below-irrefl (idAt text rows m)))))
-
-      fill-at : Listed text rows l → m < memberCountOf rows → r ≡ Place.Found i → m < length index → Filled text rows l (set index m (getD l i 0 + 1)) (m + 1)
-      fill-at listed hm p h =
-          let f = found-at text rows l (idAt text rows m) s p in
-          let here : In (getD l i 0) l = getD-In l i 0 (f .0) in
-          let same = same-identity text rows lib (getD l i 0) m (listed .keys (getD l i 0) here) hm (f .1) in
-          record {
-            known = known-set index m (getD l i 0 + 1) h text rows l (getD l i 0) (add-one (getD l i 0)) here same (g .known);
-            none = λ j k hj c w v. by-word index m (getD l i 0 + 1) h j
-                (λ q x. absurd (omega arith))
-                (λ q x. g .none j k hj (either c (λ a. inl (omega arith)) (λ a. inr a)) (sym x ∙ w) v);
-          }
-
-  pub fill-found : (names : Words) (n : ℕ) (index : Words) (m : ℕ) → Filled text rows (take n names) index m → Library text rows → (i : ℕ) {r : Place} → Placed text rows (take n names) (idAt text rows m) r
-      → n ≤ length names → Listed text rows (take n names) → m < memberCountOf rows → r ≡ Place.Found i → maxMembers ≤ length index → Filled text rows (take n names) (set index m (getD names i 0 + 1)) (m + 1)
-  fill-found names n index m g lib i s fits listed hm p h =
-      let lm = lib .laid .members in
-      let f = found-at text rows (take n names) (idAt text rows m) s p in
-      let c : length (take n names) ≡ n = length-take-le n names fits in
-      let inn : i < n = rw c at (f .0) in
-      subst (λ x. Filled text rows (take n names) (set index m (x + 1)) (m + 1)) (getD-take n names i 0 inn) (fill-at (take n names) index m g lib i s listed hm p (omega arith))
+    pub fill-field : (x : ℕ) → Worded text rows l m x → m < length index → Filled text rows l (set index m x) (m + 1)
+    fill-field x s h = record {
+      known = known-word l index m x h s (g .known);
+      none = λ j k hj c e i. by-word index m x h j
+          (λ q w. rw q (s .none k (sym w ∙ e) i))
+          (λ q w. g .none j k hj (either c (λ a. inl (omega arith)) (λ a. inr a)) (sym w ∙ e) i);
+    }
 
   -- ---- the end
 

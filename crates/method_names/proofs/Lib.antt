@@ -1,4 +1,4 @@
 pub mod KeyMembers
 pub mod SortedParts
-pub mod NameLaws
+pub mod SearchLaws
 pub mod GatherLaws

@@ -37,7 +37,12 @@ module _ (text : Bytes) (rows : Words) where
   Placed l q (Place.Found i) = (i < length l) × (idAt (getD l i 0) ≡ q)
   Placed l q (Place.At i) = (i ≤ length l) × AllBelow q (take i l) × AllAbove q (drop i l)
 
-  -- a word that is not 0 is one more than a key of the list that has the member's identity
+  -- the word of the member m: one more than the key of the list that has its identity, 0 if none has
+  pub record Worded (l : List ℕ) (m word : ℕ) : Type 0 where
+    pub some : (k : ℕ) → word ≡ suc k → In k l × (identityAt text rows k ≡ identityAt text rows m)
+    pub none : (k : ℕ) → word ≡ 0 → In k l → sameId (identityAt text rows k) (identityAt text rows m) ≡ false
+
+  -- the words that are not 0 are each one more than a key of the list that has the member's identity
   abbrev pub Known : List ℕ → Words → Type 0
   Known l index = (m k : ℕ) → m < memberCountOf rows → wordAt index m ≡ suc k → In k l × (identityAt text rows k ≡ identityAt text rows m)
 

@@ -8,7 +8,7 @@ ghost use Rattle.objects.specs.Rows.{memberCountOf};
 ghost use Rattle.rules.specs.Library.{Library};
 ghost use Rattle.obj.specs.Ids.{idMeant};
 ghost use Rattle.method_names.specs.Names.{NamesHeld, Indexed};
-ghost use Rattle.method_names.specs.Search.{Listed, Placed, Gathered, Filled};
+ghost use Rattle.method_names.specs.Search.{Listed, Placed, Worded, Gathered, Filled};
 use obj::Id;
 use obj::id_of;
 use obj::order_ids;
@@ -118,7 +118,19 @@ fn gather(text: &[u8], rows: &[u32], names: &mut [u32], index: &mut [u32]) -> us
 
 // ---- fields
 
-// Member m, if it is a field: it may have the name of a method.
+// The word of member m: the key and one of the name that it has, 0 if no method has its name.
+fn name_word(text: &[u8], rows: &[u32], names: &[u32], n: usize, m: u32) -> u32
+    requires { ⌜ Library (now text) (now rows) × Listed (now text) (now rows) (take n (now names)) × (n ≤ length (now names)) × (m < memberCountOf (now rows)) ⌝ }
+    ensures { λ r. ⌜ Worded (now (text .entry)) (now (rows .entry)) (take n (now (names .entry))) m r ⌝ }
+{
+    let id = id_of(text, rows, ObjKey(m));
+    match place_of(text, rows, names, n, id) {
+        Place::Found(i) => names[i] + 1,
+        Place::At(_) => 0,
+    }
+}
+
+// Member m, if it is a field.
 fn index_field(text: &[u8], rows: &[u32], names: &[u32], n: usize, index: &mut [u32], m: u32)
     requires { ⌜ Library (now text) (now rows) × Listed (now text) (now rows) (take n (now names)) × (n ≤ length (now names)) × (maxMembers ≤ length (now index)) × (m < memberCountOf (now rows)) × Filled (now text) (now rows) (take n (now names)) (now index) m ⌝ }
     ensures { λ _. ⌜ Filled (now (text .entry)) (now (rows .entry)) (take n (now (names .entry))) (now (index .exit)) (m + 1) ⌝ }
@@ -126,13 +138,7 @@ fn index_field(text: &[u8], rows: &[u32], names: &[u32], n: usize, index: &mut [
     if is_method(rows, ObjKey(m)) {
         return;
     }
-    let id = id_of(text, rows, ObjKey(m));
-    match place_of(text, rows, names, n, id) {
-        Place::Found(i) => {
-            index[m as usize] = names[i] + 1;
-        }
-        Place::At(_) => {}
-    }
+    index[m as usize] = name_word(text, rows, names, n, m);
 }
 
 fn index_fields(text: &[u8], rows: &[u32], names: &[u32], n: usize, index: &mut [u32])

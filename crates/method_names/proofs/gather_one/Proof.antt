@@ -6,7 +6,7 @@ use Rattle.objects.proofs.ListLaws.{un-not}
 use Rattle.objects.proofs.BoolLaws.{not-yes}
 use Rattle.obj.specs.Ids.{idMeant}
 use Rattle.method_names.proofs.KeyMembers.{packaged-at}
-use Rattle.method_names.proofs.NameLaws.{name-key, found-in, new-in, placed-of}
+use Rattle.method_names.proofs.SearchLaws.{name-key, found-in, new-in, placed-of}
 use Rattle.method_names.proofs.GatherLaws.{gather-skip, left, gather-found, gather-new}
 use borrow.Author.Needs.{needs}
 use Rattle.method_names.proofs.gather_one.Statement.{statement}

@@ -5,7 +5,7 @@ use native.Mathlib.Omega.{arith}
 use lib.ListN.{getD}
 use Rattle.obj.specs.Ids.{idMeant}
 use Rattle.method_names.proofs.KeyMembers.{packaged-at}
-use Rattle.method_names.proofs.NameLaws.{Between, between-start, between-less, between-greater, between-equal, between-end, id-read, name-key, halfway}
+use Rattle.method_names.proofs.SearchLaws.{Between, between-start, between-less, between-greater, between-equal, between-end, id-read, name-key, halfway}
 use borrow.Author.Needs.{needs}
 use Rattle.method_names.proofs.place_of.Statement.{statement}
 use Rattle.method_names.proofs.place_of.Tie as tie

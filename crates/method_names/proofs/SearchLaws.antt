@@ -1,4 +1,4 @@
--- The steps of the code over what it knows (specs/Search.antt): the search for an id, one name more, one word more, and the end.
+-- The search for an id among the names that ascend, what it tells of the member that has the id, and a word of the index that is set.
 use mathlib.Core.Path.{_≡_, refl, sym, ap, _∙_, subst}
 use mathlib.Core.Bool.{Bool, true, false}
 use mathlib.Core.List.{List, [], _∷_}
@@ -26,7 +26,7 @@ use Rattle.rules.proofs.MemberLaws.{sameId-true}
 use Rattle.rules.proofs.IdLaws.{id-injective}
 use Rattle.method_names.specs.declared.Place.{Place}
 use Rattle.method_names.specs.Names.{identityAt}
-use Rattle.method_names.specs.Search.{idAt, AllBelow, AllAbove, Listed, Placed, Known}
+use Rattle.method_names.specs.Search.{idAt, AllBelow, AllAbove, Listed, Placed}
 use Rattle.method_names.proofs.KeyMembers.{proper-at}
 use Rattle.method_names.proofs.SortedParts.{sorted-before, sorted-behind}
 
@@ -174,12 +174,3 @@ module _ (index : Words) (m x : ℕ) (h : m < length index) where
   -- the word of j is the new one, or as it was
   pub by-word : {C : Type 0} (j : ℕ) → (j ≡ m → wordAt (set index m x) j ≡ x → C) → (j ≢ m → wordAt (set index m x) j ≡ wordAt index j → C) → C
   by-word j a b = cases (eqb j m) (λ e. let f = eqb-true j m e in a f (rw f word-here)) (λ e. let f = eqb-false j m e in b f (word-else j f))
-
-  pub known-set : (text : Bytes) (rows : Words) (l : List ℕ) (k : ℕ) → x ≡ suc k → In k l → identityAt text rows k ≡ identityAt text rows m → Known text rows l index → Known text rows l (set index m x)
-  known-set text rows l k e i same known j y hj ey =
-      by-word j
-      (λ f w. let z : k ≡ y = suc-same (sym e ∙ sym w ∙ ey) in (subst (λ v. In v l) z i, subst (λ v. identityAt text rows v ≡ identityAt text rows j) z (rw f same)))
-      (λ f w. known j y hj (sym w ∙ ey))
-    where
-      suc-same : {a b : ℕ} → suc a ≡ suc b → a ≡ b
-      suc-same f = omega arith
