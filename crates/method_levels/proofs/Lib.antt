@@ -1,2 +1,5 @@
 pub mod CountLaws
 pub mod ReachLaws
+pub mod FirstLaws
+pub mod EnterLaws
+pub mod LevelLaws

@@ -2,15 +2,17 @@
 -- `Entered` is what holds after some of these steps; the records below say what each part of the code does to it.
 use mathlib.Core.Path.{_≡_}
 use mathlib.Core.Bool.{Bool, true, false, cond, not, _&&_, _||_}
-use mathlib.Core.List.{List}
+use mathlib.Core.List.{List, [], _∷_}
 use Prim.Native.Nat.{ℕ, suc, _+_, _*_, _<_}
 use lib.Dec.{eqb, ltb}
-use lib.ListN.{length}
+use lib.ListN.{length, set}
+use lib.Seq.{sets}
 use Rattle.objects.specs.Bounds.{firstRow}
-use Rattle.objects.specs.Lists.{any, keep, flat, In}
+use Rattle.objects.specs.Lists.{Bytes, any, keep, flat, In}
 use Rattle.objects.specs.declared.TypeKey.{TypeKey}
+use Rattle.objects.specs.declared.ObjKey.{ObjKey}
 use Rattle.objects.specs.Table.{Table, sameType, size, isEmbedded, bare, pointerAt}
-use Rattle.objects.specs.Rows.{Words, wordAt}
+use Rattle.objects.specs.Rows.{Words, wordAt, memberAt}
 use Rattle.objects.specs.Types.{numberRead, underRead, namedRead, pointerRead, totalRead}
 use Rattle.rules.specs.Ways.{Place, Walk, fieldPlaces, embedded, onward}
 use Rattle.rules.specs.MethodSet.{reaches, barred}
@@ -29,6 +31,24 @@ barredRead rows next first v = namedRead rows v && (not (eqb (firstWord first v 
 -- the flag of a walk that goes on from u through a field of this type
 unfoldable pub flagRead : Words → Words → TypeKey → TypeKey → ℕ
 flagRead rows first u type = cond (pointerRead rows type) 1 (firstWord first u 2)
+
+-- member m as the field at this place
+abbrev pub fieldAt : Bytes → Words → ℕ → ObjKey → Place
+fieldAt text rows place m = record { place = place; member = memberAt text rows m }
+
+-- ---- what it writes
+
+-- as many more at v
+unfoldable pub nextPut : Words → TypeKey → ℕ → Words
+nextPut next v count = set next (v .0) (upToTwo (wordAt next (v .0) + count))
+
+-- v's row
+unfoldable pub rowPut : Words → TypeKey → (from place flag level : ℕ) → Words
+rowPut first v from place flag level = sets first (firstRow * (v .0)) (from ∷ place ∷ flag ∷ level ∷ [])
+
+-- v's row if it has no level
+unfoldable pub firstPut : Words → TypeKey → (from place flag level : ℕ) → Words
+firstPut first v from place flag level = cond (eqb (firstWord first v 3) 0) (rowPut first v from place flag level) first
 
 -- ---- walks led to a type
 
