@@ -16,7 +16,7 @@ use Rattle.objects.specs.Rows.{Words, wordAt, memberAt}
 use Rattle.objects.specs.Types.{numberRead, underRead, namedRead, pointerRead, totalRead}
 use Rattle.rules.specs.Ways.{Place, Walk, fieldPlaces, embedded, onward}
 use Rattle.rules.specs.MethodSet.{reaches, barred}
-use Rattle.method_levels.specs.Levels.{levelAt, upToTwo, standing, times, firstWord}
+use Rattle.method_levels.specs.Levels.{levelAt, upToTwo, standing, times, firstWord, OnLevel}
 
 -- ---- what the code reads
 
@@ -37,6 +37,10 @@ abbrev pub fieldAt : Bytes → Words → ℕ → ObjKey → Place
 fieldAt text rows place m = record { place = place; member = memberAt text rows m }
 
 -- ---- what it writes
+
+-- the first n words are 0
+abbrev pub Clear : Words → ℕ → Type 0
+Clear next n = (j : ℕ) → j < n → wordAt next j ≡ 0
 
 -- as many more at v
 unfoldable pub nextPut : Words → TypeKey → ℕ → Words
@@ -95,3 +99,7 @@ module _ (T : Table) (t : TypeKey) (d : ℕ) where
 pub record Enters (T : Table) (d : ℕ) (u : TypeKey) (count : ℕ) (ps : List Place) (next first next′ first′ : Words) : Type 0 where
   pub on : (t : TypeKey) (first₀ : Words) (c : TypeKey → ℕ) → count ≡ times (levelAt T t d .walks) u
       → Entered T t d first₀ c next first → Entered T t d first₀ (through T t d u ps c) next′ first′
+
+-- all types with a number below k have led their walks on, from whatever type the levels start
+pub record Reaching (T : Table) (d : ℕ) (level first₀ : Words) (k : ℕ) (next first : Words) : Type 0 where
+  pub so-far : (t : TypeKey) → OnLevel T t d level first₀ → Entered T t d first₀ (walksFrom T t d k) next first
