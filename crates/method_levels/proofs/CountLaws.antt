@@ -38,8 +38,8 @@ pub two-sum : (a b : ℕ) → upToTwo (upToTwo a + upToTwo b) ≡ upToTwo (a + b
 two-sum a b =
     cases (ltb a 2)
     (λ e. cases (ltb b 2)
-        (λ f. rw (two-less a (ltb-true a 2 e), two-less b (ltb-true b 2 f)))
-        (λ f. let l = ltb-false b 2 f in let m = two-more b l in two-more (upToTwo a + upToTwo b) (omega (arith, m)) ∙ sym (two-more (a + b) (omega (arith, l)))))
+    (λ f. rw (two-less a (ltb-true a 2 e), two-less b (ltb-true b 2 f)))
+    (λ f. let l = ltb-false b 2 f in let m = two-more b l in two-more (upToTwo a + upToTwo b) (omega (arith, m)) ∙ sym (two-more (a + b) (omega (arith, l)))))
     (λ e. let l = ltb-false a 2 e in let m = two-more a l in two-more (upToTwo a + upToTwo b) (omega (arith, m)) ∙ sym (two-more (a + b) (omega (arith, l))))
 
 -- ---- steps from one walk
@@ -115,9 +115,9 @@ module _ (v : TypeKey) where
   standing-keep p (w ∷ W) =
       cases (sameType v (w .at))
       (λ e. let s = same-key v (w .at) e in
-          cases (p v)
-          (λ f. let g : p (w .at) ≡ true = ap p (sym s) ∙ f in let h = standing-keep p W in rw (g, f, e) (ap (λ l. w ∷ l) (rw f at h)))
-          (λ f. let g : p (w .at) ≡ false = ap p (sym s) ∙ f in let h = standing-keep p W in rw (g, f) (rw f at h)))
+      cases (p v)
+      (λ f. let g : p (w .at) ≡ true = ap p (sym s) ∙ f in let h = standing-keep p W in rw (g, f, e) (ap (λ l. w ∷ l) (rw f at h)))
+      (λ f. let g : p (w .at) ≡ false = ap p (sym s) ∙ f in let h = standing-keep p W in rw (g, f) (rw f at h)))
       (λ e. cases (p (w .at)) (λ f. rw (f, e) (standing-keep p W)) (λ f. rw (f, e) (standing-keep p W)))
 
 -- ---- fields that lead to a type

@@ -9,7 +9,7 @@ use native.Mathlib.Numerals.{add-one}
 use native.Mathlib.Omega.{arith}
 use lib.Dec.{eqb, ltb}
 use lib.ListN.{length, getD}
-use borrow.Author.Tests.{ltb-true, ltb-false, lt-ltb, eqb-true, eqb-false, eq-eqb, ne-eqb}
+use borrow.Author.Tests.{ltb-true, ltb-false, lt-ltb, eqb-true, eqb-false, eq-eqb, ne-eqb, not-true, not-false}
 use Rattle.objects.specs.Bounds.{firstRow, firstWords, maxTypes}
 use Rattle.objects.specs.Lists.{Bytes, any, In}
 use Rattle.objects.specs.declared.TypeKey.{TypeKey}
@@ -42,8 +42,10 @@ module _ (T : Table) (d : ℕ) (u : TypeKey) (count : ℕ) where
 
   pub enters-more : (ps rs : List Place) {next first next₁ first₁ next₂ first₂ : Words} → Enters T d u count ps next first next₁ first₁ → Enters T d u count rs next₁ first₁ next₂ first₂
       → Enters T d u count (ps ++ rs) next first next₂ first₂
-  enters-more ps rs a b = record { on = λ t first₀ c h E.
-      entered-alike (through T t d u rs (through T t d u ps c)) (through T t d u (ps ++ rs) c) (λ x. sum t c x) (b .on t first₀ (through T t d u ps c) h (a .on t first₀ c h E)) }
+  enters-more ps rs a b = record {
+    on = λ t first₀ c h E.
+        entered-alike (through T t d u rs (through T t d u ps c)) (through T t d u (ps ++ rs) c) (λ x. sum t c x) (b .on t first₀ (through T t d u ps c) h (a .on t first₀ c h E));
+  }
     where
       sum : (t : TypeKey) (c : TypeKey → ℕ) (x : TypeKey) → through T t d u rs (through T t d u ps c) x ≡ through T t d u (ps ++ rs) c x
       sum t c x =
@@ -51,7 +53,7 @@ module _ (T : Table) (d : ℕ) (u : TypeKey) (count : ℕ) where
           omega (arith, m)
 
   -- a type that the level does not have leads nowhere
-  pub enters-zero : (0 < count → ⊥) → (ps : List Place) (next first : Words) → Enters T d u count ps next first next first
+  pub enters-zero : count ≤ 0 → (ps : List Place) (next first : Words) → Enters T d u count ps next first next first
   unfolding times
   enters-zero n ps next first = record { on = λ t first₀ c h E. entered-alike c (through T t d u ps c) (λ x. same t c h x) E }
     where
@@ -142,10 +144,10 @@ module _ (text : Bytes) (rows : Words) (lib : Library text rows) where
           unfolding barredRead
           bars = pb ∙ sym (rw (named-read v target-in))
 
-          pub field-barred : b ≡ true → Enters T d u count (p ∷ []) next first next first
-          field-barred q = record { on = λ t first₀ c h E. step-barred T t d first₀ c (through T t d u (p ∷ []) c) next first v (walksAt T t d u) target-in (here t c) (other t c) E (sym bars ∙ q) }
+          pub field-barred : not b ≡ false → Enters T d u count (p ∷ []) next first next first
+          field-barred q = record { on = λ t first₀ c h E. step-barred T t d first₀ c (through T t d u (p ∷ []) c) next first v (walksAt T t d u) target-in (here t c) (other t c) E (sym bars ∙ not-false b q) }
 
-          module _ (q : b ≡ false) (some : 0 < count) (long : maxTypes ≤ length next) (room : firstWords ≤ length first) {f : ℕ} (pf : f ≡ flagRead rows first u ty) where
+          module _ (q : not b ≡ true) (some : 0 < count) (long : maxTypes ≤ length next) (room : firstWords ≤ length first) {f : ℕ} (pf : f ≡ flagRead rows first u ty) where
             module _ (t : TypeKey) (first₀ : Words) (c : TypeKey → ℕ) (h : count ≡ upToTwo (walksAt T t d u)) (E : Entered T t d first₀ c next first) where
               stand : 0 < walksAt T t d u
               stand = cases (ltb 0 (walksAt T t d u)) (λ g. ltb-true 0 (walksAt T t d u) g) (λ g. let z = zero-walks (walksAt T t d u) g in let y = h ∙ ap upToTwo z in absurd (omega (arith, some, y)))
@@ -173,8 +175,8 @@ module _ (text : Bytes) (rows : Words) (lib : Library text rows) where
               unfolding firstPut
               put =
                   cases (eqb (firstWord first v 3) 0)
-                  (λ z. rw z (step-first T t d first₀ c (through T t d u (p ∷ []) c) next first v (walksAt T t d u) target-in (here t c) (other t c) E (sym bars ∙ q) stand wide z target-small room (one .0) p (one .1) in-embedded target-is flag-is))
-                  (λ z. rw z (step-again T t d first₀ c (through T t d u (p ∷ []) c) next first v (walksAt T t d u) target-in (here t c) (other t c) E (sym bars ∙ q) stand wide z))
+                  (λ z. rw z (step-first T t d first₀ c (through T t d u (p ∷ []) c) next first v (walksAt T t d u) target-in (here t c) (other t c) E (sym bars ∙ not-true b q) stand wide z target-small room (one .0) p (one .1) in-embedded target-is flag-is))
+                  (λ z. rw z (step-again T t d first₀ c (through T t d u (p ∷ []) c) next first v (walksAt T t d u) target-in (here t c) (other t c) E (sym bars ∙ not-true b q) stand wide z))
 
               put-at : Entered T t d first₀ (through T t d u (p ∷ []) c) (nextPut next v count) (firstPut first v (u .0) place f (d + 2))
               put-at =
@@ -250,3 +252,11 @@ module _ (text : Bytes) (rows : Words) (d : ℕ) (u : TypeKey) (count from : ℕ
   pub from-more : (i : ℕ) {next first next₁ first₁ next₂ first₂ : Words} → Enters (tableOf text rows) d u count (firstFields i) next first next₁ first₁
       → Enters (tableOf text rows) d u count (fieldAt text rows i (objKey (from + i)) ∷ []) next₁ first₁ next₂ first₂ → Enters (tableOf text rows) d u count (firstFields (i + 1)) next first next₂ first₂
   from-more i a b = rw (fields-more i) (enters-more (tableOf text rows) d u count (firstFields i) (fieldAt text rows i (objKey (from + i)) ∷ []) a b)
+
+module _ (text : Bytes) (rows : Words) (lib : Library text rows) (u : TypeKey) (h : u .0 < typeCount rows) {n from : ℕ} (pn : n ≡ fieldTotal rows u) {s : TypeKey} (ps : s ≡ underRead rows u) (pf : from ≡ firstRead rows s) where
+  -- after the last
+  pub from-end : (d count i : ℕ) → i ≤ n → n ≤ i → {next first next₁ first₁ : Words} → Enters (tableOf text rows) d u count (placesFrom 0 (membersFrom text rows from i)) next first next₁ first₁
+      → Enters (tableOf text rows) d u count (fieldPlaces (tableOf text rows) u) next first next₁ first₁
+  from-end d count i a b {next} {first} {next₁} {first₁} e =
+      let z : i ≡ n = omega arith in
+      subst (λ r. Enters (tableOf text rows) d u count r next first next₁ first₁) (ap (λ k. placesFrom 0 (membersFrom text rows from k)) z ∙ all-fields text rows lib u h pn ps pf) e

@@ -98,8 +98,8 @@ module _ (T : Table) (sound : Sound T) (t : TypeKey) (in0 : t .0 < size T) (d : 
   end-counts v l =
       E .counts v l
       ∙ cases (barred T (reaches T (levelAt T t d)) v)
-          (λ b. rw (standing-next T t d v, b))
-          (λ b. rw (standing-next T t d v, b, all v))
+      (λ b. rw (standing-next T t d v, b))
+      (λ b. rw (standing-next T t d v, b, all v))
 
   end-reached : (v : TypeKey) → v .0 < size T → reachedBy T t (suc d) v ≡ not (eqb (firstWord first v 3) 0)
   end-reached v l = reached-split T t d v ∙ rw (← all v) (E .stamps v l)

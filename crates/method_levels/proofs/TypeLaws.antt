@@ -32,12 +32,14 @@ module _ (text : Bytes) (rows : Words) (lib : Library text rows) (d : ℕ) (leve
 
   pub reaching-more : (k : ℕ) → k < typeCount rows → {count : ℕ} → count ≡ wordAt level k → {next first next₁ first₁ : Words} → Reaching T d level first₀ k next first
       → Enters T d (typeKey k) count (fieldPlaces T (typeKey k)) next first next₁ first₁ → Reaching T d level first₀ (k + 1) next₁ first₁
-  reaching-more k l p r e = record { so-far = λ t o.
-      entered-alike (through T t d (typeKey k) (fieldPlaces T (typeKey k)) (walksFrom T t d k)) (walksFrom T t d (k + 1))
-      (λ x. sym (ap (λ i. walksFrom T t d i x) (add-one k) ∙ count-more T x k (levelAt T t d .walks)))
-      (e .on t first₀ (walksFrom T t d k) (p ∙ o .counts (typeKey k) (in-table text rows lib {x = typeKey k} l)) (r .so-far t o)) }
+  reaching-more k l p r e = record {
+    so-far = λ t o.
+        entered-alike (through T t d (typeKey k) (fieldPlaces T (typeKey k)) (walksFrom T t d k)) (walksFrom T t d (k + 1))
+        (λ x. sym (ap (λ i. walksFrom T t d i x) (add-one k) ∙ count-more T x k (levelAt T t d .walks)))
+        (e .on t first₀ (walksFrom T t d k) (p ∙ o .counts (typeKey k) (in-table text rows lib {x = typeKey k} l)) (r .so-far t o));
+  }
 
-  module _ (t : TypeKey) (h : t .0 < typeCount rows) (o : OnLevel T t d level first₀) {n : ℕ} (e : n ≡ typeCount rows) {k : ℕ} (le : k ≤ n) (past : k < n → ⊥) {next first : Words} (r : Reaching T d level first₀ k next first) where
+  module _ (t : TypeKey) (h : t .0 < typeCount rows) (o : OnLevel T t d level first₀) {n : ℕ} (e : n ≡ typeCount rows) {k : ℕ} (le : k ≤ n) (past : n ≤ k) {next first : Words} (r : Reaching T d level first₀ k next first) where
     sound : Sound T
     sound = loads-sound text T (lib .loads)
 

@@ -29,7 +29,7 @@ module _ (a b : ℕ) where
   pub two-right : 1 < b → 2 ≡ upToTwo (a + b)
   two-right h = sym (two-more (a + b) (omega arith))
 
-  pub two-both : (1 < a → ⊥) → (1 < b → ⊥) → a + b ≡ upToTwo (a + b)
+  pub two-both : a ≤ 1 → b ≤ 1 → a + b ≡ upToTwo (a + b)
   two-both h k =
       cases (ltb (a + b) 2)
       (λ e. sym (two-less (a + b) (ltb-true (a + b) 2 e)))
@@ -102,7 +102,7 @@ clear-on next i h p z j l =
     (λ e. let q = eqb-true j i e in rw q (sym p ∙ z))
     (λ e. let ne = eqb-false j i e in h j (omega arith))
 
-pub clear-all : (next : Words) (n i : ℕ) → (i < n → ⊥) → Clear next i → Clear next n
+pub clear-all : (next : Words) (n i : ℕ) → n ≤ i → Clear next i → Clear next n
 clear-all next n i l h j k = h j (omega arith)
 
 -- ---- places
@@ -128,7 +128,7 @@ places-more first out from (suc k) u l p q =
     rw (z, q, p)
     (sets-snoc (placesTo first k (typeKey (firstWord first u 0))) out from (firstWord first u 1) ∙ ap (λ n. sets (set out (from + n) (firstWord first u 1)) from (placesTo first k (typeKey (firstWord first u 0)))) (places-length first k (typeKey (firstWord first u 0))))
 
-pub places-end : (first out : Words) (from k : ℕ) (u : TypeKey) → (0 < k → ⊥) → sets out from (placesTo first k u) ≡ out
+pub places-end : (first out : Words) (from k : ℕ) (u : TypeKey) → k ≤ 0 → sets out from (placesTo first k u) ≡ out
 unfolding placesTo
 places-end first out from zero u l = refl
 places-end first out from (suc k) u l = absurd (omega arith)

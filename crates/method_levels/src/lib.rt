@@ -104,7 +104,16 @@ fn flag_on(rows: &[u32], first: &[u32], u: TypeKey, ty: TypeKey) -> u32
     }
 }
 
-fn enter(next: &mut [u32], first: &mut [u32], v: TypeKey, count: u32, from: TypeKey, place: u32, flag: u32, level: u32)
+fn enter(
+    next: &mut [u32],
+    first: &mut [u32],
+    v: TypeKey,
+    count: u32,
+    from: TypeKey,
+    place: u32,
+    flag: u32,
+    level: u32,
+)
     requires { ⌜ (v .0 < maxTypes) × (maxTypes ≤ length (now next)) × (firstWords ≤ length (now first)) ⌝ }
     ensures { λ _. ⌜ (now (next .exit) ≡ nextPut (now (next .entry)) v count) × (now (first .exit) ≡ firstPut (now (first .entry)) v (from .0) place flag level) ⌝ }
 {
@@ -116,7 +125,17 @@ fn enter(next: &mut [u32], first: &mut [u32], v: TypeKey, count: u32, from: Type
 }
 
 // All walks that stand at u, through its field m at this place.
-fn step_field(text: &[u8], rows: &[u32], d: u32, u: TypeKey, count: u32, place: u32, m: ObjKey, next: &mut [u32], first: &mut [u32])
+fn step_field(
+    text: &[u8],
+    rows: &[u32],
+    d: u32,
+    u: TypeKey,
+    count: u32,
+    place: u32,
+    m: ObjKey,
+    next: &mut [u32],
+    first: &mut [u32],
+)
     requires { ⌜ Library (now text) (now rows) × (d < maxTypes) × (0 < count) × (maxTypes ≤ length (now next)) × (firstWords ≤ length (now first)) × In (fieldAt (now text) (now rows) place m) (fieldPlaces (tableOf (now text) (now rows)) u) ⌝ }
     ensures { λ _. ⌜ Enters (tableOf (now (text .entry)) (now (rows .entry))) d u count (fieldAt (now (text .entry)) (now (rows .entry)) place m ∷ []) (now (next .entry)) (now (first .entry)) (now (next .exit)) (now (first .exit)) ⌝ }
 {
@@ -143,7 +162,15 @@ fn field_total(rows: &[u32], u: TypeKey) -> u32
     }
 }
 
-fn from_type(text: &[u8], rows: &[u32], d: u32, u: TypeKey, count: u32, next: &mut [u32], first: &mut [u32])
+fn from_type(
+    text: &[u8],
+    rows: &[u32],
+    d: u32,
+    u: TypeKey,
+    count: u32,
+    next: &mut [u32],
+    first: &mut [u32],
+)
     requires { ⌜ Library (now text) (now rows) × (u .0 < typeCount (now rows)) × (d < maxTypes) × (0 < count) × (maxTypes ≤ length (now next)) × (firstWords ≤ length (now first)) ⌝ }
     ensures { λ _. ⌜ Enters (tableOf (now (text .entry)) (now (rows .entry))) d u count (fieldPlaces (tableOf (now (text .entry)) (now (rows .entry))) u) (now (next .entry)) (now (first .entry)) (now (next .exit)) (now (first .exit)) ⌝ }
 {
@@ -157,7 +184,15 @@ fn from_type(text: &[u8], rows: &[u32], d: u32, u: TypeKey, count: u32, next: &m
 }
 
 // A type that the level does not have leads nowhere.
-fn pass_type(text: &[u8], rows: &[u32], d: u32, u: TypeKey, count: u32, next: &mut [u32], first: &mut [u32])
+fn pass_type(
+    text: &[u8],
+    rows: &[u32],
+    d: u32,
+    u: TypeKey,
+    count: u32,
+    next: &mut [u32],
+    first: &mut [u32],
+)
     requires { ⌜ Library (now text) (now rows) × (u .0 < typeCount (now rows)) × (d < maxTypes) × (maxTypes ≤ length (now next)) × (firstWords ≤ length (now first)) ⌝ }
     ensures { λ _. ⌜ Enters (tableOf (now (text .entry)) (now (rows .entry))) d u count (fieldPlaces (tableOf (now (text .entry)) (now (rows .entry))) u) (now (next .entry)) (now (first .entry)) (now (next .exit)) (now (first .exit)) ⌝ }
 {
@@ -208,7 +243,15 @@ pub fn first_level(text: &[u8], rows: &[u32], t: TypeKey, level: &mut [u32], fir
 }
 
 // The level after one more step. Answers whether it has a walk.
-pub fn below(text: &[u8], rows: &[u32], t: TypeKey, d: u32, level: &[u32], next: &mut [u32], first: &mut [u32]) -> bool
+pub fn below(
+    text: &[u8],
+    rows: &[u32],
+    t: TypeKey,
+    d: u32,
+    level: &[u32],
+    next: &mut [u32],
+    first: &mut [u32],
+) -> bool
     requires { ⌜ Library (now text) (now rows) × (t .0 < typeCount (now rows)) × (d < maxTypes) × OnLevel (tableOf (now text) (now rows)) t d (now level) (now first) × (maxTypes ≤ length (now level)) × (maxTypes ≤ length (now next)) × (firstWords ≤ length (now first)) ⌝ }
     ensures { λ r. ⌜ OnLevel (tableOf (now (text .entry)) (now (rows .entry))) t (suc d) (now (next .exit)) (now (first .exit)) × (r ≡ false → levelAt (tableOf (now (text .entry)) (now (rows .entry))) t (suc d) .walks ≡ []) ⌝ }
 {
@@ -216,7 +259,15 @@ pub fn below(text: &[u8], rows: &[u32], t: TypeKey, d: u32, level: &[u32], next:
     clear(next, n);
     let mut u: u32 = 0;
     while u < n {
-        pass_type(text, rows, d, TypeKey(u), word(level, u as usize), next, first);
+        pass_type(
+            text,
+            rows,
+            d,
+            TypeKey(u),
+            word(level, u as usize),
+            next,
+            first,
+        );
         u += 1;
     }
     any_entered(next, n)

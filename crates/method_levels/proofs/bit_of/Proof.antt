@@ -1,4 +1,20 @@
+-- `method_levels::bit_of` meets its contract.
+use mathlib.Core.Path.{sym}
+use mathlib.Core.Path.{ap}
+use Rattle.objects.specs.Table.{bit}
+use borrow.Author.Needs.{needs}
 use Rattle.method_levels.proofs.bit_of.Statement.{statement}
+use Rattle.method_levels.proofs.bit_of.Tie as tie
+
+returns : tie.Need-returns
+returns c = sym (ap bit (c .if1 .taken))
+
+returns-2 : tie.Need-returns-2
+returns-2 c = sym (ap bit (c .if1 .left))
 
 pub bit-of-spec : {M : Type 1} → statement M
-bit-of-spec = ?h
+bit-of-spec =
+    tie.close
+    (tie.spec
+    returns
+    returns-2)
