@@ -1,19 +1,18 @@
 -- How many walks go on to a type: from each type as many as stand at it, through each of its embedded fields that lead there.
-use mathlib.Core.Path.{_≡_, refl, sym, ap, ap₂, _∙_}
-use mathlib.Core.Bool.{Bool, true, false, cond, not, _&&_}
-use mathlib.Core.List.{List, [], _∷_, _++_, map}
-use mathlib.Core.Logic.{_⊎_, inl, inr}
+use mathlib.Core.Path.{_≡_, refl, sym, ap, _∙_}
+use mathlib.Core.Bool.{Bool, true, false, cond, not}
+use mathlib.Core.List.{List, [], _∷_, _++_}
 use Prim.Native.Nat.{ℕ, zero, suc, _+_, _*_, _<_, _≤_}
 use native.Mathlib.Nat.{suc-mul, zero-mul}
 use native.Mathlib.Omega.{arith}
 use lib.Dec.{eqb, ltb}
 use lib.ListN.{length, length-append, length-map}
-use borrow.Author.Tests.{eqb-true, eqb-false, eq-eqb, ne-eqb, lt-ltb, le-ltb, ltb-true, ltb-false}
+use borrow.Author.Tests.{eqb-true, eqb-false, ne-eqb, lt-ltb, le-ltb, ltb-true, ltb-false}
 use Rattle.objects.specs.Lists.{any, keep, flat, In}
 use Rattle.objects.specs.declared.TypeKey.{TypeKey}
 use Rattle.objects.specs.Table.{Table, typeKey, sameType, isEmbedded, bare}
-use Rattle.objects.proofs.ListLaws.{cases, clash, keep-append, keep-keep, keep-map, keep-all, keep-none, keep-ext, any-none, any-yes}
-use Rattle.objects.proofs.KeyLaws.{key-eq, same-key, same-self}
+use Rattle.objects.proofs.ListLaws.{cases, keep-append, keep-keep, keep-map, keep-all, keep-none, any-none}
+use Rattle.objects.proofs.KeyLaws.{key-eq, same-key}
 use Rattle.rules.specs.Ways.{Place, Walk, along, fieldPlaces, embedded, onward}
 use Rattle.method_levels.specs.Levels.{upToTwo, standing}
 use Rattle.method_levels.specs.Entering.{leading}

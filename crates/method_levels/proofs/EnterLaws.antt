@@ -1,25 +1,24 @@
 -- One step to a type: the type is barred, or all walks of the step are counted, and the first of them leaves its row.
 use mathlib.Core.Path.{_≡_, refl, sym, ap, _∙_, subst, fun-ext}
 use mathlib.Core.Bool.{Bool, true, false, cond, not, _&&_, _||_}
-use mathlib.Core.List.{List, [], _∷_}
-use mathlib.Core.Logic.{_≢_}
-use Prim.Native.Nat.{ℕ, zero, suc, _+_, _*_, _<_, _≤_}
+use mathlib.Core.List.{[], _∷_}
+use Prim.Native.Nat.{ℕ, suc, _+_, _<_, _≤_}
 use native.Mathlib.Omega.{arith}
 use lib.Dec.{eqb, ltb}
-use lib.ListN.{length, getD, set}
-use borrow.Author.Tests.{eqb-true, eqb-false, ne-eqb, lt-ltb, le-ltb, ltb-true, ltb-false}
+use lib.ListN.{length, getD}
+use borrow.Author.Tests.{eqb-true, eqb-false, ne-eqb, lt-ltb, ltb-true}
 use Rattle.objects.specs.Bounds.{firstRow, firstWords, maxTypes}
-use Rattle.objects.specs.Lists.{any, In}
+use Rattle.objects.specs.Lists.{In}
 use Rattle.objects.specs.declared.TypeKey.{TypeKey}
-use Rattle.objects.specs.Table.{Table, typeKey, sameType, size, isNamed, kindAt, bare, pointerAt}
+use Rattle.objects.specs.Table.{Table, sameType, size, isNamed, kindAt, bare, pointerAt}
 use Rattle.objects.specs.Rows.{Words, wordAt}
-use Rattle.objects.proofs.ListLaws.{cases, clash, or-l, or-r, or-true, or-false, un-not, and-l, and-r}
-use Rattle.objects.proofs.KeyLaws.{same-key, same-self}
+use Rattle.objects.proofs.ListLaws.{cases, clash, or-l, or-true, and-l, and-r}
+use Rattle.objects.proofs.KeyLaws.{same-key}
 use Rattle.objects.proofs.Stores.{word-put, word-kept}
 use Rattle.rules.specs.Ways.{Place, Walk, embedded}
 use Rattle.rules.specs.MethodSet.{reaches, barred}
-use Rattle.method_levels.specs.Levels.{levelAt, upToTwo, times, firstWord}
-use Rattle.method_levels.specs.Entering.{reachedBy, walksAt, through, Led, Entered, nextPut, rowPut}
+use Rattle.method_levels.specs.Levels.{levelAt, upToTwo, firstWord}
+use Rattle.method_levels.specs.Entering.{reachedBy, Led, Entered, nextPut, rowPut}
 use Rattle.method_levels.proofs.CountLaws.{two-sum, two-none}
 use Rattle.method_levels.proofs.FirstLaws.{row-put, row-kept}
 

@@ -1,5 +1,5 @@
 -- The fields of a type, one after the other: each leads the walks that stand at the type on (`Enters`).
-use mathlib.Core.Path.{_≡_, refl, sym, ap, ap₂, _∙_, subst}
+use mathlib.Core.Path.{_≡_, sym, ap, ap₂, _∙_, subst}
 use mathlib.Core.Bool.{Bool, true, false, cond, not, _&&_}
 use mathlib.Core.List.{List, [], _∷_, _++_}
 use mathlib.Core.Logic.{inl, inr}
@@ -9,16 +9,16 @@ use native.Mathlib.Numerals.{add-one}
 use native.Mathlib.Omega.{arith}
 use lib.Dec.{eqb, ltb}
 use lib.ListN.{length, getD}
-use borrow.Author.Tests.{ltb-true, ltb-false, lt-ltb, eqb-true, eqb-false, eq-eqb, ne-eqb, not-true, not-false}
-use Rattle.objects.specs.Bounds.{firstRow, firstWords, maxTypes}
-use Rattle.objects.specs.Lists.{Bytes, any, In}
+use borrow.Author.Tests.{ltb-true, ltb-false, lt-ltb, not-true, not-false}
+use Rattle.objects.specs.Bounds.{firstWords, maxTypes}
+use Rattle.objects.specs.Lists.{Bytes, In}
 use Rattle.objects.specs.declared.TypeKey.{TypeKey}
 use Rattle.objects.specs.declared.ObjKey.{ObjKey}
-use Rattle.objects.specs.Table.{Table, Member, typeKey, objKey, sameType, size, isEmbedded, isStruct, isNamed, membersOf, fieldsOf, kindAt, under, bare, pointerAt}
+use Rattle.objects.specs.Table.{Table, Member, objKey, sameType, size, isEmbedded, isStruct, isNamed, membersOf, fieldsOf, kindAt, under, bare, pointerAt}
 use Rattle.objects.specs.Rows.{Words, wordAt, typeCount, memberCountOf, elementCount, typeWord, memberAt, membersFrom, tableOf}
-use Rattle.objects.specs.Types.{numberRead, underRead, bareRead, namedRead, pointerRead, firstRead, totalRead, memberTypeRead, embeddedRead}
+use Rattle.objects.specs.Types.{numberRead, underRead, bareRead, namedRead, firstRead, totalRead, memberTypeRead, embeddedRead}
 use Rattle.objects.specs.Laid.{endOf}
-use Rattle.objects.proofs.ListLaws.{cases, clash, some-In, keep-In-to}
+use Rattle.objects.proofs.ListLaws.{cases, some-In, keep-In-to}
 use Rattle.objects.proofs.KeyLaws.{same-key, same-self}
 use Rattle.objects.proofs.KindLaws.{if-In}
 use Rattle.objects.proofs.RowLaws.{size-read, number-read, pointer-read, bare-read, under-read, fields-read, member-type-meant, embedded-meant, members-length, members-at, members-more}
@@ -28,8 +28,8 @@ use Rattle.rules.specs.Ways.{Place, Walk, placesFrom, fieldPlaces, embedded}
 use Rattle.rules.proofs.Sounds.{loads-sound}
 use Rattle.rules.proofs.RangeLaws.{under-in}
 use Rattle.ways.proofs.TableLaws.{places-from, bare-in}
-use Rattle.method_levels.specs.Levels.{levelAt, upToTwo, standing, times, firstWord}
-use Rattle.method_levels.specs.Entering.{fieldTotal, barredRead, flagRead, fieldAt, nextPut, rowPut, firstPut, leading, walksAt, through, Entered, Enters}
+use Rattle.method_levels.specs.Levels.{levelAt, upToTwo, times, firstWord}
+use Rattle.method_levels.specs.Entering.{fieldTotal, barredRead, flagRead, fieldAt, nextPut, firstPut, leading, walksAt, through, Entered, Enters}
 use Rattle.method_levels.proofs.CountLaws.{two-none, any-standing, leading-append}
 use Rattle.method_levels.proofs.ReachLaws.{walk-reached}
 use Rattle.method_levels.proofs.EnterLaws.{entered-alike, step-barred, step-again, step-first}

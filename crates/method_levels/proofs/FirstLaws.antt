@@ -1,17 +1,15 @@
 -- How types were first reached, as words: a row that is written, the rows of other types, and the places that rows say.
-use mathlib.Core.Path.{_≡_, refl, sym, ap, ap₂, _∙_}
-use mathlib.Core.Bool.{true, false, not}
-use mathlib.Core.List.{List, [], _∷_, _++_}
+use mathlib.Core.Path.{_≡_}
+use mathlib.Core.List.{[], _∷_}
 use mathlib.Core.Logic.{_≢_}
-use Prim.Native.Nat.{ℕ, zero, suc, _+_, _*_, _<_, _≤_}
+use Prim.Native.Nat.{ℕ, _+_, _*_, _<_, _≤_}
 use native.Mathlib.Omega.{arith}
 use lib.ListN.{length, getD}
 use Rattle.objects.specs.Bounds.{firstRow, firstWords, maxTypes}
 use Rattle.objects.specs.declared.TypeKey.{TypeKey}
-use Rattle.objects.specs.Table.{typeKey}
-use Rattle.objects.specs.Rows.{Words, wordAt}
+use Rattle.objects.specs.Rows.{Words}
 use Rattle.objects.proofs.Stores.{run-kept, run-put}
-use Rattle.method_levels.specs.Levels.{firstWord, placesTo}
+use Rattle.method_levels.specs.Levels.{firstWord}
 use Rattle.method_levels.specs.Entering.{rowPut}
 
 module _ (first : Words) (v : TypeKey) (a b f s : ℕ) where

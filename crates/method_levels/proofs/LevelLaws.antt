@@ -1,16 +1,15 @@
 -- From one level to the next: all types of the level have led their walks on, so the words say of the next level what they said of this one.
-use mathlib.Core.Path.{_≡_, refl, sym, ap, ap₂, _∙_, subst}
+use mathlib.Core.Path.{_≡_, refl, sym, ap, _∙_, subst}
 use mathlib.Core.Bool.{Bool, true, false, cond, not, _||_}
 use mathlib.Core.List.{List, [], _∷_, _++_, map}
 use mathlib.Core.Logic.{inl, inr}
-use Prim.Native.Nat.{ℕ, zero, suc, _+_, _*_, _<_, _≤_}
+use Prim.Native.Nat.{ℕ, zero, suc, _<_, _≤_}
 use native.Mathlib.Nat.{eq-or-lt-of-le, le-of-suc-le-suc}
 use native.Mathlib.Omega.{arith}
 use lib.Dec.{eqb, ltb}
 use lib.ListN.{length, length-append}
-use borrow.Author.Tests.{lt-ltb, ltb-true}
-use Rattle.objects.specs.Bounds.{firstRow}
-use Rattle.objects.specs.Lists.{any, keep, flat, In}
+use borrow.Author.Tests.{ltb-true}
+use Rattle.objects.specs.Lists.{any, flat, In}
 use Rattle.objects.specs.declared.TypeKey.{TypeKey}
 use Rattle.objects.specs.Table.{Table, typeKey, sameType, size, bit, isNamed, kindAt, bare, pointerAt}
 use Rattle.objects.specs.Rows.{Words, wordAt}

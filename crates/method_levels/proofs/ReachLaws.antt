@@ -1,20 +1,20 @@
 -- What levels reach: it stays reached, it is in the table, and a step from what an earlier level reached leads to nothing new.
-use mathlib.Core.Path.{_≡_, refl, sym, ap, _∙_, subst}
-use mathlib.Core.Bool.{Bool, true, false, not}
-use mathlib.Core.List.{List, [], _∷_, map}
-use mathlib.Core.Logic.{inl, inr}
+use mathlib.Core.Path.{_≡_, refl, ap, _∙_, subst}
+use mathlib.Core.Bool.{true, false, not}
+use mathlib.Core.List.{map}
+use mathlib.Core.Logic.{inl}
 use Prim.Native.Nat.{ℕ, zero, suc, _<_, _≤_}
 use native.Mathlib.Nat.{eq-or-lt-of-le, le-of-suc-le-suc}
 use native.Mathlib.Omega.{arith}
-use Rattle.objects.specs.Lists.{any, keep, flat, In}
+use Rattle.objects.specs.Lists.{any, flat, In}
 use Rattle.objects.specs.declared.TypeKey.{TypeKey}
-use Rattle.objects.specs.Table.{Table, typeKey, sameType, size, isNamed, kindAt, bare}
-use Rattle.objects.proofs.ListLaws.{cases, clash, either, or-true, any-append, any-map, any-In, some-In, In-keep, In-flat, In-map, In-append, In-append-l, In-append-r, keep-In-to, flat-In-to, map-In-to}
+use Rattle.objects.specs.Table.{Table, sameType, size, isNamed, kindAt, bare}
+use Rattle.objects.proofs.ListLaws.{cases, clash, either, or-true, any-append, any-map, any-In, some-In, In-keep, In-flat, In-map, In-append, In-append-l, keep-In-to, flat-In-to, map-In-to}
 use Rattle.objects.proofs.KeyLaws.{same-key, same-self}
 use Rattle.rules.specs.Sound.{Sound}
-use Rattle.rules.specs.Ways.{Place, Walk, start, along, embedded, onward}
-use Rattle.rules.specs.MethodSet.{Level, reaches, barred, below}
-use Rattle.ways.specs.OfTable.{graph, stepOf}
+use Rattle.rules.specs.Ways.{Place, Walk, along, embedded, onward}
+use Rattle.rules.specs.MethodSet.{reaches, barred, below}
+use Rattle.ways.specs.OfTable.{stepOf}
 use Rattle.ways.proofs.TableLaws.{closed, bare-in}
 use Rattle.method_levels.specs.Levels.{levelAt}
 use Rattle.method_levels.specs.Entering.{reachedBy}

@@ -1,7 +1,7 @@
 -- The first level, as words: the start alone.
 use mathlib.Core.Path.{_≡_, refl, sym, ap, _∙_, subst}
 use mathlib.Core.Bool.{Bool, true, false, not, _||_}
-use mathlib.Core.List.{List, [], _∷_}
+use mathlib.Core.List.{[], _∷_}
 use mathlib.Core.Logic.{inl}
 use Prim.Native.Nat.{ℕ, zero, suc, _+_, _*_, _<_, _≤_}
 use native.Mathlib.Omega.{arith}
@@ -11,10 +11,10 @@ use borrow.Author.Tests.{eqb-false}
 use Rattle.objects.specs.Bounds.{firstRow, firstWords, maxTypes}
 use Rattle.objects.specs.Lists.{Bytes, any, In}
 use Rattle.objects.specs.declared.TypeKey.{TypeKey}
-use Rattle.objects.specs.Table.{Table, typeKey, sameType, size, bit, bare, pointerAt}
+use Rattle.objects.specs.Table.{Table, typeKey, sameType, size, bit, bare}
 use Rattle.objects.specs.Rows.{Words, wordAt, typeCount, tableOf}
 use Rattle.objects.specs.Types.{bareRead, pointerRead}
-use Rattle.objects.proofs.ListLaws.{cases, clash, either, or-false, In-keep}
+use Rattle.objects.proofs.ListLaws.{cases, clash, either, In-keep}
 use Rattle.objects.proofs.KeyLaws.{same-key, same-self}
 use Rattle.objects.proofs.RowLaws.{size-read, bare-read, pointer-read}
 use Rattle.objects.proofs.Stores.{word-put, word-kept}
@@ -22,8 +22,8 @@ use Rattle.rules.specs.Library.{Library}
 use Rattle.rules.specs.Ways.{Walk, start}
 use Rattle.rules.proofs.Sounds.{loads-sound}
 use Rattle.ways.proofs.TableLaws.{bare-in}
-use Rattle.method_levels.specs.Levels.{levelAt, upToTwo, standing, times, firstWord, placesTo, Came, OnLevel}
-use Rattle.method_levels.specs.Entering.{rowPut, reachedBy}
+use Rattle.method_levels.specs.Levels.{levelAt, standing, times, firstWord, placesTo, Came, OnLevel}
+use Rattle.method_levels.specs.Entering.{rowPut}
 use Rattle.method_levels.proofs.FirstLaws.{row-put, row-kept}
 
 none-there : (n i : ℕ) → _≡_ {A = ℕ} (getD {A = ℕ} (replicate n 0) i 0) 0

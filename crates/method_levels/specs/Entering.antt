@@ -14,7 +14,7 @@ use Rattle.objects.specs.declared.ObjKey.{ObjKey}
 use Rattle.objects.specs.Table.{Table, sameType, size, isEmbedded, bare, pointerAt}
 use Rattle.objects.specs.Rows.{Words, wordAt, memberAt}
 use Rattle.objects.specs.Types.{numberRead, underRead, namedRead, pointerRead, totalRead}
-use Rattle.rules.specs.Ways.{Place, Walk, fieldPlaces, embedded, onward}
+use Rattle.rules.specs.Ways.{Place, Walk, embedded, onward}
 use Rattle.rules.specs.MethodSet.{reaches, barred}
 use Rattle.method_levels.specs.Levels.{levelAt, upToTwo, standing, times, firstWord, OnLevel}
 

@@ -1,8 +1,6 @@
 -- `method_levels::bit_of` meets its contract.
-use mathlib.Core.Path.{sym}
-use mathlib.Core.Path.{ap}
+use mathlib.Core.Path.{sym, ap}
 use Rattle.objects.specs.Table.{bit}
-use borrow.Author.Needs.{needs}
 use Rattle.method_levels.proofs.bit_of.Statement.{statement}
 use Rattle.method_levels.proofs.bit_of.Tie as tie
 

@@ -1,6 +1,5 @@
 -- `method_levels::enter` meets its contract.
 use native.Mathlib.Omega.{arith}
-use lib.ListN.{length-set}
 use Rattle.method_levels.proofs.WordLaws.{next-put, first-put, first-kept}
 use borrow.Author.Needs.{needs}
 use Rattle.method_levels.proofs.enter.Statement.{statement}

@@ -1,5 +1,5 @@
 -- `method_levels::from_type` meets its contract. The invariant: the first i fields have led the walks on.
-use mathlib.Core.Path.{_≡_, subst}
+use mathlib.Core.Path.{_≡_}
 use Prim.Native.Nat.{_-_, _≤_}
 use native.Mathlib.Omega.{arith}
 use lib.ListN.{length}

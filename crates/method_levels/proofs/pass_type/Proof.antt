@@ -1,5 +1,4 @@
 -- `method_levels::pass_type` meets its contract.
-use native.Mathlib.Omega.{arith}
 use Rattle.method_levels.proofs.FieldLaws.{enters-zero}
 use borrow.Author.Needs.{needs}
 use Rattle.method_levels.proofs.pass_type.Statement.{statement}

@@ -1,7 +1,6 @@
 -- `method_levels::up_to_two` meets its contract.
 use Rattle.method_levels.proofs.WordLaws.{two-left, two-right, two-both}
 use native.Mathlib.Omega.{arith}
-use borrow.Author.Needs.{needs}
 use Rattle.method_levels.proofs.up_to_two.Statement.{statement}
 use Rattle.method_levels.proofs.up_to_two.Tie as tie
 
