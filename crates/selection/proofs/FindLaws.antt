@@ -28,7 +28,7 @@ module _ (text : Bytes) (rows : Words) where
       ∙ ap (λ l. memberAt text rows (objKey from) ∷ l) (sym (members-more text rows (suc from) n))
 
   -- member i and those behind it
-  members-left : (from count i : ℕ) → i < count
+  pub members-left : (from count i : ℕ) → i < count
       → membersFrom text rows (from + i) (count - i) ≡ memberAt text rows (objKey (from + i)) ∷ membersFrom text rows (from + (i + 1)) (count - (i + 1))
   members-left from count i h =
       let z : count - i ≡ suc (count - (i + 1)) = omega arith in

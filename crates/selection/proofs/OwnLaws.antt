@@ -64,7 +64,7 @@ first-owned T q t =
 -- ---- the list under a T line
 
 module _ (text : Bytes) (rows : Words) (t : TypeKey) where
-  members-row : t .0 < typeCount rows → 8 ≤ numberRead rows t → membersOf (kindAt (tableOf text rows) t) ≡ membersFrom text rows (firstRead rows t) (totalRead rows t)
+  pub members-row : t .0 < typeCount rows → 8 ≤ numberRead rows t → membersOf (kindAt (tableOf text rows) t) ≡ membersFrom text rows (firstRead rows t) (totalRead rows t)
   members-row h g =
       let m = members-meant text rows t (numberRead rows t) g in
       rw (kind-read text rows t h) (rw (number-meant text rows t, eq-eqb (numberRead rows t) (numberRead rows t) refl) at m)
