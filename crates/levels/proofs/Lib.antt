@@ -1,0 +1,4 @@
+pub mod RangeLaws
+pub mod WordLaws
+pub mod StateLaws
+pub mod EnterLaws
