@@ -2,3 +2,4 @@ pub mod RangeLaws
 pub mod WordLaws
 pub mod StateLaws
 pub mod EnterLaws
+pub mod StartLaws
