@@ -43,6 +43,10 @@ library-few l = l .laid .types
 pub library-sound : {text : Bytes} {rows : Words} → Library text rows → Sound (tableOf text rows)
 library-sound {text} {rows} l = loads-sound text (tableOf text rows) (l .loads)
 
+-- the words after a call are those that its contract says
+pub by-words : {text : Bytes} {rows ws : Words} {before n : ℕ} {X : List Row} {after said : Words} {end : ℕ} → after ≡ said → Enters text rows ws before n X said end → Enters text rows ws before n X after end
+by-words e h = rw e h
+
 -- ---- the model
 
 -- the first identical row is marked
@@ -127,7 +131,7 @@ module _ (text : Bytes) (rows ws : Words) (before n : ℕ) (lib : Library text r
     enters-above b = enters-met text rows ws before n lib h (rowMeant e key) j (let z = some in omega arith) (at-row .1)
 
     -- at this level
-    pub enters-again : (k ≤ before → ⊥) → Enters text rows ws before n (rowMeant e key ∷ []) (set ws (searchRow * (k - 1) + 4) 1) n
+    pub enters-again : before < k → Enters text rows ws before n (rowMeant e key ∷ []) (set ws (searchRow * (k - 1) + 4) 1) n
     unfolding rowMeant
     enters-again b =
         let r = at-row in
@@ -144,7 +148,7 @@ module _ (text : Bytes) (rows ws : Words) (before n : ℕ) (lib : Library text r
             let same : indexOf ws (typ (rowOf ws i)) ≡ indexOf ws (e .typ) = ap (indexOf ws) (key-eq (typ (rowOf ws i)) (e .typ) z) in
             omega arith
 
-    pub again-fits : (k ≤ before → ⊥) → (searchRow * (k - 1) + recordWords ≤ length ws) × (wordAt ws (searchRow * (k - 1) + 3) ≤ 1)
+    pub again-fits : before < k → (searchRow * (k - 1) + recordWords ≤ length ws) × (wordAt ws (searchRow * (k - 1) + 3) ≤ 1)
     again-fits b =
         let r = rows-few (typeCount rows) ws n (h .rowed) in
         let w = library-few lib in
@@ -181,7 +185,7 @@ module _ (text : Bytes) (rows ws : Words) (before n : ℕ) (lib : Library text r
     new-few = let r = room (typeCount rows) ws n (h .rowed) (e .typ) typed new in let w = library-few lib in omega arith
 
     -- none has
-    module _ (back : e .parent < before) {j : ℕ} (t : Twin (tableOf text rows) ws before n (e .typ) j) (end : j < n → ⊥) where
+    module _ (back : e .parent < before) {j : ℕ} (t : Twin (tableOf text rows) ws before n (e .typ) j) (end : n ≤ j) where
       put-back : e .parent ≤ n
       put-back = let o = h .order in omega arith
 
@@ -230,6 +234,10 @@ module _ (text : Bytes) (rows ws : Words) (before n : ℕ) (lib : Library text r
     here = λ l. absurd (omega arith);
   }
 
+-- the type of a row that was loaded
+pub row-typed : (types : ℕ) (ws : Words) (n j : ℕ) → Rowed types ws n → {e : EmbeddedType} → e ≡ recOf ws (searchRow * j) → j < n → e .typ .0 < types
+row-typed types ws n j h read l = rw (read, ← row-typ ws j) (h .typed j l)
+
 -- the rows looked at so far
 abbrev pub Others : Bytes → Words → Words → ℕ → ℕ → TypeKey → ℕ → Type 0
 Others text rows ws before n t j = (before ≤ j) × (j ≤ n) × ((i : ℕ) → before ≤ i → i < j → identical (tableOf text rows) (typ (rowOf ws i)) t ≡ false)
@@ -248,5 +256,5 @@ module _ (text : Bytes) (rows ws : Words) (before n : ℕ) (t : TypeKey) where
     pub twin-found : b ≡ true → Twin (tableOf text rows) ws before n t j
     twin-found y = let a = o .0 in record { order = (a, omega arith); none = o .2; here = λ z. sym says-row ∙ y }
 
-  pub twin-none : (j : ℕ) → Others text rows ws before n t j → (j < n → ⊥) → Twin (tableOf text rows) ws before n t n
+  pub twin-none : (j : ℕ) → Others text rows ws before n t j → n ≤ j → Twin (tableOf text rows) ws before n t n
   twin-none j o end = let a = o .0 in let b = o .1 in record { order = (omega arith, omega arith); none = λ i p q. o .2 i p (omega arith); here = λ z. absurd (omega arith) }
