@@ -56,12 +56,12 @@ consolidated-first : (G : Graph) (f g : ℕ → Row) (x : Row) (lo k j : ℕ) �
 consolidated-first G f g x lo zero j a b none here m rest = absurd (omega arith)
 consolidated-first G f g x lo (suc k) j a b none here m rest = elim (decLt lo j) [
   | yes l ↦
-    rw (none lo (omega arith) l)
-    (ap₂ (λ u v. u ∷ v) (rest lo (λ e. omega arith)) (consolidated-first G f g x (suc lo) k j (omega arith) (omega arith) (λ i p q. none i (omega arith) q) here m rest))
+      rw (none lo (omega arith) l)
+      (ap₂ (λ u v. u ∷ v) (rest lo (λ e. omega arith)) (consolidated-first G f g x (suc lo) k j (omega arith) (omega arith) (λ i p q. none i (omega arith) q) here m rest))
   | no l ↦
-    let e : lo ≡ j = omega arith in
-    rw (e, here)
-    (ap₂ (λ u v. u ∷ v) m (range-same g f (suc j) k (λ i p q. rest i (λ z. omega arith))))
+      let e : lo ≡ j = omega arith in
+      rw (e, here)
+      (ap₂ (λ u v. u ∷ v) m (range-same g f (suc j) k (λ i p q. rest i (λ z. omega arith))))
 ]
 
 module _ (G : Graph) (R F : List Row) (x : Row) where

@@ -3,3 +3,4 @@ pub mod WordLaws
 pub mod StateLaws
 pub mod EnterLaws
 pub mod StartLaws
+pub mod LowerLaws

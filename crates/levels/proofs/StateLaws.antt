@@ -57,7 +57,7 @@ module _ (types : ℕ) (ws : Words) (n : ℕ) (h : Rowed types ws n) where
   pub room : (t : TypeKey) → t .0 < types → indexOf ws t ≡ 0 → n < types
   room t b z =
       let p = pigeons types (t .0 ∷ map num (range 0 n)) (none, different 0 n (omega arith))
-          (λ x i. either i (λ e. rw e b) (λ j. let r = range-In num 0 n x j in let c = r .2 in rw (r .3) (h .typed (r .0) (omega arith)))) in
+      (λ x i. either i (λ e. rw e b) (λ j. let r = range-In num 0 n x j in let c = r .2 in rw (r .3) (h .typed (r .0) (omega arith)))) in
       let l = range-length num 0 n in
       omega arith
     where
@@ -186,7 +186,7 @@ searching-put text rows ws before n few h e key typed back new none =
       apart = λ a b p q r. elim (decLt b n) [
         | yes l ↦ rw (old (typeCount rows) few ws n (h .rowed) e key typed back new a (omega arith), old (typeCount rows) few ws n (h .rowed) e key typed back new b l) (h .apart a b p q l)
         | no l ↦
-          let z : b ≡ n = omega arith in
-          rw (z, old (typeCount rows) few ws n (h .rowed) e key typed back new a (omega arith), new-typ (typeCount rows) few ws n (h .rowed) e key typed back new) (none a p (omega arith))
+            let z : b ≡ n = omega arith in
+            rw (z, old (typeCount rows) few ws n (h .rowed) e key typed back new a (omega arith), new-typ (typeCount rows) few ws n (h .rowed) e key typed back new) (none a p (omega arith))
       ];
     }

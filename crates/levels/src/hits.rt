@@ -9,14 +9,22 @@ ghost use Rattle.selection.specs.Results.{nameMeant};
 ghost use Rattle.levels.specs.State.{Rowed};
 ghost use Rattle.levels.specs.Hits.{Told};
 use crate::Hit;
+use crate::own::own_member;
 use crate::words::ROW;
 use multiples::load;
 use selection::Name;
 use selection::Own;
-use crate::own::own_member;
 
 // The first of the rows from lo on, up to n.
-pub fn next_hit(text: &[u8], rows: &[u32], search: &[u32], names: &[u8], q: Name, lo: u32, n: usize) -> Hit
+pub fn next_hit(
+    text: &[u8],
+    rows: &[u32],
+    search: &[u32],
+    names: &[u8],
+    q: Name,
+    lo: u32,
+    n: usize,
+) -> Hit
     requires { ⌜ Library (now text) (now rows) ⌝ }
     requires { ⌜ (lo ≤ n) × (hasPackage (tableOf (now text) (now rows)) (pkgOf (q .pkg)) ≡ true) ⌝ }
     requires { ⌜ Rowed (typeCount (now rows)) (now search) n ⌝ }

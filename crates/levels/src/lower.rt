@@ -87,7 +87,18 @@ fn embed_fields(
     let mut end = n;
     let mut j: u32 = 0;
     while j < total {
-        end = embed_field(text, rows, marks, search, before, end, i, multiples, ObjKey(first + j), j);
+        end = embed_field(
+            text,
+            rows,
+            marks,
+            search,
+            before,
+            end,
+            i,
+            multiples,
+            ObjKey(first + j),
+            j,
+        );
         j += 1;
     }
     end
@@ -117,11 +128,29 @@ fn embed(
     }
     let first = first_member(rows, u);
     let total = member_total(rows, u);
-    embed_fields(text, rows, marks, search, before, n, i, e.multiples, first, total)
+    embed_fields(
+        text,
+        rows,
+        marks,
+        search,
+        before,
+        n,
+        i,
+        e.multiples,
+        first,
+        total,
+    )
 }
 
 // What the types of the level embed, whose rows are those from lo up to before.
-pub fn lower(text: &[u8], rows: &[u32], marks: &mut [u32], search: &mut [u32], lo: u32, before: usize) -> usize
+pub fn lower(
+    text: &[u8],
+    rows: &[u32],
+    marks: &mut [u32],
+    search: &mut [u32],
+    lo: u32,
+    before: usize,
+) -> usize
     requires { ⌜ Library (now text) (now rows) ⌝ }
     requires { ⌜ (markWords ≤ length (now marks)) × (lo ≤ before) ⌝ }
     requires { ⌜ Searching (now text) (now rows) (now search) before before ⌝ }

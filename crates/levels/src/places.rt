@@ -16,7 +16,14 @@ fn or(a: bool, b: bool) -> bool
 
 // The places of the way to row i, d steps down, and the last place, in front of the lent row. Answers the flag: f, or whether a pointer was removed on the
 // way.
-pub fn write_places(search: &[u32], places: &mut [u32], d: usize, i: u32, f: bool, last: u32) -> bool
+pub fn write_places(
+    search: &[u32],
+    places: &mut [u32],
+    d: usize,
+    i: u32,
+    f: bool,
+    last: u32,
+) -> bool
     requires { ⌜ (d < maxPlaces) × (maxPlaces ≤ length (now places)) ⌝ }
     ensures { λ r. ⌜ Written (now (search .entry)) d i f last (now (places .exit)) r ⌝ }
 {

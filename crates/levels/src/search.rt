@@ -124,7 +124,21 @@ pub fn search(
     while left > 0 {
         match next_hit(text, rows, search, names, q, lo, n) {
             Hit::At(i, place, m) => {
-                return verdict(text, rows, search, places, names, q, f, a, d, n, i, place, m);
+                return verdict(
+                    text,
+                    rows,
+                    search,
+                    places,
+                    names,
+                    q,
+                    f,
+                    a,
+                    d,
+                    n,
+                    i,
+                    place,
+                    m,
+                );
             }
             Hit::Nothing => {}
         }
