@@ -9,11 +9,12 @@ ghost use Rattle.selection.specs.Results.{nameMeant};
 ghost use Rattle.levels.specs.State.{Rowed};
 ghost use Rattle.levels.specs.Hits.{Told};
 use crate::Hit;
-use crate::own::own_member;
+
 use crate::words::ROW;
 use multiples::load;
 use selection::Name;
 use selection::Own;
+use selection::own_member;
 
 // The first of the rows from lo on, up to n.
 pub fn next_hit(

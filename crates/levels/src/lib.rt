@@ -6,7 +6,6 @@ pub mod hits; // the rows of a level that have the name
 pub mod lower; // the level below
 pub mod places; // the way to a row
 pub mod search; // the levels
-pub mod own; // temporary
 pub mod words; // the rows in lent words
 
 // The next row whose type has the name: its number, and its first member of the name with its place.
