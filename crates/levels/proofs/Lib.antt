@@ -4,3 +4,6 @@ pub mod StateLaws
 pub mod EnterLaws
 pub mod StartLaws
 pub mod LowerLaws
+pub mod PlaceLaws
+pub mod HitLaws
+pub mod VerdictLaws

@@ -54,11 +54,3 @@ module _ {A : Type 0} (f : ℕ → A) where
   pub range-In : (lo k : ℕ) (x : A) → In x (map f (range lo k)) → (i : ℕ) × (lo ≤ i) × (i < lo + k) × (x ≡ f i)
   range-In lo zero x h = absurd h
   range-In lo (suc k) x h = either h (λ e. (lo, omega arith, omega arith, e)) (λ j. let r = range-In (suc lo) k x j in let a = r .1 in let b = r .2 in (r .0, omega arith, omega arith, r .3))
-
--- the first that passes the test stands in front of what is kept behind it
-module _ (p : ℕ → Bool) where
-  pub keep-skip : (lo k : ℕ) → p lo ≡ false → keep p (range lo (suc k)) ≡ keep p (range (suc lo) k)
-  keep-skip lo k e = rw e
-
-  pub keep-first : (lo k : ℕ) → p lo ≡ true → keep p (range lo (suc k)) ≡ lo ∷ keep p (range (suc lo) k)
-  keep-first lo k e = rw e

@@ -26,12 +26,16 @@ hitRow T q ws i = hasOwn T q (typ (rowOf ws i))
 unfoldable pub hitsIn : Table → Identity → Words → ℕ → ℕ → List ℕ
 hitsIn T q ws lo n = keep (hitRow T q ws) (range lo (n - lo))
 
--- Row i is the first of them, and the member is its first of the name.
+-- The member, at its place, is the first of the name that row i's type has itself.
+pub record OwnAt (text : Bytes) (rows : Words) (q : Identity) (ws : Words) (i place : ℕ) (m : ObjKey) : Type 0 where
+  pub own : firstOf (matching (tableOf text rows) q (typ (rowOf ws i))) ≡ record { place = place; member = memberAt text rows m }
+  pub typed : memberTypeRead rows m .0 < typeCount rows
+
+-- Row i is the first that has one.
 pub record HitAt (text : Bytes) (rows : Words) (q : Identity) (ws : Words) (lo n i place : ℕ) (m : ObjKey) : Type 0 where
   pub order : (lo ≤ i) × (i < n)
   pub rest : hitsIn (tableOf text rows) q ws lo n ≡ i ∷ hitsIn (tableOf text rows) q ws (suc i) n
-  pub own : firstOf (matching (tableOf text rows) q (typ (rowOf ws i))) ≡ record { place = place; member = memberAt text rows m }
-  pub typed : memberTypeRead rows m .0 < typeCount rows
+  pub here : OwnAt text rows q ws i place m
 
 -- what a search for the next of them gives
 unfoldable pub Told : Bytes → Words → Identity → Words → ℕ → ℕ → Hit → Type 0

@@ -1,6 +1,6 @@
 // The levels, one after the other, until one has the name or none is left.
 ghost use mathlib.Core.Path.{_≡_};
-ghost use mathlib.Core.Bool.{true};
+ghost use mathlib.Core.Bool.{true, not, _&&_};
 ghost use mathlib.Core.List.{_∷_};
 ghost use Prim.Native.Nat.{suc, _<_, _≤_};
 ghost use lib.ListN.{length, replicate};
@@ -12,7 +12,7 @@ ghost use Rattle.ways.specs.OfTable.{graph};
 ghost use Rattle.ways.specs.Search.{lookup-rows};
 ghost use Rattle.selection.specs.Results.{nameMeant, Selects};
 ghost use Rattle.levels.specs.State.{Rowed};
-ghost use Rattle.levels.specs.Hits.{HitAt, Alone, judgedRow, hitsIn};
+ghost use Rattle.levels.specs.Hits.{OwnAt, Alone, judgedRow, hitsIn};
 use crate::Hit;
 use crate::hits::next_hit;
 use crate::lower::lower;
@@ -30,16 +30,26 @@ use selection::LookupResult;
 use selection::Name;
 use selection::Selection;
 
+// "a method with pointer receiver, the flag is 0 and a is 0"
+fn bad_receiver(ptr: bool, flag: bool, a: bool) -> bool
+    ensures { λ r. ⌜ r ≡ ptr && not flag && not a ⌝ }
+{
+    if flag {
+        return false;
+    }
+    if a {
+        return false;
+    }
+    ptr
+}
+
 // "One shortest way: `entry`, member, flag, places. But `badreceiver` if it is a method with pointer receiver, the flag is 0 and a is 0."
 fn alone(text: &[u8], rows: &[u32], m: ObjKey, flag: bool, a: bool) -> LookupResult
     ensures { λ r. ⌜ Alone (now (text .entry)) (now (rows .entry)) m flag a r ⌝ }
 {
-    if has_ptr(rows, m) {
-        if !flag {
-            if !a {
-                return LookupResult::BadMethodReceiver;
-            }
-        }
+    let ptr = has_ptr(rows, m);
+    if bad_receiver(ptr, flag, a) {
+        return LookupResult::BadMethodReceiver;
     }
     if is_method(rows, m) {
         return LookupResult::Entry(Entity::Method(m), flag);
@@ -66,7 +76,7 @@ fn verdict(
     requires { ⌜ Library (now text) (now rows) ⌝ }
     requires { ⌜ (d < maxPlaces) × (maxPlaces ≤ length (now places)) × (i < n) × (hasPackage (tableOf (now text) (now rows)) (pkgOf (q .pkg)) ≡ true) ⌝ }
     requires { ⌜ Rowed (typeCount (now rows)) (now search) n ⌝ }
-    requires { ⌜ HitAt (now text) (now rows) (nameMeant (now text) (now rows) (now names) q) (now search) i n i place m ⌝ }
+    requires { ⌜ OwnAt (now text) (now rows) (nameMeant (now text) (now rows) (now names) q) (now search) i place m ⌝ }
     ensures { λ r. ⌜ Selects (now (text .entry)) (now (rows .entry)) r (now (places .exit)) (judgedRow (tableOf (now (text .entry)) (now (rows .entry))) (nameMeant (now (text .entry)) (now (rows .entry)) (now (names .entry)) q) (now (search .entry)) f a d i (hitsIn (tableOf (now (text .entry)) (now (rows .entry))) (nameMeant (now (text .entry)) (now (rows .entry)) (now (names .entry)) q) (now (search .entry)) (suc i) n)) ⌝ }
 {
     let e = load(search, ROW * (i as usize));
