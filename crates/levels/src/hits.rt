@@ -9,7 +9,6 @@ ghost use Rattle.selection.specs.Results.{nameMeant};
 ghost use Rattle.levels.specs.State.{Rowed};
 ghost use Rattle.levels.specs.Hits.{Told};
 use crate::Hit;
-
 use crate::words::ROW;
 use multiples::load;
 use selection::Name;
