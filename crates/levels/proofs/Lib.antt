@@ -7,3 +7,4 @@ pub mod LowerLaws
 pub mod PlaceLaws
 pub mod HitLaws
 pub mod VerdictLaws
+pub mod SearchLaws
