@@ -92,11 +92,11 @@ module _ (text : Bytes) (rows : Words) (q : Identity) (t : TypeKey) (f a : Bool)
     hits-are =
         ap (keep (λ i. hit G q (embeddedAt G (start t f) (rowsOf ws n) d i))) level-is
         ∙ keep-In-ext (λ i. hit G q (embeddedAt G (start t f) (rowsOf ws n) d i)) (hitRow T q ws) (range lo (n - lo)) (λ i j.
-            let o = h .order in
-            let r = In-range lo (n - lo) i j in
-            let b = r .0 in
-            let c = r .1 in
-            ap (λ u. any (G .hit q) (G .members u)) (h .types i b (omega arith)))
+        let o = h .order in
+        let r = In-range lo (n - lo) i j in
+        let b = r .0 in
+        let c = r .1 in
+        ap (λ u. any (G .hit q) (G .members u)) (h .types i b (omega arith)))
 
     -- what the first of them, and those behind it, give
     judged-is : (i : ℕ) (others : List ℕ) → lo ≤ i → i < n → ((j : ℕ) → In j others → (lo ≤ j) × (j < n))
@@ -201,3 +201,15 @@ module _ (text : Bytes) (rows : Words) (q : Identity) (t : TypeKey) (f a : Bool)
   -- no level is left
   pub going-end : {ws : Words} {left lo n d : ℕ} → Going ws left lo n d → left ≤ 0 → {places : Words} → Selects text rows (record { result = LookupResult.NotFound; count = 0 }) places (lookup-rows G q t f a)
   going-end {ws} {left} {lo} {n} {d} h z = nothing (let e : left ≡ 0 = omega arith in h .left ∙ ap (λ k. search-rows G (start t f) q a k (rowsOf ws n) lo d) e)
+
+-- ---- the type that the search starts at is read off the first row
+
+module _ (text : Bytes) (rows : Words) (q : Identity) (t : TypeKey) (f a : Bool) (ws : Words) (e : rowsOf ws 1 ≡ rootRow t f ∷ []) where
+  root-typ : typ (rowOf ws 0) ≡ t
+  root-typ = ap typ (sym (row-at ws 1 0 (omega arith)) ∙ ap (λ R. row R 0) e)
+
+  pub root-going : Searching text rows ws 1 1 → Going text rows q (typ (rowOf ws 0)) f a ws (typeCount rows) 0 1 0
+  root-going h = rw root-typ (going-start text rows q t f a ws h e)
+
+  pub root-selects : {r : Selection} {places : Words} → Selects text rows r places (lookup-rows (graph (tableOf text rows)) q (typ (rowOf ws 0)) f a) → Selects text rows r places (lookup-rows (graph (tableOf text rows)) q t f a)
+  root-selects {r} {places} h = subst (λ u. Selects text rows r places (lookup-rows (graph (tableOf text rows)) q u f a)) root-typ h
