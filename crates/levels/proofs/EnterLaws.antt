@@ -1,22 +1,21 @@
 -- One row is entered into the level: the ways through `enter` give what the model's `entered` gives.
 use mathlib.Core.Path.{_≡_, refl, sym, ap, ap₂, _∙_, subst}
-use mathlib.Core.Bool.{Bool, true, false, cond}
+use mathlib.Core.Bool.{Bool, true, false}
 use mathlib.Core.List.{List, [], _∷_, _++_, map}
-use mathlib.Core.Logic.{_⊎_, inl, inr, _≢_}
+use mathlib.Core.Logic.{_≢_}
 use Prim.Native.Nat.{ℕ, zero, suc, _+_, _*_, _-_, _≤_, _<_}
 use native.Mathlib.Omega.{arith}
 use native.Mathlib.Decide.{decLt}
 use lib.Dec.{eqb}
 use borrow.Author.Tests.{ne-eqb}
 use lib.ListN.{length, set}
-use Rattle.objects.specs.Bounds.{maxTypes, searchRow, searchWords}
+use Rattle.objects.specs.Bounds.{maxTypes, searchRow}
 use Rattle.objects.specs.Lists.{Bytes, any}
 use Rattle.objects.specs.declared.ObjKey.{ObjKey}
 use Rattle.objects.specs.declared.TypeKey.{TypeKey}
-use Rattle.objects.specs.Table.{sameType, isNamed, kindAt}
+use Rattle.objects.specs.Table.{sameType}
 use Rattle.objects.specs.Rows.{Words, wordAt, typeCount, tableOf}
 use Rattle.objects.specs.Types.{namedRead}
-use Rattle.objects.proofs.ListLaws.{cases, clash}
 use Rattle.objects.proofs.KeyLaws.{key-eq, same-self}
 use Rattle.objects.proofs.RowLaws.{number-read}
 use Rattle.rules.specs.Sound.{Sound}
@@ -26,7 +25,7 @@ use Rattle.rules.proofs.IdentityLaws.{identical-self}
 use Rattle.rules.proofs.Sounds.{loads-sound}
 use Rattle.ways.specs.Graph.{Graph}
 use Rattle.ways.specs.OfTable.{graph}
-use Rattle.ways.specs.Search.{Row, typ, range, consolidated, entered, enterAll}
+use Rattle.ways.specs.Search.{Row, typ, range, consolidated, enterAll}
 use Rattle.ways.proofs.Room.{appended}
 use Rattle.ways.proofs.TableLaws.{own, lawful}
 use Rattle.multiples.specs.declared.EmbeddedType.{EmbeddedType}

@@ -1,9 +1,9 @@
 -- The rows of a level that have the name: the next of them, and its first member of the name.
-use mathlib.Core.Path.{_≡_, refl, sym, ap, ap₂, _∙_, subst}
-use mathlib.Core.Bool.{Bool, true, false, cond}
-use mathlib.Core.List.{List, [], _∷_, _++_, map}
-use mathlib.Core.Logic.{_⊎_, inl, inr}
-use mathlib.Core.Option.{Option, none, some}
+use mathlib.Core.Path.{_≡_, refl, sym, ap, _∙_, subst}
+use mathlib.Core.Bool.{Bool, true, false}
+use mathlib.Core.List.{List, [], _∷_, _++_}
+use mathlib.Core.Logic.{inl}
+use mathlib.Core.Option.{none, some}
 use Prim.Native.Nat.{ℕ, suc, _+_, _*_, _-_, _≤_, _<_}
 use native.Mathlib.Omega.{arith}
 use Rattle.objects.specs.Bounds.{searchRow}
@@ -11,9 +11,8 @@ use Rattle.objects.specs.Lists.{Bytes, any, keep, In}
 use Rattle.objects.specs.declared.ObjKey.{ObjKey}
 use Rattle.objects.specs.declared.TypeKey.{TypeKey}
 use Rattle.objects.specs.Table.{Table, size, isNamed, isStruct, isIface, membersOf, kindAt, under, fieldsOf, declaredOf, allMethods, allMethodsOf}
-use Rattle.objects.specs.Rows.{Words, typeCount, memberAt, tableOf}
-use Rattle.objects.specs.Types.{memberTypeRead}
-use Rattle.objects.proofs.ListLaws.{cases, clash, either, none-kept, keep-none, In-append, In-keep}
+use Rattle.objects.specs.Rows.{Words, memberAt, tableOf}
+use Rattle.objects.proofs.ListLaws.{cases, either, none-kept, keep-none, In-append, In-keep}
 use Rattle.objects.proofs.KindLaws.{if-In}
 use Rattle.objects.proofs.RowLaws.{size-read, member-type-meant}
 use Rattle.rules.specs.Library.{Library}
@@ -21,7 +20,7 @@ use Rattle.rules.specs.Members.{Identity, identityOf, sameId}
 use Rattle.rules.specs.Sound.{Sound}
 use Rattle.rules.specs.Ways.{Place, placesFrom, owned, matching, hasOwn, fieldPlaces}
 use Rattle.ways.specs.Levels.{firstOf}
-use Rattle.ways.specs.Search.{typ, range}
+use Rattle.ways.specs.Search.{typ}
 use Rattle.ways.proofs.TableLaws.{places-from}
 use Rattle.selection.specs.declared.Own.{Own}
 use Rattle.selection.specs.Results.{first, ownMeant}

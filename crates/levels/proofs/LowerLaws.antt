@@ -2,20 +2,20 @@
 use mathlib.Core.Path.{_≡_, refl, sym, ap, ap₂, _∙_, subst}
 use mathlib.Core.Bool.{Bool, true, false, cond}
 use mathlib.Core.List.{List, [], _∷_, _++_, map, append-nil}
-use mathlib.Core.Logic.{_⊎_, inl, inr, _≢_}
-use Prim.Native.Nat.{ℕ, zero, suc, _+_, _*_, _-_, _≤_, _<_}
+use mathlib.Core.Logic.{_≢_}
+use Prim.Native.Nat.{ℕ, suc, _+_, _*_, _-_, _≤_, _<_}
 use native.Mathlib.Omega.{arith}
 use lib.Dec.{eqb}
-use lib.ListN.{length, getD, length-append}
+use lib.ListN.{length}
 use borrow.Author.Tests.{eq-eqb, ne-eqb}
 use Rattle.objects.specs.Bounds.{maxTypes, maxElements, searchRow}
 use Rattle.objects.specs.Lists.{Bytes, keep, flat, In}
 use Rattle.objects.specs.declared.ObjKey.{ObjKey}
 use Rattle.objects.specs.declared.TypeKey.{TypeKey}
-use Rattle.objects.specs.Table.{Table, Member, objKey, size, isEmbedded, isStruct, membersOf, fieldsOf, kindAt, under, bare}
+use Rattle.objects.specs.Table.{Table, Member, objKey, isEmbedded, isStruct, membersOf, fieldsOf, kindAt, under}
 use Rattle.objects.specs.Rows.{Words, typeCount, typeWord, memberAt, membersFrom, tableOf}
 use Rattle.objects.specs.Types.{memberTypeRead, embeddedRead, bareRead, pointerRead, underRead, numberRead, firstRead, totalRead}
-use Rattle.objects.specs.Laid.{endOf, Laid}
+use Rattle.objects.specs.Laid.{endOf}
 use Rattle.objects.proofs.ListLaws.{cases, keep-append, map-append, flat-append}
 use Rattle.objects.proofs.KindLaws.{if-In}
 use Rattle.objects.proofs.RowLaws.{size-read, bare-read, pointer-read, under-read, fields-read, member-key, member-type-meant, embedded-meant, members-length, members-more, members-have}

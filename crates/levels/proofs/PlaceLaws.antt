@@ -1,8 +1,8 @@
 -- The way to a row: its places as they are written from the last one back, and its flag.
-use mathlib.Core.Path.{_≡_, refl, sym, ap, ap₂, _∙_, subst}
-use mathlib.Core.Bool.{Bool, true, false, _||_}
+use mathlib.Core.Path.{_≡_, sym, ap, ap₂, _∙_}
+use mathlib.Core.Bool.{Bool, false, _||_}
 use mathlib.Core.List.{List, [], _∷_, _++_, append-assoc}
-use Prim.Native.Nat.{ℕ, zero, suc, _+_, _*_, _-_, _≤_, _<_}
+use Prim.Native.Nat.{ℕ, suc, _+_, _*_, _-_, _≤_, _<_}
 use native.Mathlib.Omega.{arith}
 use lib.ListN.{length, set, take, drop, length-set}
 use lib.Seq.{drop-cons, drop-set-lt, getD-set-same}
@@ -11,7 +11,6 @@ use Rattle.objects.specs.Rows.{Words}
 use Rattle.objects.proofs.ListLaws.{or-assoc, or-false}
 use Rattle.multiples.specs.declared.EmbeddedType.{EmbeddedType}
 use Rattle.multiples.specs.Records.{recOf}
-use Rattle.levels.specs.Words.{rowOf}
 use Rattle.levels.specs.Hits.{placesTo, flagTo, Written}
 use Rattle.levels.proofs.WordLaws.{row-parent, row-place, row-ptr}
 

@@ -1,15 +1,13 @@
 -- Laws of what stands at each number of a range.
-use mathlib.Core.Path.{_≡_, refl, sym, ap, ap₂, _∙_}
-use mathlib.Core.Bool.{Bool, true, false, cond}
-use mathlib.Core.List.{List, [], _∷_, _++_, map}
-use mathlib.Core.Logic.{_⊎_, inl, inr, _≢_}
+use mathlib.Core.Path.{_≡_, refl, ap, ap₂, _∙_}
+use mathlib.Core.Bool.{Bool, true, false}
+use mathlib.Core.List.{[], _∷_, _++_, map}
 use Prim.Native.Nat.{ℕ, zero, suc, _+_, _-_, _≤_, _<_}
 use native.Mathlib.Omega.{arith}
-use native.Mathlib.Nat.{add-zero, add-suc, suc-add}
 use native.Mathlib.Decide.{decLt}
 use lib.ListN.{length, getD}
-use Rattle.objects.specs.Lists.{any, keep, In}
-use Rattle.objects.proofs.ListLaws.{cases, either, or-true, map-append}
+use Rattle.objects.specs.Lists.{any, In}
+use Rattle.objects.proofs.ListLaws.{either, or-true, map-append}
 use Rattle.ways.specs.Search.{range}
 
 pub range-append : (lo a b : ℕ) → range lo (a + b) ≡ range lo a ++ range (lo + a) b

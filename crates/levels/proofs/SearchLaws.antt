@@ -1,32 +1,30 @@
 -- The levels one after the other: what is left of the model's search, at each turn of the code's.
 use mathlib.Core.Path.{_≡_, refl, sym, ap, ap₂, _∙_, subst}
-use mathlib.Core.Bool.{Bool, true, false, cond, not, _&&_, _||_}
+use mathlib.Core.Bool.{Bool, _||_}
 use mathlib.Core.List.{List, [], _∷_, _++_, map, append-nil}
-use mathlib.Core.Logic.{_⊎_, inl, inr}
-use Prim.Native.Nat.{ℕ, zero, suc, _+_, _*_, _-_, _≤_, _<_}
+use mathlib.Core.Logic.{inl}
+use Prim.Native.Nat.{ℕ, zero, suc, _+_, _-_, _≤_, _<_}
 use native.Mathlib.Omega.{arith}
 use lib.ListN.{length}
-use Rattle.objects.specs.Bounds.{maxTypes}
 use Rattle.objects.specs.Lists.{Bytes, any, keep, flat, In}
 use Rattle.objects.specs.declared.ObjKey.{ObjKey}
 use Rattle.objects.specs.declared.TypeKey.{TypeKey}
-use Rattle.objects.specs.Table.{Table, size}
+use Rattle.objects.specs.Table.{Table}
 use Rattle.objects.specs.Rows.{Words, typeCount, tableOf}
 use Rattle.objects.proofs.ListLaws.{keep-In-ext, In-keep}
 use Rattle.objects.proofs.RowLaws.{size-read}
 use Rattle.rules.specs.Members.{Identity}
-use Rattle.rules.specs.Ways.{Walk, Selected, notfound, matching}
+use Rattle.rules.specs.Ways.{notfound}
 use Rattle.ways.specs.Graph.{Graph, start}
 use Rattle.ways.specs.OfTable.{graph}
-use Rattle.ways.specs.Levels.{hit, verdict, firstOf}
-use Rattle.ways.specs.Search.{Row, noRow, row, typ, range, level, walkAt, embeddedAt, embeds, enterAll, lower, search-rows, rootRow, lookup-rows}
+use Rattle.ways.specs.Levels.{hit, verdict}
+use Rattle.ways.specs.Search.{Row, row, typ, range, level, walkAt, embeddedAt, embeds, enterAll, lower, search-rows, rootRow, lookup-rows}
 use Rattle.ways.proofs.SearchRows.{In-range}
-use Rattle.selection.specs.declared.LookupResult.{LookupResult}
 use Rattle.selection.specs.declared.Selection.{Selection}
 use Rattle.selection.specs.Results.{resultMeant, calledRight, Typed, Selects}
 use Rattle.levels.specs.Words.{rowOf, rowsOf, levelOf}
 use Rattle.levels.specs.State.{Rowed, Searching, Enters}
-use Rattle.levels.specs.Hits.{hitRow, hitsIn, HitAt, placesTo, flagTo, wayTo, judgedRow}
+use Rattle.levels.specs.Hits.{hitRow, hitsIn, HitAt, placesTo, flagTo, wayTo, judgedRow, nothingFound}
 use Rattle.levels.proofs.RangeLaws.{range-length, range-map-append}
 use Rattle.levels.proofs.LowerLaws.{row-at}
 
@@ -121,9 +119,9 @@ module _ (text : Bytes) (rows : Words) (q : Identity) (t : TypeKey) (f a : Bool)
       let c = r .1 in
       (omega arith, omega arith)
 
-  nothing : lookup-rows G q t f a ≡ notfound → {places : Words} → Selects text rows (record { result = LookupResult.NotFound; count = 0 }) places (lookup-rows G q t f a)
+  nothing : lookup-rows G q t f a ≡ notfound → {r : Selection} → r ≡ nothingFound → {places : Words} → Selects text rows r places (lookup-rows G q t f a)
   unfolding resultMeant calledRight Typed
-  nothing e = record { says = sym e; fits = omega arith; called = refl; typed = tt }
+  nothing e er = rw er record { says = sym e; fits = omega arith; called = refl; typed = tt }
 
   -- one level of the model's search
   module _ (R : List Row) (lo d k : ℕ) where
@@ -195,12 +193,12 @@ module _ (text : Bytes) (rows : Words) (q : Identity) (t : TypeKey) (f a : Bool)
           }
 
       -- the next is empty
-      pub going-stop : end ≡ n → {places : Words} → Selects text rows (record { result = LookupResult.NotFound; count = 0 }) places (lookup-rows G q t f a)
-      going-stop e = nothing (going-on .left ∙ search-empty (left - 1) (rowsOf after end) n (d + 1) (sym (rows-length after end ∙ e)))
+      pub going-stop : end ≡ n → {r : Selection} → r ≡ nothingFound → {places : Words} → Selects text rows r places (lookup-rows G q t f a)
+      going-stop e er = nothing (going-on .left ∙ search-empty (left - 1) (rowsOf after end) n (d + 1) (sym (rows-length after end ∙ e))) er
 
   -- no level is left
-  pub going-end : {ws : Words} {left lo n d : ℕ} → Going ws left lo n d → left ≤ 0 → {places : Words} → Selects text rows (record { result = LookupResult.NotFound; count = 0 }) places (lookup-rows G q t f a)
-  going-end {ws} {left} {lo} {n} {d} h z = nothing (let e : left ≡ 0 = omega arith in h .left ∙ ap (λ k. search-rows G (start t f) q a k (rowsOf ws n) lo d) e)
+  pub going-end : {ws : Words} {left lo n d : ℕ} → Going ws left lo n d → left ≤ 0 → {r : Selection} → r ≡ nothingFound → {places : Words} → Selects text rows r places (lookup-rows G q t f a)
+  going-end {ws} {left} {lo} {n} {d} h z er = nothing (let e : left ≡ 0 = omega arith in h .left ∙ ap (λ k. search-rows G (start t f) q a k (rowsOf ws n) lo d) e) er
 
 -- ---- the type that the search starts at is read off the first row
 

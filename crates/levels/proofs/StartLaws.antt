@@ -1,15 +1,14 @@
 -- The start of a search: no type has a row, then the type that it starts at has the only one.
-use mathlib.Core.Path.{_≡_, refl, sym, ap, ap₂, _∙_, subst}
-use mathlib.Core.Bool.{Bool, true, false}
-use mathlib.Core.List.{List, [], _∷_}
-use Prim.Native.Nat.{ℕ, suc, _+_, _≤_, _<_}
+use mathlib.Core.Path.{_≡_, ap, _∙_}
+use mathlib.Core.Bool.{Bool, false}
+use mathlib.Core.List.{[], _∷_}
+use Prim.Native.Nat.{ℕ, _+_, _≤_, _<_}
 use native.Mathlib.Omega.{arith}
 use lib.Dec.{eqb}
 use lib.ListN.{length, set}
 use borrow.Author.Tests.{eqb-true, eqb-false}
 use Rattle.objects.specs.Bounds.{maxTypes, searchWords}
 use Rattle.objects.specs.Lists.{Bytes}
-use Rattle.objects.specs.declared.ObjKey.{ObjKey}
 use Rattle.objects.specs.declared.TypeKey.{TypeKey}
 use Rattle.objects.specs.Table.{objKey}
 use Rattle.objects.specs.Rows.{Words, typeCount}
@@ -17,7 +16,7 @@ use Rattle.objects.proofs.ListLaws.{cases}
 use Rattle.objects.proofs.Stores.{word-put, word-kept}
 use Rattle.ways.specs.Search.{rootRow}
 use Rattle.multiples.specs.declared.EmbeddedType.{EmbeddedType}
-use Rattle.levels.specs.Words.{Unindexed, indexAt, indexOf, rowMeant, rowOf, rowPut, rowsOf}
+use Rattle.levels.specs.Words.{Unindexed, indexAt, indexOf, rowMeant, rowPut, rowsOf}
 use Rattle.levels.specs.State.{Rowed, Searching}
 use Rattle.levels.proofs.StateLaws.{rowed-put, new-row}
 

@@ -1,30 +1,30 @@
 -- The state of a search (specs/State.antt): how many rows there are at most, and what a mark and a row put behind the others leave of it.
-use mathlib.Core.Path.{_≡_, refl, sym, ap, ap₂, _∙_, subst}
-use mathlib.Core.Bool.{Bool, true, false, cond}
-use mathlib.Core.List.{List, [], _∷_, _++_, map}
-use mathlib.Core.Logic.{_⊎_, inl, inr, _≢_}
+use mathlib.Core.Path.{_≡_, refl, sym, ap, _∙_}
+use mathlib.Core.Bool.{false}
+use mathlib.Core.List.{_∷_, map}
+use mathlib.Core.Logic.{inl, _≢_}
 use Prim.Native.Nat.{ℕ, zero, suc, _+_, _*_, _-_, _≤_, _<_}
 use native.Mathlib.Omega.{arith}
 use native.Mathlib.Decide.{decLt}
 use lib.Dec.{eqb}
 use borrow.Author.Tests.{eqb-true, eqb-false}
-use lib.ListN.{length, set, length-set, length-map}
+use lib.ListN.{length, set, length-set}
 use Rattle.objects.specs.Bounds.{maxTypes, searchRow, searchWords}
-use Rattle.objects.specs.Lists.{Bytes, any, In}
+use Rattle.objects.specs.Lists.{Bytes, In}
 use Rattle.objects.specs.declared.ObjKey.{ObjKey}
 use Rattle.objects.specs.declared.TypeKey.{TypeKey}
 use Rattle.objects.specs.Table.{sameType}
 use Rattle.objects.specs.Rows.{Words, wordAt, typeCount, tableOf}
-use Rattle.objects.proofs.ListLaws.{cases, clash, either}
+use Rattle.objects.proofs.ListLaws.{cases, either}
 use Rattle.objects.proofs.Pigeons.{Distinct, pigeons}
 use Rattle.objects.proofs.KeyLaws.{key-eq, same-key}
 use Rattle.rules.specs.Identity.{identical}
-use Rattle.ways.specs.Search.{Row, typ, range}
+use Rattle.ways.specs.Search.{typ, range}
 use Rattle.multiples.specs.declared.EmbeddedType.{EmbeddedType}
-use Rattle.levels.specs.Words.{rowMeant, rowOf, indexOf, rowPut, rowsOf, levelOf}
+use Rattle.levels.specs.Words.{rowMeant, rowOf, indexOf, rowPut}
 use Rattle.levels.specs.State.{Rowed, Searching}
 use Rattle.levels.proofs.RangeLaws.{range-length, range-In}
-use Rattle.levels.proofs.WordLaws.{markedRow, mark-kept, mark-other, mark-here, mark-index, put-length, put-index, put-index-other, put-kept, put-other, put-here, put-marked}
+use Rattle.levels.proofs.WordLaws.{mark-kept, mark-other, mark-here, mark-index, put-length, put-index, put-index-other, put-kept, put-other, put-here, put-marked}
 
 -- ---- the room
 

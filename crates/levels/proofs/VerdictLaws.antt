@@ -1,16 +1,16 @@
 -- The first row that has the name, and the selection that it gives.
-use mathlib.Core.Path.{_≡_, refl, sym, ap, ap₂, _∙_, subst}
-use mathlib.Core.Bool.{Bool, true, false, cond, not, _&&_}
-use mathlib.Core.List.{List, [], _∷_, _++_, map}
-use Prim.Native.Nat.{ℕ, suc, _+_, _*_, _≤_, _<_}
+use mathlib.Core.Path.{_≡_, refl, sym, ap, ap₂, _∙_}
+use mathlib.Core.Bool.{Bool, true, false, not, _&&_}
+use mathlib.Core.List.{List, [], _∷_, _++_}
+use Prim.Native.Nat.{ℕ, suc, _+_, _*_, _<_}
 use native.Mathlib.Omega.{arith}
 use lib.ListN.{take}
 use Rattle.objects.specs.Bounds.{maxPlaces, searchRow}
 use Rattle.objects.specs.Lists.{Bytes}
 use Rattle.objects.specs.declared.ObjKey.{ObjKey}
 use Rattle.objects.specs.Table.{Table, hasPtr}
-use Rattle.objects.specs.Rows.{Words, typeCount, memberAt, tableOf}
-use Rattle.objects.specs.Types.{memberTypeRead, ptrRead, methodRead}
+use Rattle.objects.specs.Rows.{Words, memberAt, tableOf}
+use Rattle.objects.specs.Types.{ptrRead, methodRead}
 use Rattle.objects.proofs.RowLaws.{ptr-meant}
 use Rattle.rules.specs.Members.{Identity}
 use Rattle.rules.specs.Ways.{ambiguous, matching}
@@ -18,7 +18,6 @@ use Rattle.ways.specs.Levels.{firstOf}
 use Rattle.ways.specs.Search.{typ}
 use Rattle.selection.specs.declared.Entity.{Entity}
 use Rattle.selection.specs.declared.LookupResult.{LookupResult}
-use Rattle.selection.specs.declared.Selection.{Selection}
 use Rattle.selection.specs.Results.{keyOf, resultMeant, calledRight, Typed, Selects}
 use Rattle.multiples.specs.declared.EmbeddedType.{EmbeddedType}
 use Rattle.multiples.specs.Records.{recOf}

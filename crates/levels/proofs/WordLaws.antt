@@ -1,17 +1,15 @@
 -- What a put row and a mark change in the words of a search.
-use mathlib.Core.Path.{_≡_, refl, sym, ap, ap₂, _∙_}
+use mathlib.Core.Path.{_≡_, refl, _∙_}
 use mathlib.Core.Bool.{Bool, true, false}
-use mathlib.Core.List.{List, [], _∷_}
 use mathlib.Core.Logic.{_⊎_, inl, inr, _≢_}
-use Prim.Native.Nat.{ℕ, zero, suc, _+_, _*_, _-_, _≤_, _<_}
+use Prim.Native.Nat.{ℕ, suc, _+_, _*_, _-_, _≤_, _<_}
 use native.Mathlib.Omega.{arith}
-use native.Mathlib.Decide.{decLt}
 use lib.ListN.{length, set, length-set}
 use lib.Seq.{sets, length-sets}
 use Rattle.objects.specs.Bounds.{maxTypes, searchRow, searchWords}
 use Rattle.objects.specs.declared.ObjKey.{ObjKey}
 use Rattle.objects.specs.declared.TypeKey.{TypeKey}
-use Rattle.objects.specs.Table.{objKey, typeKey, bit}
+use Rattle.objects.specs.Table.{bit}
 use Rattle.objects.specs.Rows.{Words, wordAt}
 use Rattle.objects.proofs.Stores.{word-put, word-kept, run-kept, run-put}
 use Rattle.ways.specs.Search.{Row, typ}

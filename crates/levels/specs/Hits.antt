@@ -4,7 +4,7 @@ use mathlib.Core.Bool.{Bool, true, cond, not, _&&_, _||_}
 use mathlib.Core.List.{List, [], _∷_, _++_}
 use Prim.Native.Nat.{ℕ, zero, suc, _+_, _-_, _≤_, _<_}
 use lib.ListN.{take}
-use Rattle.objects.specs.Lists.{Bytes, any, keep}
+use Rattle.objects.specs.Lists.{Bytes, keep}
 use Rattle.objects.specs.declared.ObjKey.{ObjKey}
 use Rattle.objects.specs.Table.{Table, hasPtr}
 use Rattle.objects.specs.Rows.{Words, memberAt, tableOf, typeCount}
@@ -14,6 +14,7 @@ use Rattle.rules.specs.Ways.{Way, Selected, badreceiver, entry, ambiguous, sing
 use Rattle.ways.specs.Levels.{firstOf}
 use Rattle.ways.specs.Search.{typ, range}
 use Rattle.selection.specs.declared.LookupResult.{LookupResult}
+use Rattle.selection.specs.declared.Selection.{Selection}
 use Rattle.selection.specs.Results.{resultMeant, calledRight, Typed}
 use Rattle.levels.specs.Words.{rowOf}
 use Rattle.levels.specs.declared.Hit.{Hit}
@@ -76,6 +77,10 @@ pub record Alone (text : Bytes) (rows : Words) (m : ObjKey) (flag a : Bool) (r :
   pub says : (places : List ℕ) → resultMeant text rows r places ≡ alone text rows m flag a places
   pub called : calledRight rows r ≡ true
   pub typed : memberTypeRead rows m .0 < typeCount rows → Typed rows r
+
+-- no level has the name
+abbrev pub nothingFound : Selection
+nothingFound = record { result = LookupResult.NotFound; count = 0 }
 
 -- the way to row i of level d, and the last place, stand in front of the lent row
 pub record Written (ws : Words) (d i : ℕ) (f : Bool) (last : ℕ) (places : Words) (r : Bool) : Type 0 where

@@ -1,7 +1,6 @@
 // The levels, one after the other, until one has the name or none is left.
 ghost use mathlib.Core.Path.{_≡_};
 ghost use mathlib.Core.Bool.{true, not, _&&_};
-ghost use mathlib.Core.List.{_∷_};
 ghost use Prim.Native.Nat.{suc, _<_, _≤_};
 ghost use lib.ListN.{length, replicate};
 ghost use Rattle.objects.specs.Bounds.{markWords, searchWords, maxPlaces};
@@ -12,7 +11,7 @@ ghost use Rattle.ways.specs.OfTable.{graph};
 ghost use Rattle.ways.specs.Search.{lookup-rows};
 ghost use Rattle.selection.specs.Results.{nameMeant, Selects};
 ghost use Rattle.levels.specs.State.{Rowed};
-ghost use Rattle.levels.specs.Hits.{OwnAt, Alone, judgedRow, hitsIn};
+ghost use Rattle.levels.specs.Hits.{OwnAt, Alone, judgedRow, hitsIn, nothingFound};
 use crate::Hit;
 use crate::hits::next_hit;
 use crate::lower::lower;
@@ -106,6 +105,15 @@ fn verdict(
     }
 }
 
+fn not_found() -> Selection
+    ensures { λ r. ⌜ r ≡ nothingFound ⌝ }
+{
+    Selection {
+        result: LookupResult::NotFound,
+        count: 0,
+    }
+}
+
 // The selection of the name in type t, f if a pointer was removed to come to t, by the levels of rows that the lent words hold.
 pub fn search(
     text: &[u8],
@@ -154,18 +162,12 @@ pub fn search(
         }
         let end = lower(text, rows, marks, search, lo, n);
         if end == n {
-            return Selection {
-                result: LookupResult::NotFound,
-                count: 0,
-            };
+            return not_found();
         }
         lo = n as u32;
         n = end;
         d += 1;
         left -= 1;
     }
-    Selection {
-        result: LookupResult::NotFound,
-        count: 0,
-    }
+    not_found()
 }

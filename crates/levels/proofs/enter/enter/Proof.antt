@@ -1,5 +1,5 @@
 -- `levels::enter::enter` meets its contract.
-use mathlib.Core.Path.{_≡_, refl, sym, ap, subst, _∙_}
+use mathlib.Core.Path.{refl, sym, _∙_}
 use native.Mathlib.Omega.{arith}
 use Rattle.levels.proofs.EnterLaws.{enters-above, enters-again, again-fits, again-few, by-words}
 use borrow.Author.Needs.{needs}

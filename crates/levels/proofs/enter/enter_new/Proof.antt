@@ -1,7 +1,5 @@
 -- `levels::enter::enter_new` meets its contract.
-use mathlib.Core.Path.{_≡_, sym, ap, subst, _∙_}
 use native.Mathlib.Omega.{arith}
-use Rattle.levels.specs.State.{Enters}
 use Rattle.levels.proofs.EnterLaws.{library-few, twin-fits, new-few, enters-twin, enters-new, by-words}
 use borrow.Author.Needs.{needs}
 use Rattle.levels.proofs.enter.enter_new.Statement.{statement}

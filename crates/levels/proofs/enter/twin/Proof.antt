@@ -1,8 +1,7 @@
 -- `levels::enter::twin` meets its contract. The invariant: no row of the level before row j has an identical type.
-use mathlib.Core.Path.{_≡_, refl, sym, ap, _∙_}
+use mathlib.Core.Path.{_≡_, refl, _∙_}
 use Prim.Native.Nat.{_-_}
 use native.Mathlib.Omega.{arith}
-use lib.ListN.{length}
 use Rattle.levels.proofs.StateLaws.{rows-few}
 use Rattle.levels.proofs.EnterLaws.{library-few, row-typed, Others, twin-named, others-start, others-on, twin-found, twin-none}
 use borrow.Author.Needs.{needs}

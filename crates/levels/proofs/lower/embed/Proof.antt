@@ -1,7 +1,6 @@
 -- `levels::lower::embed` meets its contract.
-use mathlib.Core.Path.{_≡_, refl, sym, ap, _∙_}
+use mathlib.Core.Path.{refl}
 use native.Mathlib.Omega.{arith}
-use Rattle.levels.proofs.EnterLaws.{library-few, row-typed}
 use Rattle.levels.proofs.LowerLaws.{enters-none, enters-as, few-before, before-typed, embeds-none, embeds-some, fields-fit, fields-typed}
 use borrow.Author.Needs.{needs}
 use Rattle.levels.proofs.lower.embed.Statement.{statement}

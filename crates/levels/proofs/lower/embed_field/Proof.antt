@@ -1,6 +1,5 @@
 -- `levels::lower::embed_field` meets its contract.
-use mathlib.Core.Path.{_≡_, refl, sym, ap, _∙_}
-use native.Mathlib.Omega.{arith}
+use mathlib.Core.Path.{refl}
 use Rattle.objects.proofs.ListLaws.{un-not}
 use Rattle.objects.proofs.BoolLaws.{not-yes}
 use Rattle.levels.proofs.LowerLaws.{enters-none, enters-as, field-plain, field-target, field-row}

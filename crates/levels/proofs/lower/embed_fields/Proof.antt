@@ -1,5 +1,5 @@
 -- `levels::lower::embed_fields` meets its contract. The invariant: the rows for the first j fields are entered.
-use mathlib.Core.Path.{_≡_, refl, sym, ap, _∙_}
+use mathlib.Core.Path.{_≡_, refl, _∙_}
 use Prim.Native.Nat.{_-_, _≤_}
 use native.Mathlib.Omega.{arith}
 use lib.ListN.{length}

@@ -1,5 +1,5 @@
 -- `levels::lower::lower` meets its contract. The invariant: what the rows from lo up to i embed is entered.
-use mathlib.Core.Path.{_≡_, refl, sym, ap, _∙_}
+use mathlib.Core.Path.{_≡_, refl, _∙_}
 use Prim.Native.Nat.{_-_, _≤_}
 use native.Mathlib.Omega.{arith}
 use lib.ListN.{length}

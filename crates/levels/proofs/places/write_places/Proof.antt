@@ -1,6 +1,6 @@
 -- `levels::places::write_places` meets its contract. The invariant: the places behind `left` are written, and whether a pointer was removed behind them is known.
 use mathlib.Core.Path.{_≡_, _∙_}
-use Prim.Native.Nat.{_<_, _^_}
+use Prim.Native.Nat.{_<_}
 use native.Mathlib.Omega.{arith}
 use lib.ListN.{length, length-set}
 use Rattle.levels.proofs.PlaceLaws.{Climbs, climb-start, climb-more, climb-end}

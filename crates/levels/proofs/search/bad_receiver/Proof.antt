@@ -1,6 +1,5 @@
 -- `levels::search::bad_receiver` meets its contract.
 use Rattle.levels.proofs.VerdictLaws.{bad-flag, bad-address, bad-neither}
-use borrow.Author.Needs.{needs}
 use Rattle.levels.proofs.search.bad_receiver.Statement.{statement}
 use Rattle.levels.proofs.search.bad_receiver.Tie as tie
 

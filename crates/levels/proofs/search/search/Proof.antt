@@ -1,5 +1,5 @@
 -- `levels::search::search` meets its contract. The invariant: the whole search is what is left of it, from the level that the rows end with.
-use mathlib.Core.Path.{_≡_, refl, sym, ap, _∙_}
+use mathlib.Core.Path.{_≡_, refl, ap, _∙_}
 use Prim.Native.Nat.{_+_, _≤_}
 use native.Mathlib.Omega.{arith}
 use lib.ListN.{length}
@@ -59,8 +59,11 @@ enum-told c = search needs
 lower-requires : tie.Need-lower-requires Inv-loop μ-loop
 lower-requires c κs = ((c .before .before .before .before .before .before .before .before .before .before .before .before .before .before .before .before .before .before .before .pre .0), ((rw ((c .before .before .before .before .before .before .before .loop .inv .0)) ((c .before .before .before .before .before .before .before .before .before .before .before .before .before .before .before .before .before .before .before .pre .1 .1 .0 .0)), ((c .before .before .before .before .before .before .before .loop .inv .5) .order)), (((c .before .before .before .before .before .before .before .loop .inv .5) .state), rw ((c .before .before .before .before .before .before .before .loop .inv .0)) ((c .before .before .before .before .before .before .before .before .before .before .before .before .before .before .before .before .before .before .before .pre .1 .1 .1)))))
 
+not-found-requires : tie.Need-not-found-requires Inv-loop μ-loop
+not-found-requires c κs = search needs
+
 same-length-4 : tie.Need-same-length-4 Inv-loop μ-loop
-same-length-4 c = ap length (((c .before .before .before .before .before .lower .ensures .1)) ∙ ((c .before .before .before .before .before .before .before .before .before .before .before .before .before .loop .inv .0)))
+same-length-4 c = ap length (((c .before .before .before .before .before .before .lower .ensures .1)) ∙ ((c .before .before .before .before .before .before .before .before .before .before .before .before .before .before .loop .inv .0)))
 
 same-length-5 : tie.Need-same-length-5 Inv-loop μ-loop
 same-length-5 c = search needs
@@ -69,7 +72,7 @@ same-length-6 : tie.Need-same-length-6 Inv-loop μ-loop
 same-length-6 c = search needs
 
 returns-2 : tie.Need-returns-2 Inv-loop μ-loop
-returns-2 c = (root-selects _ _ _ _ _ _ _ ((c .before .before .before .before .before .before .before .before .before .before .before .before .before .before .before .before .before .put-root .ensures .1)) (going-stop _ _ _ _ _ _ ((c .before .before .before .before .before .before .before .before .before .before .before .before .loop-test .taken)) ((c .before .before .before .before .before .before .before .before .before .before .before .before .before .loop .inv .5)) (told-nothing _ _ _ _ _ _ ((c .before .before .before .before .before .before .before .before .before .before .next-hit .ensures)) ((c .before .before .before .before .before .before .before .before .enum-told .given .1))) ((c .before .before .before .before .before .lower .ensures .0)) ((c .if1 .taken))), ((c .before .before .before .before .before .lower .ensures .1)) ∙ ((c .before .before .before .before .before .before .before .before .before .before .before .before .before .loop .inv .0)))
+returns-2 c = (root-selects _ _ _ _ _ _ _ ((c .before .before .before .before .before .before .before .before .before .before .before .before .before .before .before .before .before .before .put-root .ensures .1)) (going-stop _ _ _ _ _ _ ((c .before .before .before .before .before .before .before .before .before .before .before .before .before .loop-test .taken)) ((c .before .before .before .before .before .before .before .before .before .before .before .before .before .before .loop .inv .5)) (told-nothing _ _ _ _ _ _ ((c .before .before .before .before .before .before .before .before .before .before .before .next-hit .ensures)) ((c .before .before .before .before .before .before .before .before .before .enum-told .given .1))) ((c .before .before .before .before .before .before .lower .ensures .0)) ((c .before .if1 .taken)) ((c .not-found .ensures))), ((c .before .before .before .before .before .before .lower .ensures .1)) ∙ ((c .before .before .before .before .before .before .before .before .before .before .before .before .before .before .loop .inv .0)))
 
 cast-lo : tie.Need-cast-lo Inv-loop μ-loop
 cast-lo c = omega (arith, rows-few _ _ _ ((c .before .before .before .before .before .before .before .before .before .before .before .before .before .loop .inv .5) .state .rowed), library-few ((c .before .before .before .before .before .before .before .before .before .before .before .before .before .before .before .before .before .before .before .before .before .before .before .before .before .pre .0)))
@@ -86,6 +89,9 @@ loop-less c = omega (arith, (c .before .before .before .before .before .before .
 loop-again : tie.Need-loop-again Inv-loop μ-loop
 loop-again c = (((c .before .before .before .before .before .lower .ensures .1)) ∙ ((c .before .before .before .before .before .before .before .before .before .before .before .before .before .loop .inv .0)), search needs, ((c .before .before .before .before .before .before .before .before .before .before .before .before .before .loop .inv .2)), ((c .before .before .before .before .before .before .before .before .before .before .before .before .before .loop .inv .3)), omega (arith, (c .before .before .before .before .before .before .before .before .before .before .before .before .before .loop .inv .4), (c .before .before .before .before .before .before .before .before .before .before .before .before .loop-test .taken)), going-on _ _ _ _ _ _ ((c .before .before .before .before .before .before .before .before .before .before .before .before .loop-test .taken)) ((c .before .before .before .before .before .before .before .before .before .before .before .before .before .loop .inv .5)) (told-nothing _ _ _ _ _ _ ((c .before .before .before .before .before .before .before .before .before .before .next-hit .ensures)) ((c .before .before .before .before .before .before .before .before .enum-told .given .1))) ((c .before .before .before .before .before .lower .ensures .0)))
 
+not-found-requires-2 : tie.Need-not-found-requires-2 Inv-loop μ-loop
+not-found-requires-2 c κs = search needs
+
 same-length-7 : tie.Need-same-length-7 Inv-loop μ-loop
 same-length-7 c = search needs
 
@@ -96,7 +102,7 @@ same-length-9 : tie.Need-same-length-9 Inv-loop μ-loop
 same-length-9 c = search needs
 
 returns-3 : tie.Need-returns-3 Inv-loop μ-loop
-returns-3 c = (root-selects _ _ _ _ _ _ _ ((c .before .before .before .before .before .put-root .ensures .1)) (going-end _ _ _ _ _ _ ((c .before .loop .inv .5)) ((c .loop-test .left))), ((c .before .loop .inv .0)))
+returns-3 c = (root-selects _ _ _ _ _ _ _ ((c .before .before .before .before .before .before .put-root .ensures .1)) (going-end _ _ _ _ _ _ ((c .before .before .loop .inv .5)) ((c .before .loop-test .left)) ((c .not-found2 .ensures))), ((c .before .before .loop .inv .0)))
 
 pub search-spec : {M : Type 1} → statement M
 search-spec =
@@ -116,6 +122,7 @@ search-spec =
     returns
     enum-told
     lower-requires
+    not-found-requires
     same-length-4
     same-length-5
     same-length-6
@@ -125,6 +132,7 @@ search-spec =
     sub-left
     loop-less
     loop-again
+    not-found-requires-2
     same-length-7
     same-length-8
     same-length-9

@@ -1,6 +1,6 @@
 -- `levels::words::clear_index` meets its contract. The invariant: the words of the first i types are 0.
 use mathlib.Core.Path.{_≡_}
-use Prim.Native.Nat.{_-_, _≤_, _<_}
+use Prim.Native.Nat.{_-_, _≤_}
 use native.Mathlib.Omega.{arith}
 use lib.ListN.{length, length-set}
 use Rattle.objects.specs.Bounds.{maxTypes}

@@ -1,5 +1,4 @@
 -- `levels::words::index_of` meets its contract.
-use native.Mathlib.Omega.{arith}
 use Rattle.levels.specs.Words.{indexOf}
 use borrow.Author.Needs.{needs}
 use Rattle.levels.proofs.words.index_of.Statement.{statement}
