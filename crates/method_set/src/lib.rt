@@ -1,28 +1,18 @@
 // M: the method set of a type, as goscript's `MethodSet::new` gives it.
 ghost use mathlib.Core.Path.{_≡_};
 ghost use Prim.Native.Nat.{_+_, _≤_, _<_};
-ghost use lib.ListN.{length, take, set};
+ghost use lib.ListN.{length, take};
 ghost use Rattle.objects.specs.Bounds.{maxPlaces};
 ghost use Rattle.method_set.specs.Sets.{selWord, selAt};
 use method_levels::places;
+use crate::words::put;
+use crate::words::sel_word;
 use objects::ObjKey;
 use objects::TypeKey;
-use objects::rows::word;
 
-// A function of its own, so that callers know the length that stays.
-fn put(words: &mut [u32], at: usize, v: u32)
-    requires { ⌜ at < length (now words) ⌝ }
-    ensures { λ _. ⌜ now (words .exit) ≡ set (now (words .entry)) at v ⌝ }
-{
-    words[at] = v;
-}
-
-// Word j of the row of a name.
-fn sel_word(sels: &[u32], k: ObjKey, j: u32) -> u32
-    ensures { λ r. ⌜ r ≡ selWord (now (sels .entry)) k j ⌝ }
-{
-    word(sels, 6 * (k.0 as usize) + j as usize)
-}
+mod hits;
+mod pending;
+mod words;
 
 // The numbers of the line `sel` of a name that is given: member, flag, places.
 pub fn selection(sels: &[u32], first: &[u32], k: ObjKey, out: &mut [u32]) -> usize

@@ -1,7 +1,7 @@
 use Rattle.method_set.specs.Sets.{selWord}
 use borrow.Author.Needs.{needs}
-use Rattle.method_set.proofs.sel_word.Statement.{statement}
-use Rattle.method_set.proofs.sel_word.Tie as tie
+use Rattle.method_set.proofs.words.sel_word.Statement.{statement}
+use Rattle.method_set.proofs.words.sel_word.Tie as tie
 
 cast-word : tie.Need-cast-word
 cast-word c = search needs
