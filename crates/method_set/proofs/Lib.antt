@@ -1,2 +1,7 @@
 pub mod LineLaws
 pub mod CodeLaws
+pub mod Tallies
+pub mod LevelTally
+pub mod StandsLaws
+pub mod RowHits
+pub mod OverLevels
