@@ -5,3 +5,5 @@ pub mod LevelTally
 pub mod StandsLaws
 pub mod RowHits
 pub mod OverLevels
+pub mod HitLaws
+pub mod TypeHits

@@ -104,7 +104,7 @@ module _ (T : Table) (q : Identity) (t : TypeKey) where
   -- ---- what is not settled yet
 
   none-before : (d : ℕ) → soFar d ≡ absent → NoMethod T q t d
-  none-before zero h u e = clash e refl
+  none-before zero h = λ u e. clash e refl
   none-before (suc d) h =
       let b = absent-both (soFar d) (settled T (endsOn d)) (sym (so-far d) ∙ h) in
       let e : settled T (flat (ends T q) (setLevel T t d .walks)) ≡ absent = subst (λ (L : Level). settled T (flat (ends T q) (L .walks)) ≡ absent) (level-same T t d) (b .1) in
