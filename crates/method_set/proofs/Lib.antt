@@ -7,3 +7,6 @@ pub mod RowHits
 pub mod OverLevels
 pub mod HitLaws
 pub mod TypeHits
+pub mod DoingLaws
+pub mod ListedLaws
+pub mod SetLaws

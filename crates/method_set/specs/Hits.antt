@@ -1,15 +1,17 @@
 -- What the code of M makes of the rows of the names on one level, word for word. A member hits the row of the name that it has.
-use mathlib.Core.Bool.{Bool, cond, not, _&&_}
+use mathlib.Core.Bool.{Bool, cond, not, _&&_, _||_}
 use mathlib.Core.List.{List, [], _∷_}
 use Prim.Native.Nat.{ℕ, zero, suc, _+_, _*_, _≤_, _<_}
+use mathlib.Core.Path.{_≡_}
 use lib.Dec.{eqb, ltb}
+use lib.ListN.{set}
 use lib.Seq.{sets}
 use Rattle.objects.specs.Bounds.{maxMembers, selRow}
 use Rattle.objects.specs.declared.TypeKey.{TypeKey}
 use Rattle.objects.specs.declared.ObjKey.{ObjKey}
 use Rattle.objects.specs.Table.{typeKey, objKey}
 use Rattle.objects.specs.Rows.{Words, wordAt, typeCount, memberCountOf}
-use Rattle.objects.specs.Types.{ifaceRead, namedRead, numberRead, underRead, firstRead, totalRead, methodRead, ptrRead}
+use Rattle.objects.specs.Types.{pointerRead, bareRead, namedPointerRead, ifaceRead, namedRead, numberRead, underRead, firstRead, totalRead, methodRead, ptrRead}
 use Rattle.method_levels.specs.Levels.{firstWord}
 use Rattle.method_set.specs.Sets.{selWord}
 
@@ -72,3 +74,21 @@ pub record Small (rows index : Words) : Type 0 where
 -- what a type stands for is a type of the table
 pub record Under (rows : Words) : Type 0 where
   pub within : (u : TypeKey) → u .0 < typeCount rows → underRead rows u .0 < typeCount rows
+
+-- ---- before the first level and after the last
+
+-- "a named type whose u is a pointer has an empty set"; "A pointer directly to an iface has an empty set."
+unfoldable pub emptyRead : Words → TypeKey → Bool
+emptyRead rows t = namedPointerRead rows t || (pointerRead rows t && eqb (numberRead rows (bareRead rows t)) 9)
+
+-- the name of key k is given
+unfoldable pub isGiven : Words → ℕ → Bool
+isGiven sels k = eqb (selWord sels (objKey k) 0) 2
+
+-- k behind the first r words, if it is to be there
+unfoldable pub pushed : Bool → Words → ℕ → ℕ → Words
+pushed has given r k = cond has (set given r k) given
+
+-- the first n words are those of another list
+pub record Copied (words : Words) (n : ℕ) (copy : Words) : Type 0 where
+  pub same : (i : ℕ) → i < n → wordAt copy i ≡ wordAt words i
