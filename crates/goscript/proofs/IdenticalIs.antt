@@ -20,12 +20,12 @@ use Rattle.rules.specs.Load.{stands}
 use Rattle.rules.specs.Sound.{Sound}
 use Rattle.rules.proofs.RangeLaws.{kind-out, part-in}
 use Rattle.rules.proofs.IdLaws.{member-proper}
-use Rattle.rules.proofs.IdentityLaws.{pair, identical-steps}
+use Rattle.rules.proofs.IdentityLaws.{pair, samePair-true, identical-steps}
 use Rattle.gospec.proofs.Forms.{number-form}
 use Rattle.goscript.specs.Identical.{Verdict, same, differ, out, allSame, sameMethod, arm, identicalImpl, enoughCalls, answer, identicalAnswer}
 use Rattle.goscript.proofs.Runs.{allB, Agrees, Judged, judged-as, stays, self-judged, lower, opened, begun}
 use Rattle.goscript.proofs.Arms.{methodB, armB, Listed, arm-step, methods-judged, arm-judged}
-use Rattle.goscript.proofs.Unmet.{samePair-eq, measure, measure-part, measure-opened, measure-most}
+use Rattle.goscript.proofs.Unmet.{measure, measure-part, measure-opened, measure-most}
 
 module _ (T : Table) (sound : Sound T) where
   -- the methods of an interface
@@ -75,7 +75,7 @@ module _ (T : Table) (sound : Sound T) where
 
       -- "If x and y were compared before, they must be equal"
       met : any (samePair (pair x y)) d ≡ true → Judged T d (λ n. sameIn T n x y) (same d)
-      met h = let r = some-In (samePair (pair x y)) d h in stays T d (λ n. sameIn T n x y) (λ n a. subst (Agrees T n) (sym (samePair-eq (pair x y) (r .0) (r .2))) (a (r .0) (r .1)))
+      met h = let r = some-In (samePair (pair x y)) d h in stays T d (λ n. sameIn T n x y) (λ n a. subst (Agrees T n) (sym (samePair-true (pair x y) (r .0) (r .2))) (a (r .0) (r .1)))
 
       -- put into dup, and then compared by their methods
       entered : any (samePair (pair x y)) d ≡ false → eqb (length ms) (ownNumber y (kindAt T y)) ≡ true

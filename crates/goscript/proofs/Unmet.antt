@@ -52,10 +52,6 @@ flat-length f n (x ∷ l) h = let ih = flat-length f n l h in let a = length-app
 
 -- ---- pairs
 
-pub samePair-eq : (p q : Pair) → samePair p q ≡ true → p ≡ q
-samePair-eq p q h =
-    ap₂ pair (same-key (p .left) (q .left) (and-l (sameType (p .left) (q .left)) (sameType (p .right) (q .right)) h)) (same-key (p .right) (q .right) (and-r (sameType (p .left) (q .left)) (sameType (p .right) (q .right)) h))
-
 pair-self : (p : Pair) → samePair p p ≡ true
 pair-self p = and-i (same-self (p .left)) (same-self (p .right))
 

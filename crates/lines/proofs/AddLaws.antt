@@ -11,13 +11,13 @@ use lib.ListN.{length}
 use borrow.Author.Tests.{eq-eqb, ne-eqb, lt-ltb, le-ltb}
 use Rattle.objects.specs.declared.TypeKey.{TypeKey}
 use Rattle.objects.specs.Bounds.{maxPackages, maxTypes, maxMembers}
-use Rattle.objects.specs.Lists.{Bytes, onLast}
-use Rattle.objects.specs.Table.{Table, Member, Kind, Basic, Array, Slice, Pointer, Map, Chan, Tuple, Func, Struct, Iface, Named, typeKey, objKey, kindNumber, memberCount}
+use Rattle.objects.specs.Lists.{Bytes}
+use Rattle.objects.specs.Table.{Table, Member, Kind, Basic, typeKey, objKey, kindNumber, memberCount}
 use Rattle.objects.specs.Rows.{Words, packageCount, typeCount, memberCountOf, elementCount, typeWord, bytesAt, pkgOf, entityOf, kindOf, membersFrom, elementsFrom, tableOf}
-use Rattle.objects.specs.Laid.{Laid, Holds, lastType, memberOf, memberAdded, plusPackage, plusType, plusMember}
+use Rattle.objects.specs.Laid.{Laid, Holds, lastType, memberOf, plusPackage, plusType, plusMember}
 use Rattle.objects.proofs.RowLaws.{size-read, member-count-read, package-count-read}
 use Rattle.rules.specs.Forms.{Line, packageLine, typeLine, memberLine}
-use Rattle.rules.specs.Load.{Loaded, refused, loaded, lastKind, withMember, added, inPlace, hasRoom, placed, lineAdded}
+use Rattle.rules.specs.Load.{Loaded, refused, loaded, lastKind, added, inPlace, hasRoom, placed, lineAdded}
 use Rattle.lines.specs.declared.Verdict.{Verdict}
 use Rattle.lines.specs.Steps.{bareKind}
 use Rattle.lines.specs.Adding.{verdictMeant, elementsOf, Grown, standsAt, memberRoom}
@@ -89,33 +89,12 @@ type-added rows line kind a b c laid p h after held e text =
 
 -- ---- F and M
 
-member-kind : (m : Member) (k : Kind) → memberAdded m k ≡ withMember m k
-member-kind m (Basic k) = refl
-member-kind m (Array n e) = refl
-member-kind m (Slice e) = refl
-member-kind m (Pointer e) = refl
-member-kind m (Map k e) = refl
-member-kind m (Chan d e) = refl
-member-kind m (Tuple es) = refl
-member-kind m (Func v p r) = refl
-member-kind m (Struct ms) = refl
-member-kind m (Iface ms) = refl
-member-kind m (Named u ms) = refl
-
-onLast-ext : {A : Type 0} (f g : A → A) → ((x : A) → f x ≡ g x) → (l : List A) → onLast f l ≡ onLast g l
-onLast-ext f g h [] = refl
-onLast-ext f g h (x ∷ []) = ap (λ y. y ∷ []) (h x)
-onLast-ext f g h (x ∷ y ∷ l) = ap (λ r. x ∷ r) (onLast-ext f g h (y ∷ l))
-
 member-table : (text : Bytes) (rows : Words) (line name count pkg t form tag width : ℕ)
     → plusMember (tableOf text rows) line (memberOf text (memberCountOf rows) name count pkg t form tag width)
     ≡ added (tableOf text rows) line (memberLine (bytesAt text name count) (pkgOf pkg) (typeKey t) (entityOf form (bytesAt text tag width)))
 unfolding plusMember added
 member-table text rows line name count pkg t form tag width =
     rw (member-count-read text rows)
-    (ap (λ ts. record { packages = tableOf text rows .packages; types = ts; typeLines = tableOf text rows .typeLines; memberLines = tableOf text rows .memberLines ++ (line ∷ []) })
-    (onLast-ext (memberAdded (memberOf text (memberCountOf rows) name count pkg t form tag width)) (withMember (memberOf text (memberCountOf rows) name count pkg t form tag width))
-    (member-kind (memberOf text (memberCountOf rows) name count pkg t form tag width)) (tableOf text rows .types)))
 
 module _ (rows : Words) (line name count pkg t form tag width : ℕ) (laid : Laid rows) {k : ℕ} (p : (text : Bytes) → k ≡ kindNumber (lastKind (tableOf text rows))) {s : Bool} (q : s ≡ standsAt form k) where
   abbrev member : Bytes → Line

@@ -17,7 +17,7 @@ use Rattle.text.specs.Bytes.{ascii, sameBytes, isPath, number}
 use Rattle.text.specs.Readers.{Reader, _>>=_, field, others, done}
 use Rattle.text.proofs.ByteLaws.{same-true}
 use Rattle.text.proofs.Gives.{Holds, number-max}
-use Rattle.rules.specs.Forms.{Line, typeLine, memberLine, typeRef, packageRef, flagBit, direction, dirOf, fieldName, methodName, tag, kindForm, lineForm, lineOf}
+use Rattle.rules.specs.Forms.{Line, typeLine, memberLine, typeRef, packageRef, flagBit, direction, fieldName, methodName, tag, kindForm, lineForm, lineOf}
 use Rattle.lines.specs.declared.Form.{Form}
 use Rattle.lines.specs.Forms.{formMeant, formRead}
 use Rattle.lines.proofs.Chain.{read-meant}
@@ -188,7 +188,7 @@ kind-map = two-numbers typeRef typeKey maxReference (λ b. refl) 4 Map (λ n e. 
 
 kind-chan : (fs : List Bytes) → twoRest 5 2 fs ≡ kinded fs (ascii "chan")
 unfolding kindForm kindOf dirAt
-kind-chan = two-numbers direction dirOf 2 (λ b. refl) 5 Chan (λ n e. refl)
+kind-chan = two-numbers direction dirAt 2 (λ b. refl) 5 Chan (λ n e. refl)
 
 kind-struct : (fs : List Bytes) → noneRest 8 fs ≡ kinded fs (ascii "struct")
 unfolding noneRest kindForm kindOf membersFrom

@@ -10,9 +10,9 @@ use borrow.Author.Tests.{ne-eqb}
 use Rattle.objects.specs.declared.TypeKey.{TypeKey}
 use Rattle.objects.specs.Bounds.{maxTypes, maxPackages, maxMembers, maxElements, allWords}
 use Rattle.objects.specs.Lists.{Bytes, upTo, onLast}
-use Rattle.objects.specs.Table.{Member, Kind, Struct, Iface, Named, Tuple, typeKey, objKey, packageKey}
+use Rattle.objects.specs.Table.{Member, Kind, Struct, Iface, Named, Tuple, typeKey, objKey, packageKey, withMember}
 use Rattle.objects.specs.Rows.{Words, packageCount, typeCount, memberCountOf, elementCount, typeWord, memberWord, packageWord, elementAt, bytesAt, memberAt, membersFrom, elementsFrom, kindOf, kindRead, pathRead, tableOf}
-use Rattle.objects.specs.Laid.{endOf, Laid, Holds, memberOf, memberAdded, elementAdded, plusPackage, plusType, plusMember, plusElement}
+use Rattle.objects.specs.Laid.{endOf, Laid, Holds, memberOf, elementAdded, plusPackage, plusType, plusMember, plusElement}
 use Rattle.objects.proofs.Numbers.{each-more, each-grown, each-onLast}
 use Rattle.objects.proofs.RowLaws.{by-kind, named-kind, members-more, elements-more}
 use Rattle.objects.proofs.Stores.{Kept}
@@ -102,12 +102,12 @@ module _ (rows after : Words) (kind a b c line : ℕ) (laid : Laid rows) (long :
 
 -- one member more, of a kind that has members or shows none
 member-kind : (text : Bytes) (rows after : Words) (a b c first n n' : ℕ) (m : Member) → membersFrom text after first n' ≡ membersFrom text rows first n ++ (m ∷ [])
-    → (kind : ℕ) → kind ≢ 6 → kindOf text after kind a b c first n' ≡ memberAdded m (kindOf text rows kind a b c first n)
+    → (kind : ℕ) → kind ≢ 6 → kindOf text after kind a b c first n' ≡ withMember m (kindOf text rows kind a b c first n)
 unfolding kindOf
 member-kind text rows after a b c first n n' m e =
     by-kind _ (λ _. refl) (λ _. refl) (λ _. refl) (λ _. refl) (λ _. refl) (λ _. refl) (λ ne. absurd (ne refl)) (λ _. refl) (λ _. ap Struct e) (λ _. ap Iface e)
     (λ k h _.
-    named-kind text after a b c first n' k h ∙ ap (Named (typeKey a)) e ∙ sym (ap (memberAdded m) (named-kind text rows a b c first n k h)))
+    named-kind text after a b c first n' k h ∙ ap (Named (typeKey a)) e ∙ sym (ap (withMember m) (named-kind text rows a b c first n k h)))
 
 element-kind : (text : Bytes) (rows after : Words) (a b c first n n' : ℕ) (t : TypeKey) → elementsFrom text after first n' ≡ elementsFrom text rows first n ++ (t ∷ [])
     → (kind : ℕ) → kind ≡ 6 → kindOf text after kind a b c first n' ≡ elementAdded t (kindOf text rows kind a b c first n)

@@ -10,7 +10,7 @@ use lib.ListN.{length, set}
 use Rattle.objects.specs.declared.TypeKey.{TypeKey}
 use Rattle.objects.specs.Bounds.{maxTypes, maxPackages, maxMembers, maxElements, rowWords, typesAt, allWords}
 use Rattle.objects.specs.Lists.{Bytes, onLast}
-use Rattle.objects.specs.Table.{Table, Member, Kind, Basic, Array, Slice, Pointer, Map, Chan, Tuple, Func, Struct, Iface, Named, typeKey, objKey}
+use Rattle.objects.specs.Table.{Table, Member, Kind, Basic, Array, Slice, Pointer, Map, Chan, Tuple, Func, Struct, Iface, Named, typeKey, objKey, withMember}
 use Rattle.objects.specs.Rows.{Words, packageCount, typeCount, memberCountOf, elementCount, typeWord, bytesAt, pkgOf, entityOf, tableOf}
 
 -- ---- rows in order
@@ -54,20 +54,6 @@ memberOf text key name len pkg type form tag tagLen = record {
   entity = entityOf form (bytesAt text tag tagLen);
 }
 
--- a kind with one member more under its T line
-abbrev pub memberAdded : Member → Kind → Kind
-memberAdded m (Basic k) = Basic k
-memberAdded m (Array n e) = Array n e
-memberAdded m (Slice e) = Slice e
-memberAdded m (Pointer e) = Pointer e
-memberAdded m (Map k e) = Map k e
-memberAdded m (Chan d e) = Chan d e
-memberAdded m (Tuple es) = Tuple es
-memberAdded m (Func v p r) = Func v p r
-memberAdded m (Struct ms) = Struct (ms ++ (m ∷ []))
-memberAdded m (Iface ms) = Iface (ms ++ (m ∷ []))
-memberAdded m (Named u ms) = Named u (ms ++ (m ∷ []))
-
 -- a kind with one element more on its T line
 abbrev pub elementAdded : TypeKey → Kind → Kind
 elementAdded t (Basic k) = Basic k
@@ -89,7 +75,7 @@ unfoldable pub plusType : Table → ℕ → Kind → Table
 plusType T line k = record { packages = T .packages; types = T .types ++ (k ∷ []); typeLines = T .typeLines ++ (line ∷ []); memberLines = T .memberLines }
 
 unfoldable pub plusMember : Table → ℕ → Member → Table
-plusMember T line m = record { packages = T .packages; types = onLast (memberAdded m) (T .types); typeLines = T .typeLines; memberLines = T .memberLines ++ (line ∷ []) }
+plusMember T line m = record { packages = T .packages; types = onLast (withMember m) (T .types); typeLines = T .typeLines; memberLines = T .memberLines ++ (line ∷ []) }
 
 unfoldable pub plusElement : Table → TypeKey → Table
 plusElement T e = record { packages = T .packages; types = onLast (elementAdded e) (T .types); typeLines = T .typeLines; memberLines = T .memberLines }

@@ -1,6 +1,6 @@
 -- The table as a value: what a text that loads stands for. Types and packages are known by their place, members by the key that they carry.
 use mathlib.Core.Bool.{Bool, true, false, cond, _&&_, _||_}
-use mathlib.Core.List.{List, [], _∷_, map}
+use mathlib.Core.List.{List, [], _∷_, _++_, map}
 use mathlib.Core.Option.{Option, none, some}
 use Prim.Native.Nat.{ℕ}
 use lib.Dec.{eqb, ltb}
@@ -152,6 +152,20 @@ membersOf (Func v p r) = []
 membersOf (Struct ms) = ms
 membersOf (Iface ms) = ms
 membersOf (Named u ms) = ms
+
+-- a kind with one member more under its T line
+abbrev pub withMember : Member → Kind → Kind
+withMember m (Basic k) = Basic k
+withMember m (Array n e) = Array n e
+withMember m (Slice e) = Slice e
+withMember m (Pointer e) = Pointer e
+withMember m (Map k e) = Map k e
+withMember m (Chan d e) = Chan d e
+withMember m (Tuple es) = Tuple es
+withMember m (Func v p r) = Func v p r
+withMember m (Struct ms) = Struct (ms ++ (m ∷ []))
+withMember m (Iface ms) = Iface (ms ++ (m ∷ []))
+withMember m (Named u ms) = Named u (ms ++ (m ∷ []))
 
 -- the fields of a struct; of another kind none
 abbrev pub fieldsOf : Kind → List Member

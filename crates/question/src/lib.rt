@@ -26,6 +26,7 @@ use objects::rows::package_count;
 use objects::rows::type_count;
 use text::Cursor;
 use text::Part;
+use text::bytes::both;
 
 // A type number, if the next field is one.
 pub enum Ref {
@@ -157,12 +158,6 @@ pub fn parse(line: &[u8]) -> Ask
 }
 
 // ---- the table's numbers
-
-fn both(a: bool, b: bool) -> bool
-    ensures { λ r. ⌜ r ≡ (a && b) ⌝ }
-{
-    if a { b } else { false }
-}
 
 fn has_type(rows: &[u32], t: TypeKey) -> bool
     ensures { λ r. ⌜ r ≡ ltb (t .0) (typeCount (now (rows .entry))) ⌝ }

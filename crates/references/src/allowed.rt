@@ -10,7 +10,6 @@ ghost use Rattle.objects.specs.Laid.{Laid};
 ghost use Rattle.rules.specs.Checks.{mayRefer, smallerTuple, endsInSlice, mayName, typeAllowed, mayEmbed, mayHave, memberAllowed};
 ghost use Rattle.references.specs.Lines.{Says, SaysOf};
 use crate::Test;
-use crate::refs::both;
 use crate::refs::refs_pass;
 use objects::ObjKey;
 use objects::TypeKey;
@@ -24,6 +23,7 @@ use objects::rows::member_total;
 use objects::rows::member_type;
 use objects::rows::type_count;
 use objects::rows::type_word;
+use text::bytes::both;
 
 // ---- readers that know where the table ends
 

@@ -22,13 +22,7 @@ use objects::rows::member_word;
 use objects::rows::package_count;
 use objects::rows::type_count;
 use objects::rows::type_of;
-
-// Both tests hold.
-pub fn both(a: bool, b: bool) -> bool
-    ensures { λ r. ⌜ r ≡ a && b ⌝ }
-{
-    if a { b } else { false }
-}
+use text::bytes::both;
 
 // ---- numbers that the table has
 

@@ -5,6 +5,7 @@ use mathlib.Core.List.{List, [], _∷_, map}
 use lib.IntN.{pos, negℤ}
 use lib.ListN.{replicate}
 use Rattle.objects.specs.Bounds.{workWords}
+use Rattle.objects.specs.Rows.{dirAt}
 use Rattle.text.specs.Bytes.{ascii}
 use Rattle.rules.specs.Asked.{Asked}
 use Rattle.rules.specs.Rows.{called, owed, allPrint, spaced, _⏎_, buffer, calling}
@@ -34,7 +35,7 @@ unfolding allPrint
 readings-right = refl
 
 pub others-right : allPrint others ≡ true
-unfolding allPrint
+unfolding allPrint dirAt
 others-right = refl
 
 -- ---- the call's own refusals: 1 leaves the work area as it was; 2 comes before 3; 4 names its line; 13 comes last, and an answer of just that length fits

@@ -30,7 +30,7 @@ pair x y = record { left = x; right = y }
 
 -- ---- pairs of types of the table are at most size * size
 
-samePair-true : (p q : Pair) → samePair p q ≡ true → p ≡ q
+pub samePair-true : (p q : Pair) → samePair p q ≡ true → p ≡ q
 samePair-true p q h =
     ap₂ pair (same-key (p .left) (q .left) (and-l (sameType (p .left) (q .left)) (sameType (p .right) (q .right)) h)) (same-key (p .right) (q .right) (and-r (sameType (p .left) (q .left)) (sameType (p .right) (q .right)) h))
 

@@ -9,13 +9,13 @@ use lib.Dec.{ltb}
 use lib.ListN.{length}
 use Rattle.objects.specs.Bounds.{maxTypes, maxPackages, maxMembers, maxPerType}
 use Rattle.objects.specs.Lists.{Bytes, In, flat, upTo, empty, onLast}
-use Rattle.objects.specs.Table.{Table, size, memberCount, objKey, Entity, Field, Method, Member, Kind, Basic, Array, Slice, Pointer, Map, Chan, Tuple, Func, Struct, Iface, Named, kindNumber, isStruct, isIface, isNamed, membersOf}
+use Rattle.objects.specs.Table.{Table, size, memberCount, objKey, Entity, Field, Method, Member, Kind, Basic, Array, Slice, Pointer, Map, Chan, Tuple, Func, Struct, Iface, Named, kindNumber, isStruct, isIface, isNamed, membersOf, withMember}
 use Rattle.objects.proofs.ListLaws.{cases, clash, and-l, and-r, or-true, either, flat-append, map-append}
 use Rattle.objects.proofs.PartLaws.{all-snoc, length-snoc, few-snoc, onLast-length, onLast-In, onLast-flat}
 use Rattle.text.specs.Bytes.{isPath}
 use Rattle.text.specs.Lines.{fields}
 use Rattle.rules.specs.Forms.{Line, packageLine, typeLine, memberLine, lineOf}
-use Rattle.rules.specs.Load.{Loaded, refused, loaded, lastKind, withMember, added, stands, inPlace, hasRoom, lineAdded, linesFrom, noTable}
+use Rattle.rules.specs.Load.{Loaded, refused, loaded, lastKind, added, stands, inPlace, hasRoom, lineAdded, linesFrom, noTable}
 use Rattle.rules.proofs.FormLaws.{InRange, Fresh, Says, Formed, line-formed}
 
 -- ---- a kind with its members

@@ -11,6 +11,7 @@ use Rattle.text.specs.Readers.{Reader, _>>=_, field, others, done, whole, isWor
 use Rattle.objects.specs.declared.TypeKey.{TypeKey}
 use Rattle.objects.specs.declared.PackageKey.{PackageKey}
 use Rattle.objects.specs.declared.Dir.{Dir}
+use Rattle.objects.specs.Rows.{dirAt}
 use Rattle.objects.specs.Table.{typeKey, packageKey, Entity, Field, Method, Kind, Basic, Array, Slice, Pointer, Map, Chan, Tuple, Func, Struct, Iface, Named}
 
 -- "A type or package number of more than four digits has a wrong form."
@@ -25,11 +26,8 @@ abbrev pub flagBit : Bytes → Option Bool
 flagBit b = mapped (λ n. eqb n 1) (number 1 b)
 
 -- "0 both ways, 1 send only, 2 receive only"
-abbrev pub dirOf : ℕ → Dir
-dirOf n = cond (eqb n 0) Dir.Both (cond (eqb n 1) Dir.Send Dir.Receive)
-
 abbrev pub direction : Bytes → Option Dir
-direction b = mapped dirOf (number 2 b)
+direction b = mapped dirAt (number 2 b)
 
 abbrev pub fieldName : Bytes → Option Bytes
 fieldName b = when (isName b) b

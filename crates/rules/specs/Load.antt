@@ -7,7 +7,7 @@ use lib.Dec.{ltb}
 use lib.ListN.{length}
 use Rattle.objects.specs.Bounds.{maxTypes, maxPackages, maxMembers, maxPerType, maxText}
 use Rattle.objects.specs.Lists.{Bytes, empty, lastOr, onLast}
-use Rattle.objects.specs.Table.{Table, size, memberCount, objKey, Entity, Field, Method, Member, Kind, Basic, Array, Slice, Pointer, Map, Chan, Tuple, Func, Struct, Iface, Named, isStruct, isIface, isNamed, membersOf}
+use Rattle.objects.specs.Table.{Table, size, memberCount, objKey, Entity, Field, Method, Member, Kind, Basic, isStruct, isIface, isNamed, membersOf, withMember}
 use Rattle.text.specs.Bytes.{ascii, sameBytes}
 use Rattle.text.specs.Lines.{pieces, fields}
 use Rattle.rules.specs.Forms.{Line, packageLine, typeLine, memberLine, lineOf}
@@ -23,20 +23,6 @@ pub data Loaded : Type 0 where
 -- the type above: the last so far
 abbrev pub lastKind : Table → Kind
 lastKind T = lastOr (Basic 0) (T .types)
-
--- a kind with one member more under its T line
-abbrev pub withMember : Member → Kind → Kind
-withMember m (Basic k) = Basic k
-withMember m (Array n e) = Array n e
-withMember m (Slice e) = Slice e
-withMember m (Pointer e) = Pointer e
-withMember m (Map k e) = Map k e
-withMember m (Chan d e) = Chan d e
-withMember m (Tuple es) = Tuple es
-withMember m (Func v p r) = Func v p r
-withMember m (Struct ms) = Struct (ms ++ (m ∷ []))
-withMember m (Iface ms) = Iface (ms ++ (m ∷ []))
-withMember m (Named u ms) = Named u (ms ++ (m ∷ []))
 
 -- the table with one line more, whose number in the text is `line`
 unfoldable pub added : Table → ℕ → Line → Table

@@ -1,6 +1,6 @@
-// Tests of one byte.
+// Tests of one byte, and of two tests.
 ghost use mathlib.Core.Path.{_≡_};
-ghost use mathlib.Core.Bool.{_||_};
+ghost use mathlib.Core.Bool.{_&&_, _||_};
 ghost use lib.Dec.{eqb};
 ghost use Rattle.text.specs.Bytes.{between, isDigit, isNameByte};
 
@@ -14,6 +14,12 @@ pub fn or(a: bool, b: bool) -> bool
     ensures { λ r. ⌜ r ≡ (a || b) ⌝ }
 {
     if a { true } else { b }
+}
+
+pub fn both(a: bool, b: bool) -> bool
+    ensures { λ r. ⌜ r ≡ (a && b) ⌝ }
+{
+    if a { b } else { false }
 }
 
 pub fn is(a: u64, b: u64) -> bool
