@@ -2,7 +2,7 @@
 use mathlib.Core.Path.{_≡_, refl, sym, ap, subst, _∙_}
 use mathlib.Core.Bool.{Bool, true, false}
 use mathlib.Core.List.{List, [], _∷_, _++_, map, append-nil}
-use mathlib.Core.Option.{Option, none, some}
+use mathlib.Core.Option.{Option, some}
 use Prim.Native.Nat.{ℕ, suc, _-_, _≤_, _<_}
 use native.Mathlib.Omega.{arith}
 use lib.ListN.{length, take, drop, drop-of-length-le}
@@ -10,7 +10,7 @@ use borrow.Author.Tests.{le-leb}
 use Rattle.objects.specs.Lists.{Bytes, flat}
 use Rattle.objects.specs.declared.TypeKey.{TypeKey}
 use Rattle.objects.specs.Rows.{Words, typeCount, packageCount, memberCountOf, pkgOf, bytesAt, tableOf}
-use Rattle.objects.specs.Table.{Table, size, memberCount, objKey, hasPackage}
+use Rattle.objects.specs.Table.{size, memberCount, objKey, hasPackage}
 use Rattle.objects.proofs.ListLaws.{flat-map}
 use Rattle.objects.proofs.RowLaws.{size-read, member-count-read, package-count-read}
 use Rattle.text.specs.Bytes.{ascii}
@@ -21,7 +21,7 @@ use Rattle.rules.specs.Identity.{identical}
 use Rattle.rules.specs.Comparable.{comparable}
 use Rattle.rules.specs.Question.{Question, askS, askM, askN, askI, askC, askV, questionOf}
 use Rattle.rules.specs.Answer.{Sel, selOf, selected, set, says, counts, lackAnswer, answer, answerBytes, selBytes}
-use Rattle.rules.specs.Asked.{Outcome, refuse, fitted, wrongSecond, answered}
+use Rattle.rules.specs.Asked.{refuse, fitted, wrongSecond, answered}
 use Rattle.print.specs.Written.{numberLine}
 use Rattle.print.proofs.Lines.{set-line, sel-line}
 use Rattle.question.specs.declared.Ask.{Ask}

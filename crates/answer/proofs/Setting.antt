@@ -1,13 +1,13 @@
 -- The lines of a method set one by one: how long they are, and how they are written.
 use mathlib.Core.Path.{_≡_, refl, sym, ap, _∙_}
-use mathlib.Core.List.{List, [], _∷_, _++_}
+use mathlib.Core.List.{[], _∷_, _++_}
 use Prim.Native.Nat.{ℕ, suc, _+_, _≤_, _<_}
 use native.Mathlib.Numerals.{add-one}
 use native.Mathlib.Omega.{arith}
 use lib.ListN.{length, getD, take, drop, drop-of-length-le, length-append, length-take}
 use lib.Seq.{drop-cons, getD-take}
 use Rattle.objects.specs.Bounds.{maxPlaces}
-use Rattle.objects.specs.Lists.{Bytes, In}
+use Rattle.objects.specs.Lists.{Bytes}
 use Rattle.objects.specs.Rows.{Words}
 use Rattle.objects.specs.Table.{objKey}
 use Rattle.objects.proofs.PartLaws.{getD-In}

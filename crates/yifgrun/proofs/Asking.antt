@@ -1,18 +1,16 @@
 -- The ways through the exported call, and what each gives.
 use mathlib.Core.Path.{_≡_, refl, sym, ap, subst, _∙_}
-use mathlib.Core.Bool.{Bool}
-use mathlib.Core.List.{List, [], _∷_, _++_}
+use mathlib.Core.List.{_++_}
 use Prim.Native.Nat.{ℕ, _+_, _≤_, _<_, _^_}
 use native.Mathlib.Omega.{arith}
-use lib.ListN.{length, drop, replicate, length-append, length-drop, length-replicate}
-use lib.IntN.{ℤ, pos}
+use lib.ListN.{length, drop, replicate, length-append}
+use lib.IntN.{ℤ}
 use borrow.Author.Tests.{lt-ltb, le-ltb}
 use Rattle.objects.specs.Bounds.{workWords}
 use Rattle.objects.specs.Lists.{Bytes}
 use Rattle.objects.specs.Rows.{Words, tableOf}
-use Rattle.rules.specs.Load.{Loaded, refused, loaded, load}
 use Rattle.rules.specs.Question.{questionOf}
-use Rattle.rules.specs.Asked.{Outcome, refuse, say, answered, outcomeOf, outcome, refusal, numberOf, written, asked}
+use Rattle.rules.specs.Asked.{Outcome, refuse, say, answered, outcomeOf, outcome, numberOf, written, asked}
 use Rattle.table.specs.declared.Loading.{Loading}
 use Rattle.table.specs.Loading.{loadingMeant, Loads}
 use Rattle.answer.specs.declared.Done.{Done}

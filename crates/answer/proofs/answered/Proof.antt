@@ -1,5 +1,4 @@
 -- `answered` meets its contract: one way for each letter, 12 before N, 11 for a wrong form.
-use native.Mathlib.Omega.{arith}
 use mathlib.Core.Path.{refl}
 use Rattle.answer.proofs.Answering.{s-answered, m-answered, n-answered, n-refused, i-answered, c-answered, v-answered, wrong-form, s-known, m-known, n-known-ask, n-known, i-known, c-known}
 use borrow.Author.Needs.{needs}

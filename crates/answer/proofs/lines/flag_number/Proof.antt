@@ -1,7 +1,6 @@
 -- `flag_number` meets its contract.
 use mathlib.Core.Path.{ap, sym}
 use Rattle.objects.specs.Table.{bit}
-use borrow.Author.Needs.{needs}
 use Rattle.answer.proofs.lines.flag_number.Statement.{statement}
 use Rattle.answer.proofs.lines.flag_number.Tie as tie
 

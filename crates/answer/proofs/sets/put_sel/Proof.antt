@@ -1,5 +1,4 @@
 -- `put_sel` meets its contract.
-use native.Mathlib.Omega.{arith}
 use Rattle.answer.proofs.Setting.{sel-room, sel-wrote}
 use borrow.Author.Needs.{needs}
 use Rattle.answer.proofs.sets.put_sel.Statement.{statement}

@@ -1,7 +1,6 @@
 -- `say_set` meets its contract: refused by 13 before anything is written, or all lines.
 use native.Mathlib.Omega.{arith}
 use mathlib.Core.List.{[], _∷_}
-use lib.ListN.{length, take}
 use Rattle.text.specs.Bytes.{ascii}
 use Rattle.print.proofs.LineLaws.{line-short}
 use Rattle.answer.proofs.Setting.{set-refused, set-said}
