@@ -1,3 +1,5 @@
 pub mod MemberRuns
 pub mod RisingLaws
+pub mod MarkLaws
 pub mod ClashLaws
+pub mod SeenLaws

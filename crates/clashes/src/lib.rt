@@ -1,16 +1,16 @@
 // Refusal 9 over the rows of a table: the line of the first member whose identity clashes, or that does not come after the method before it in an
-// interface. At worst each field and each method of a named type is compared with all those above it under its T line; names of different lengths
-// differ at once.
+// interface. A field or a method of a named type is compared with those above it, and with the fields of its struct, only if marks of names say that it
+// may equal one of them: for names of different hashes the whole is linear. At worst, where an attacker chose names of one hash, each is compared with all.
 ghost use mathlib.Core.Path.{_≡_};
-ghost use mathlib.Core.Bool.{true, not, _&&_};
+ghost use mathlib.Core.Bool.{true, false, not, _&&_};
 ghost use mathlib.Core.Option.{none};
 ghost use Prim.Native.Nat.{_+_, _≤_, _<_};
-ghost use lib.ListN.{take};
-ghost use Rattle.objects.specs.Bounds.{maxElements};
+ghost use lib.ListN.{length, take};
+ghost use Rattle.objects.specs.Bounds.{maxTypes, maxElements};
 ghost use Rattle.objects.specs.Lists.{any};
 ghost use Rattle.objects.specs.Table.{objKey, hasPackage, membersOf, fieldsOf, kindAt};
-ghost use Rattle.objects.specs.Rows.{typeCount, memberAt, membersFrom, tableOf};
-ghost use Rattle.objects.specs.Types.{firstRead, found};
+ghost use Rattle.objects.specs.Rows.{typeCount, typeWord, memberAt, membersFrom, tableOf};
+ghost use Rattle.objects.specs.Types.{numberRead, firstRead, found};
 ghost use Rattle.objects.specs.Laid.{Laid};
 ghost use Rattle.text.specs.Bytes.{isBlank};
 ghost use Rattle.rules.specs.Members.{sameMember};
@@ -18,6 +18,14 @@ ghost use Rattle.rules.specs.Checks.{memberItem, items, lacking, ascends, clash
 ghost use Rattle.rules.specs.Stages.{firstLine, linesUnder};
 ghost use Rattle.references.specs.Lines.{linesRead};
 ghost use Rattle.clashes.specs.Known.{PackagedFrom, Packaged, Rising};
+ghost use Rattle.clashes.specs.Marks.{hashes, allMarks, placeOf, fieldsNumber, MarkedAt, Grows, Noted, Ready, Readied, Prepared, Seen, Looked};
+use crate::marks::fields_number;
+use crate::marks::mark_at;
+use crate::marks::marked;
+use crate::marks::meet;
+use crate::marks::meet_all;
+use crate::marks::name_hash;
+use crate::marks::place;
 use obj::below_id;
 use obj::is_blank;
 use obj::same_member;
@@ -32,6 +40,12 @@ use objects::rows::type_count;
 use objects::rows::type_word;
 use references::member_lines;
 use text::bytes::or;
+
+pub mod marks; // which names were met
+
+const ALL_MARKS: usize = 32_768;
+
+const MAX_TYPES: usize = 256;
 
 // ---- members of one identity
 
@@ -110,15 +124,94 @@ fn member_clashes(text: &[u8], rows: &[u32], t: TypeKey, i: u32) -> bool
     }
 }
 
-fn first_clash(text: &[u8], rows: &[u32], t: TypeKey) -> Stage
-    requires { ⌜ Laid (now rows) × Packaged (now text) (now rows) × (t .0 < typeCount (now rows)) ⌝ }
+// ---- marks
+
+// The fields of u's struct are marked.
+fn meet_fields(text: &[u8], rows: &[u32], marks: &mut [u8], u: TypeKey)
+    requires { ⌜ Laid (now rows) × (u .0 < typeCount (now rows)) × (allMarks ≤ length (now marks)) ⌝ }
+    ensures { λ _. ⌜ Noted (now (marks .entry)) (fieldsNumber (u .0)) (fieldsOf (kindAt (tableOf (now (text .entry)) (now (rows .entry))) u)) (now (marks .exit)) ⌝ }
+{
+    if kind_number(rows, u) == 8 {
+        let k = fields_number(u.0);
+        meet_all(
+            text,
+            rows,
+            marks,
+            k,
+            first_member(rows, u),
+            member_total(rows, u),
+        );
+    }
+}
+
+// They are, once for all named types.
+fn meet_once(text: &[u8], rows: &[u32], marks: &mut [u8], done: &mut [u8], u: TypeKey)
+    requires { ⌜ Laid (now rows) × (allMarks ≤ length (now marks)) × (maxTypes ≤ length (now done)) × Ready (now text) (now rows) (now marks) (now done) ⌝ }
+    ensures { λ _. ⌜ Readied (now (text .entry)) (now (rows .entry)) u (now (marks .exit)) (now (done .exit)) ⌝ }
+{
+    if type_count(rows) <= u.0 {
+        return;
+    }
+    let at = u.0 as usize;
+    if mark_at(done, at) == 0 {
+        meet_fields(text, rows, marks, u);
+        done[at] = 1;
+    }
+}
+
+// Before the first member of t: the fields that a named type's methods have to differ from are marked.
+fn prepare(text: &[u8], rows: &[u32], marks: &mut [u8], done: &mut [u8], t: TypeKey)
+    requires { ⌜ Laid (now rows) × (allMarks ≤ length (now marks)) × (maxTypes ≤ length (now done)) × Ready (now text) (now rows) (now marks) (now done) ⌝ }
+    ensures { λ _. ⌜ Prepared (now (text .entry)) (now (rows .entry)) t (now (marks .exit)) (now (done .exit)) ⌝ }
+{
+    if kind_number(rows, t) == 10 {
+        meet_once(text, rows, marks, done, TypeKey(type_word(rows, t, 1)));
+    }
+}
+
+// A field of t's struct may have the name of this hash, where t is a named type.
+fn field_marked(rows: &[u32], marks: &[u8], t: TypeKey, h: u64) -> bool
+    requires { ⌜ h < hashes ⌝ }
+    ensures { λ r. ⌜ (r ≡ false → numberRead (now (rows .entry)) t ≡ 10 → MarkedAt (now (marks .entry)) (placeOf (fieldsNumber (typeWord (now (rows .entry)) t 1)) h) → ⊥) ⌝ }
+{
+    if kind_number(rows, t) == 10 {
+        marked(marks, place(fields_number(type_word(rows, t, 1)), h))
+    } else {
+        false
+    }
+}
+
+// ---- the lines of a type
+
+// The line of member i under t clashes. It is compared only if its name was marked; the name is marked now, unless t is an interface.
+fn line_clashes(text: &[u8], rows: &[u32], marks: &mut [u8], t: TypeKey, i: u32) -> bool
+    requires { ⌜ Laid (now rows) × Packaged (now text) (now rows) × (t .0 < typeCount (now rows)) × (i < linesRead (now rows) t) × Rising (now text) (now rows) t i × (allMarks ≤ length (now marks)) × Seen (now text) (now rows) (now marks) t i ⌝ }
+    ensures { λ r. ⌜ Looked (now (text .entry)) (now (rows .entry)) (now (marks .entry)) t i r (now (marks .exit)) ⌝ }
+{
+    if kind_number(rows, t) == 9 {
+        return member_clashes(text, rows, t, i);
+    }
+    let h = name_hash(text, rows, ObjKey(first_member(rows, t) + i));
+    let field = field_marked(rows, marks, t, h);
+    let p = place(t.0, h);
+    let own = meet(marks, p);
+    if or(own, field) {
+        member_clashes(text, rows, t, i)
+    } else {
+        false
+    }
+}
+
+fn first_line(text: &[u8], rows: &[u32], marks: &mut [u8], t: TypeKey) -> Stage
+    requires { ⌜ Laid (now rows) × Packaged (now text) (now rows) × (t .0 < typeCount (now rows)) × (allMarks ≤ length (now marks)) × Seen (now text) (now rows) (now marks) t 0 ⌝ }
     ensures { λ r. ⌜ found r ≡ firstLine (tableOf (now (text .entry)) (now (rows .entry))) (clashing (tableOf (now (text .entry)) (now (rows .entry)))) (linesUnder t (kindAt (tableOf (now (text .entry)) (now (rows .entry))) t)) ⌝ }
+    ensures { λ _. ⌜ Grows (now (marks .entry)) (now (marks .exit)) ⌝ }
 {
     let first = first_member(rows, t);
     let n = member_lines(rows, t);
     let mut i = 0;
     while i < n {
-        if member_clashes(text, rows, t, i) {
+        if line_clashes(text, rows, marks, t, i) {
             return Stage::Bad(member_word(rows, ObjKey(first + i), 7));
         }
         i += 1;
@@ -126,17 +219,29 @@ fn first_clash(text: &[u8], rows: &[u32], t: TypeKey) -> Stage
     Stage::Passed
 }
 
+fn first_clash(text: &[u8], rows: &[u32], marks: &mut [u8], done: &mut [u8], t: TypeKey) -> Stage
+    requires { ⌜ Laid (now rows) × Packaged (now text) (now rows) × (t .0 < typeCount (now rows)) × (allMarks ≤ length (now marks)) × (maxTypes ≤ length (now done)) × Ready (now text) (now rows) (now marks) (now done) ⌝ }
+    ensures { λ r. ⌜ found r ≡ firstLine (tableOf (now (text .entry)) (now (rows .entry))) (clashing (tableOf (now (text .entry)) (now (rows .entry)))) (linesUnder t (kindAt (tableOf (now (text .entry)) (now (rows .entry))) t)) ⌝ }
+    ensures { λ _. ⌜ Ready (now (text .entry)) (now (rows .entry)) (now (marks .exit)) (now (done .exit)) ⌝ }
+{
+    let n = member_lines(rows, t);
+    if n == 0 {
+        return Stage::Passed;
+    }
+    prepare(text, rows, marks, done, t);
+    first_line(text, rows, marks, t)
+}
+
 // ---- the whole table
 
-// 9, of a table that passed 7
-pub fn clashing(text: &[u8], rows: &[u32]) -> Stage
-    requires { ⌜ Laid (now rows) × (firstLine (tableOf (now text) (now rows)) (lacking (tableOf (now text) (now rows))) (items (tableOf (now text) (now rows))) ≡ none) ⌝ }
+fn first_of(text: &[u8], rows: &[u32], marks: &mut [u8], done: &mut [u8]) -> Stage
+    requires { ⌜ Laid (now rows) × Packaged (now text) (now rows) × (allMarks ≤ length (now marks)) × (maxTypes ≤ length (now done)) × Ready (now text) (now rows) (now marks) (now done) ⌝ }
     ensures { λ r. ⌜ found r ≡ firstLine (tableOf (now (text .entry)) (now (rows .entry))) (clashing (tableOf (now (text .entry)) (now (rows .entry)))) (items (tableOf (now (text .entry)) (now (rows .entry)))) ⌝ }
 {
     let n = type_count(rows);
     let mut t = 0;
     while t < n {
-        match first_clash(text, rows, TypeKey(t)) {
+        match first_clash(text, rows, marks, done, TypeKey(t)) {
             Stage::Passed => {
                 t += 1;
             }
@@ -146,4 +251,14 @@ pub fn clashing(text: &[u8], rows: &[u32]) -> Stage
         }
     }
     Stage::Passed
+}
+
+// 9, of a table that passed 7
+pub fn clashing(text: &[u8], rows: &[u32]) -> Stage
+    requires { ⌜ Laid (now rows) × (firstLine (tableOf (now text) (now rows)) (lacking (tableOf (now text) (now rows))) (items (tableOf (now text) (now rows))) ≡ none) ⌝ }
+    ensures { λ r. ⌜ found r ≡ firstLine (tableOf (now (text .entry)) (now (rows .entry))) (clashing (tableOf (now (text .entry)) (now (rows .entry)))) (items (tableOf (now (text .entry)) (now (rows .entry)))) ⌝ }
+{
+    let mut marks = [0u8; ALL_MARKS];
+    let mut done = [0u8; MAX_TYPES];
+    first_of(text, rows, &mut marks, &mut done)
 }

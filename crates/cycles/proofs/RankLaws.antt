@@ -16,7 +16,7 @@ use Rattle.objects.proofs.ListLaws.{cases, clash}
 use Rattle.objects.proofs.KeyLaws.{key-eq}
 use Rattle.rules.specs.Library.{rankRead}
 use Rattle.cycles.specs.Contents.{inside, contentTotal, contentRead, Within}
-use Rattle.cycles.specs.Ranking.{Same, ranked, Ranks, Ranking, Waits, Stuck, Cleared, AllRanked, Given, Passing, Peeled}
+use Rattle.cycles.specs.Ranking.{Same, ranked, Ranks, Ranking, Waits, Stuck, Cleared, AllRanked, Given, Passing, Advanced, Peeled}
 use Rattle.cycles.proofs.CountLaws.{count-few, count-none, count-more}
 use Rattle.cycles.proofs.ContentLaws.{inside-has, inside-In, same-inside, same-count, same-on}
 
@@ -175,6 +175,23 @@ module _ (rows : Words) (next : ℕ) where
   pub pass-end : (i : ℕ) (after : Words) (next′ : ℕ) → Passing rows next i after next′ → {n : ℕ} → n ≡ typeCount rows → n ≤ i → Passing rows next (typeCount rows) after next′
   pass-end i after next′ p q l = record { same = p .same; ranking = p .ranking; more = p .more; stuck = λ e t h z. p .stuck e t (omega (arith, q, l, h)) z }
 
+-- ---- ranks in whatever order
+
+pub advanced-self : (rows : Words) (next : ℕ) → Ranking rows next → Advanced rows rows next
+advanced-self rows next r = record { same = same-self rows (r .ranks .laid); ranking = r }
+
+pub advanced-on : (rows mid after : Words) (middle next : ℕ) → Advanced rows mid middle → Advanced mid after next → Advanced rows after next
+advanced-on rows mid after middle next a b = record { same = same-on rows mid after (a .same) (b .same); ranking = b .ranking }
+
+pub advanced-given : (rows : Words) (next : ℕ) (t : TypeKey) (after : Words) (next′ : ℕ) → Given rows next t after next′ → Advanced rows after next′
+advanced-given rows next t after next′ g = record { same = g .same; ranking = g .ranking }
+
+pub advanced-in : (rows mid : Words) (middle : ℕ) → Advanced rows mid middle → {n : ℕ} → n ≡ typeCount rows → (i : ℕ) → i < n → i < typeCount mid
+advanced-in rows mid middle a q i l = let e = same-count rows mid (a .same) in omega (arith, e, q, l)
+
+pub advanced-passed : (rows mid after last : Words) (next n middle next′ : ℕ) → Cleared rows n mid → Passing mid next (typeCount mid) after middle → Advanced after last next′ → Same rows last
+advanced-passed rows mid after last next n middle next′ c p a = same-on rows after last (same-on rows mid after (c .same) (p .same)) (a .same)
+
 -- ---- passes
 
 no-ranks : (rows : Words) → ((t : TypeKey) → t .0 < typeCount rows → rankRead rows t ≡ 0) → ranked rows ≡ 0
@@ -213,6 +230,15 @@ module _ (rows : Words) where
 
       no-rank : ranked after ≡ 0
       no-rank = no-ranks after none
+
+  -- once ranks were given
+  pub peel-given : (next : ℕ) → Ranking rows next → Peeling rows 0 next rows
+  peel-given next r = record {
+    same = same-self rows (r .ranks .laid);
+    ranking = r;
+    order = omega arith;
+    stuck = λ e. let c = r .counted in absurd (omega (arith, e, c));
+  }
 
   pub peel-more : (mid : Words) (last next : ℕ) (after : Words) (next′ : ℕ) → Peeling rows last next mid → Passing mid next (typeCount mid) after next′ → Peeling rows next next′ after
   peel-more mid last next after next′ p s = record {

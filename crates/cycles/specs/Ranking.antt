@@ -66,6 +66,11 @@ pub record Passing (rows : Words) (next n : ℕ) (after : Words) (next′ : ℕ)
   pub more : next ≤ next′
   pub stuck : next′ ≡ next → Stuck after n
 
+-- ranks are given to some types, in whatever order
+pub record Advanced (rows : Words) (after : Words) (next′ : ℕ) : Type 0 where
+  pub same : Same rows after
+  pub ranking : Ranking after next′
+
 -- passes until one gives no rank
 pub record Peeled (rows after : Words) : Type 0 where
   pub same : Same rows after

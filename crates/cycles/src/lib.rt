@@ -5,6 +5,7 @@ ghost use Rattle.cycles.specs.Contained.{Contained};
 use objects::Stage;
 
 pub mod contents; // what a type contains by value, one step
+pub mod climb; // ranks given to contents first
 pub mod ranks; // ranks that fall along contents
 pub mod search; // whether a type contains itself
 

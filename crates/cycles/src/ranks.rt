@@ -50,7 +50,7 @@ fn all_ranked(rows: &[u32], t: TypeKey) -> bool
 }
 
 // The type gets the rank if it has none and may have it. Answers the next.
-fn give(rows: &mut [u32], next: u32, t: TypeKey) -> u32
+pub fn give(rows: &mut [u32], next: u32, t: TypeKey) -> u32
     requires { ⌜ Ranking (now rows) next × (t .0 < typeCount (now rows)) ⌝ }
     ensures { λ r. ⌜ Given (now (rows .entry)) next t (now (rows .exit)) r ⌝ }
 {
@@ -80,15 +80,16 @@ fn pass(rows: &mut [u32], next: u32) -> u32
     after
 }
 
-// Passes until one gives no rank. Each is linear in the contents, and there is at most one more than there are types: in the worst case, types that each
-// contain the next, the whole is quadratic.
+// One pass gives most ranks, then the types that are left are gone through with their contents first: each once, linear in the contents. A last pass finds
+// that no type is left that may have a rank.
 pub fn peel(rows: &mut [u32])
     requires { ⌜ Laid (now rows) × Refers (now rows) ⌝ }
     ensures { λ _. ⌜ Peeled (now (rows .entry)) (now (rows .exit)) ⌝ }
 {
     clear(rows);
+    let most = pass(rows, 1);
     let mut last: u32 = 0;
-    let mut next: u32 = 1;
+    let mut next = crate::climb::rest(rows, most);
     while last < next {
         last = next;
         next = pass(rows, next);

@@ -5,14 +5,15 @@ use mathlib.Core.List.{List, [], _∷_, _++_}
 use Prim.Native.Nat.{ℕ, _+_, _≤_, _<_}
 use native.Mathlib.Nat.{add-zero}
 use native.Mathlib.Omega.{arith}
-use lib.Dec.{eqb}
+use lib.Dec.{eqb, leb}
 use lib.ListN.{length, getD, take, drop, take-append-drop}
 use lib.Seq.{take-all}
-use borrow.Author.Tests.{eqb-true}
+use borrow.Author.Tests.{eqb-true, leb-true}
 use Rattle.objects.specs.Lists.{Bytes, every}
-use Rattle.objects.proofs.ListLaws.{cases, clash}
+use Rattle.objects.proofs.ListLaws.{cases, clash, or-true}
+use Rattle.text.specs.Bytes.{between, isCapital, isNameByte}
 use Rattle.text.specs.Lines.{split}
-use Rattle.text.specs.Runs.{other, runLength, runEnd, stopAt}
+use Rattle.text.specs.Runs.{other, runLength, runEnd, Four, stopAt}
 use Rattle.text.proofs.LineLaws.{Free, split-at, split-end, split-on}
 use Rattle.text.proofs.PartLaws.{drop-short, part-next, part-none}
 
@@ -44,6 +45,50 @@ module _ (sep b : ℕ) {t : Bool} (pt : t ≡ eqb b sep) where
   pub other-yes : t ≡ false → other sep b ≡ true
   unfolding other
   other-yes e = ap not (sym pt ∙ e)
+
+-- ---- a small letter is a byte of names
+
+pub small-letter : (b : ℕ) {t : Bool} → t ≡ between 97 122 b → t ≡ true → isNameByte b ≡ true
+small-letter b p e = rw (sym p ∙ e, or-true (isCapital b))
+
+-- ---- four bytes at a time
+
+pub stop-short : (s : Bytes) (end : ℕ) {stop : ℕ} → stop ≡ stopAt s end → stop ≤ length s
+unfolding stopAt
+stop-short s end p = cases (leb end (length s)) (λ e. let l = leb-true end (length s) e in rw (p, e) l) (λ e. rw (p, e) (omega arith))
+
+module _ (s : Bytes) (i sep : ℕ) where
+  -- the run goes on to i + k
+  abbrev On : ℕ → Type 0
+  On k = (end : ℕ) → i + 4 ≤ stopAt s end → runEnd (other sep) s i end ≡ runEnd (other sep) s (i + k) end
+
+  module _ (j : ℕ) (l : j < 4) (on : On j) {b : ℕ} (pb : b ≡ getD s (i + j) 0) {t : Bool} (pt : t ≡ eqb b sep) where
+    pub four-on : t ≡ false → On (j + 1)
+    four-on e end h =
+        let z : i + j + 1 ≡ i + (j + 1) = omega arith in
+        on end h ∙ run-next (other sep) s (i + j) end refl (omega arith) pb (other-yes sep b pt e) ∙ ap (λ x. runEnd (other sep) s x end) z
+
+    pub four-hit : t ≡ true → Four s i sep (i + j)
+    four-hit e = record {
+      hit = λ end h _. on end h ∙ run-stop (other sep) s (i + j) end refl (omega arith) pb (other-no sep b pt e);
+      miss = λ end h k. absurd (omega arith);
+    }
+
+  pub four-start : On 0
+  four-start end h = let z : i + 0 ≡ i = omega arith in ap (λ x. runEnd (other sep) s x end) (sym z)
+
+  pub four-miss : On 4 → Four s i sep (i + 4)
+  four-miss on = record { hit = λ end h k. absurd (omega arith); miss = λ end h _. on end h }
+
+  module _ {b₀ : ℕ} (p₀ : b₀ ≡ getD s i 0) {t₀ : Bool} (q₀ : t₀ ≡ eqb b₀ sep) where
+    at-start : b₀ ≡ getD s (i + 0) 0
+    at-start = let z : i + 0 ≡ i = omega arith in rw z p₀
+
+    pub four-first : t₀ ≡ true → Four s i sep i
+    four-first e = let z : i + 0 ≡ i = omega arith in rw z at (four-hit 0 (omega arith) four-start at-start q₀ e)
+
+    pub on-first : t₀ ≡ false → On 1
+    on-first e = four-on 0 (omega arith) four-start at-start q₀ e
 
 -- ---- a text as its run and what is left
 

@@ -3,7 +3,7 @@ use mathlib.Core.Path.{_≡_}
 use mathlib.Core.Bool.{Bool, true, false, cond, not, _&&_}
 use mathlib.Core.List.{List, [], _∷_}
 use mathlib.Core.Option.{Option}
-use Prim.Native.Nat.{ℕ, zero, suc, _+_, _-_, _*_, _≤_}
+use Prim.Native.Nat.{ℕ, zero, suc, _+_, _-_, _*_, _≤_, _<_}
 use lib.Dec.{eqb, leb}
 use lib.ListN.{length}
 use Rattle.objects.specs.Lists.{Bytes, every, headOr, when}
@@ -32,6 +32,12 @@ runEnd p s at end = at + runLength p (part s at end)
 -- an end that lies within the text
 unfoldable pub stopAt : Bytes → ℕ → ℕ
 stopAt s end = cond (leb end (length s)) end (length s)
+
+-- where the first separator among four bytes stands, as part of a run up to whatever end lies behind them: the run ends there, or, where there is none, it
+-- goes on behind the four
+pub record Four (s : Bytes) (i sep r : ℕ) : Type 0 where
+  pub hit : (end : ℕ) → i + 4 ≤ stopAt s end → r < i + 4 → runEnd (other sep) s i end ≡ r
+  pub miss : (end : ℕ) → i + 4 ≤ stopAt s end → i + 4 ≤ r → runEnd (other sep) s i end ≡ runEnd (other sep) s (i + 4) end
 
 -- the byte at a place before an end, and 256 where none is left
 unfoldable pub byteIn : Bytes → ℕ → ℕ → ℕ

@@ -1,9 +1,11 @@
 // One pass over a line's bytes: where a run of them ends, and what stands there. Nothing is read at or past `end`, nor past the text.
 ghost use mathlib.Core.Path.{_≡_};
+ghost use Prim.Native.Nat.{_+_, _≤_};
+ghost use lib.ListN.{length};
 ghost use Rattle.text.specs.Bytes.{between, isNameByte, isBlank};
 ghost use Rattle.text.specs.Lines.{fields};
 ghost use Rattle.text.specs.Cursors.{part, lineEnd, pastRead, exactly};
-ghost use Rattle.text.specs.Runs.{other, runEnd, stopAt, byteIn, pastTab};
+ghost use Rattle.text.specs.Runs.{other, runEnd, Four, stopAt, byteIn, pastTab};
 use crate::Cursor;
 use crate::Past;
 use crate::bytes::is;
@@ -25,8 +27,8 @@ pub fn byte(s: &[u8], at: usize, end: usize) -> u64
     if at < stop(s, end) { wide(s[at]) } else { 256 }
 }
 
-// Where the separator stands first, or the end.
-pub fn until(s: &[u8], at: usize, end: usize, sep: u64) -> usize
+// Where the separator stands first, or the end, byte by byte.
+fn until_each(s: &[u8], at: usize, end: usize, sep: u64) -> usize
     ensures { λ r. ⌜ r ≡ runEnd (other sep) (now (s .entry)) at end ⌝ }
 {
     let stop = stop(s, end);
@@ -40,6 +42,45 @@ pub fn until(s: &[u8], at: usize, end: usize, sep: u64) -> usize
     i
 }
 
+// The same among four bytes, and the place behind them where it is none of them.
+fn until_four(s: &[u8], i: usize, sep: u64) -> usize
+    requires { ⌜ i + 4 ≤ length (now s) ⌝ }
+    ensures { λ r. ⌜ Four (now (s .entry)) i sep r ⌝ }
+{
+    if is(wide(s[i]), sep) {
+        return i;
+    }
+    if is(wide(s[i + 1]), sep) {
+        return i + 1;
+    }
+    if is(wide(s[i + 2]), sep) {
+        return i + 2;
+    }
+    if is(wide(s[i + 3]), sep) {
+        return i + 3;
+    }
+    i + 4
+}
+
+// Where the separator stands first, or the end. Four bytes a turn, as this is done for each byte of the text.
+pub fn until(s: &[u8], at: usize, end: usize, sep: u64) -> usize
+    ensures { λ r. ⌜ r ≡ runEnd (other sep) (now (s .entry)) at end ⌝ }
+{
+    let stop = stop(s, end);
+    let mut i = at;
+    while i < stop {
+        if stop - i < 4 {
+            return until_each(s, i, end, sep);
+        }
+        let to = until_four(s, i, sep);
+        if to < i + 4 {
+            return to;
+        }
+        i += 4;
+    }
+    i
+}
+
 // Where the line that begins at a place ends: at its newline, or at the end of the text.
 pub fn line_end(s: &[u8], from: usize) -> usize
     ensures { λ r. ⌜ r ≡ lineEnd (now (s .entry)) from ⌝ }
@@ -47,17 +88,22 @@ pub fn line_end(s: &[u8], from: usize) -> usize
     until(s, from, s.len(), 10)
 }
 
-// Where the bytes of a name end.
+// Where the bytes of a name end. Most are small letters, so these are tried first.
 pub fn name_end(s: &[u8], at: usize, end: usize) -> usize
     ensures { λ r. ⌜ r ≡ runEnd isNameByte (now (s .entry)) at end ⌝ }
 {
     let stop = stop(s, end);
     let mut i = at;
     while i < stop {
-        if name_byte(wide(s[i])) {
+        let b = wide(s[i]);
+        if within(97, 122, b) {
             i += 1;
         } else {
-            return i;
+            if name_byte(b) {
+                i += 1;
+            } else {
+                return i;
+            }
         }
     }
     i

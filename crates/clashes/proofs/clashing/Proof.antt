@@ -1,67 +1,29 @@
--- `clashes::clashing` meets its contract. The invariant: what is found in the table is found from type t on.
-use mathlib.Core.Path.{_≡_, sym, _∙_}
-use Prim.Native.Nat.{_-_}
+-- `clashes::clashing` meets its contract.
 use native.Mathlib.Omega.{arith}
-use Rattle.objects.specs.Rows.{tableOf}
-use Rattle.rules.specs.Checks.{items, clashing}
-use Rattle.rules.specs.Stages.{firstLine}
-use Rattle.rules.proofs.ItemLaws.{typesLeft, types-start}
-use Rattle.references.proofs.Walking.{table-on, table-stop, table-end}
-use Rattle.clashes.proofs.ClashLaws.{packaged-of, lines-clash}
+use Rattle.objects.specs.Bounds.{maxTypes}
+use Rattle.clashes.proofs.ClashLaws.{packaged-of}
+use Rattle.clashes.proofs.SeenLaws.{ready-start}
 use borrow.Author.Needs.{needs}
 use Rattle.clashes.proofs.clashing.Statement.{statement}
 use Rattle.clashes.proofs.clashing.Tie as tie
 
-abbrev Inv-loop : tie.InvT-loop
-Inv-loop text rows n t₀ t = firstLine (tableOf text rows) (clashing (tableOf text rows)) (items (tableOf text rows))
-    ≡ firstLine (tableOf text rows) (clashing (tableOf text rows)) (typesLeft (tableOf text rows) t)
+slice-aggregate-first-of : tie.Need-slice-aggregate-first-of
+slice-aggregate-first-of c = search needs
 
-abbrev μ-loop : tie.MeasureT-loop
-μ-loop text rows n t₀ t = n - t
+slice-aggregate-first-of-2 : tie.Need-slice-aggregate-first-of-2
+slice-aggregate-first-of-2 c = search needs
 
-type-count-requires : tie.Need-type-count-requires Inv-loop μ-loop
-type-count-requires c κs = search needs
+first-of-requires : tie.Need-first-of-requires
+first-of-requires c κs = ((c .before .before .before .before .pre .0), packaged-of (c .before .before .before .before .args .text .now) (c .before .before .before .before .args .rows .now) (c .before .before .before .before .pre .1), omega arith, omega arith, ready-start _ _ _ maxTypes)
 
-loop-holds : tie.Need-loop-holds Inv-loop μ-loop
-loop-holds c = types-start (tableOf (c .before .before .before .args .text .now) (c .before .before .before .args .rows .now)) (clashing (tableOf (c .before .before .before .args .text .now) (c .before .before .before .args .rows .now)))
-
-first-clash-requires : tie.Need-first-clash-requires Inv-loop μ-loop
-first-clash-requires c κs = ((c .before .before .before .before .before .pre) .0, packaged-of (c .before .before .before .before .before .args .text .now) (c .before .before .before .before .before .args .rows .now) ((c .before .before .before .before .before .pre) .1), rw (c .before .before .type-count .ensures) at (c .loop-test .taken))
-
-enum-told : tie.Need-enum-told Inv-loop μ-loop
-enum-told c = search needs
-
-add-t : tie.Need-add-t Inv-loop μ-loop
-add-t c = search needs
-
-loop-less : tie.Need-loop-less Inv-loop μ-loop
-loop-less c = omega arith
-
-loop-again : tie.Need-loop-again Inv-loop μ-loop
-loop-again c = (c .before .before .before .before .loop .inv) ∙ table-on (c .before .before .before .before .before .before .before .before .args .text .now) (c .before .before .before .before .before .before .before .before .args .rows .now) (clashing (tableOf (c .before .before .before .before .before .before .before .before .args .text .now) (c .before .before .before .before .before .before .before .before .args .rows .now))) (c .before .before .before .before .before .type-count .ensures) _ (c .before .before .before .loop-test .taken) (lines-clash _ _ _ (c .before .before .first-clash .ensures)) ((c .enum-told .given) .1)
-
-enum-known-line : tie.Need-enum-known-line Inv-loop μ-loop
-enum-known-line c = search needs
-
-returns : tie.Need-returns Inv-loop μ-loop
-returns c = sym ((c .before .before .before .before .before .loop .inv) ∙ table-stop (c .before .before .before .before .before .before .before .before .before .args .text .now) (c .before .before .before .before .before .before .before .before .before .args .rows .now) (clashing (tableOf (c .before .before .before .before .before .before .before .before .before .args .text .now) (c .before .before .before .before .before .before .before .before .before .args .rows .now))) (c .before .before .before .before .before .before .type-count .ensures) _ (c .before .before .before .before .loop-test .taken) (lines-clash _ _ _ (c .before .before .before .first-clash .ensures)) _ ((c .before .line .given) .1))
-
-returns-2 : tie.Need-returns-2 Inv-loop μ-loop
-returns-2 c = sym ((c .before .loop .inv) ∙ table-end (c .before .before .before .before .before .args .text .now) (c .before .before .before .before .before .args .rows .now) (clashing (tableOf (c .before .before .before .before .before .args .text .now) (c .before .before .before .before .before .args .rows .now))) (c .before .before .type-count .ensures) _ (c .loop-test .left))
+returns : tie.Need-returns
+returns c = (c .before .before .first-of .ensures)
 
 pub clashing-spec : {M : Type 1} → statement M
 clashing-spec =
     tie.close
     (tie.spec
-    Inv-loop
-    μ-loop
-    type-count-requires
-    loop-holds
-    first-clash-requires
-    enum-told
-    add-t
-    loop-less
-    loop-again
-    enum-known-line
-    returns
-    returns-2)
+    slice-aggregate-first-of
+    slice-aggregate-first-of-2
+    first-of-requires
+    returns)

@@ -1,9 +1,9 @@
 -- `text::scan::until` meets its contract. The invariant: the run from the start ends where the run from `i` ends. The measure is what is left up to `stop`.
 use mathlib.Core.Path.{_≡_, refl, sym, _∙_}
 use Prim.Native.Nat.{_-_}
+use native.Mathlib.Omega.{arith}
 use Rattle.text.specs.Runs.{other, runEnd}
-use Rattle.text.proofs.PartLaws.{stop-in}
-use Rattle.text.proofs.RunLaws.{run-done, run-next, run-stop, other-no, other-yes}
+use Rattle.text.proofs.RunLaws.{run-done, stop-short}
 use borrow.Author.Needs.{needs}
 use Rattle.text.proofs.scan.until.Statement.{statement}
 use Rattle.text.proofs.scan.until.Tie as tie
@@ -20,29 +20,35 @@ stop-requires c κs = search needs
 loop-holds : tie.Need-loop-holds Inv-loop μ-loop
 loop-holds c = refl
 
-shared-slice-read-wide : tie.Need-shared-slice-read-wide Inv-loop μ-loop
-shared-slice-read-wide c = stop-in _ _ _ (c .before .before .before .stop .ensures) (c .before .loop-test .taken) .1
+sub-if1 : tie.Need-sub-if1 Inv-loop μ-loop
+sub-if1 c = search needs
 
-wide-requires : tie.Need-wide-requires Inv-loop μ-loop
-wide-requires c κs = search needs
-
-is-requires : tie.Need-is-requires Inv-loop μ-loop
-is-requires c κs = search needs
+until-each-requires : tie.Need-until-each-requires Inv-loop μ-loop
+until-each-requires c κs = search needs
 
 returns : tie.Need-returns Inv-loop μ-loop
-returns c = sym ((c .before .before .before .before .before .loop .inv) ∙ run-stop _ _ _ _ (c .before .before .before .before .before .before .stop .ensures) (c .before .before .before .before .loop-test .taken) (c .before .before .wide .ensures) (other-no _ _ (c .before .is .ensures) (c .if1 .taken)))
+returns c = (c .until-each .ensures) ∙ sym (c .before .before .before .loop .inv)
+
+until-four-requires : tie.Need-until-four-requires Inv-loop μ-loop
+until-four-requires c κs = omega (arith, stop-short (c .before .before .before .before .before .args .s .now) (c .before .before .before .before .before .args .end) (c .before .before .before .stop .ensures), (c .if1 .left), (c .before .loop-test .taken))
+
+add-if2 : tie.Need-add-if2 Inv-loop μ-loop
+add-if2 c = omega (arith, stop-short (c .before .before .before .before .before .before .args .s .now) (c .before .before .before .before .before .before .args .end) (c .before .before .before .before .stop .ensures), (c .before .if1 .left), (c .before .before .loop-test .taken))
+
+returns-2 : tie.Need-returns-2 Inv-loop μ-loop
+returns-2 c = sym ((c .before .before .before .before .loop .inv) ∙ (c .before .until-four .ensures) .hit _ (omega (arith, (c .before .before .before .before .before .stop .ensures), (c .before .before .if1 .left), (c .before .before .before .loop-test .taken))) (c .if2 .taken))
 
 add-i : tie.Need-add-i Inv-loop μ-loop
 add-i c = search needs
 
 loop-less : tie.Need-loop-less Inv-loop μ-loop
-loop-less c = search needs
+loop-less c = omega arith
 
 loop-again : tie.Need-loop-again Inv-loop μ-loop
-loop-again c = (c .before .before .before .before .before .loop .inv) ∙ run-next _ _ _ _ (c .before .before .before .before .before .before .stop .ensures) (c .before .before .before .before .loop-test .taken) (c .before .before .wide .ensures) (other-yes _ _ (c .before .is .ensures) (c .if1 .left))
+loop-again c = (c .before .before .before .before .loop .inv) ∙ (c .before .until-four .ensures) .miss _ (omega (arith, (c .before .before .before .before .before .stop .ensures), (c .before .before .if1 .left), (c .before .before .before .loop-test .taken))) (c .if2 .left)
 
-returns-2 : tie.Need-returns-2 Inv-loop μ-loop
-returns-2 c = sym ((c .before .loop .inv) ∙ run-done _ _ _ _ (c .before .before .stop .ensures) (c .loop-test .left))
+returns-3 : tie.Need-returns-3 Inv-loop μ-loop
+returns-3 c = sym ((c .before .loop .inv) ∙ run-done _ _ _ _ (c .before .before .stop .ensures) (c .loop-test .left))
 
 pub until-spec : {M : Type 1} → statement M
 until-spec =
@@ -52,11 +58,13 @@ until-spec =
     μ-loop
     stop-requires
     loop-holds
-    shared-slice-read-wide
-    wide-requires
-    is-requires
+    sub-if1
+    until-each-requires
     returns
+    until-four-requires
+    add-if2
+    returns-2
     add-i
     loop-less
     loop-again
-    returns-2)
+    returns-3)

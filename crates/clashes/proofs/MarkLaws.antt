@@ -1,0 +1,99 @@
+-- Marks of names (specs/Marks.antt): hashes and places, marks that are added, and what a name without its mark differs from.
+use mathlib.Core.Path.{_≡_, sym, _∙_}
+use mathlib.Core.Bool.{Bool}
+use mathlib.Core.Logic.{_≢_}
+use Prim.Native.Nat.{ℕ, _+_, _*_, _/_, _%_, _<_, _≤_}
+use native.Mathlib.Numerals.{add-one}
+use native.Mathlib.Omega.{arith}
+use lib.Dec.{eqb}
+use lib.ListN.{length, getD, take, drop, set, drop-of-length-le, length-set}
+use borrow.Author.Tests.{eqb-true, eqb-false}
+use Rattle.objects.specs.declared.ObjKey.{ObjKey}
+use Rattle.objects.specs.Lists.{Bytes}
+use Rattle.objects.specs.Table.{objKey}
+use Rattle.objects.specs.Rows.{Words, wordAt, memberWord, bytesAt, memberAt, membersFrom}
+use Rattle.objects.proofs.ListLaws.{cases}
+use Rattle.objects.proofs.PartLaws.{all-snoc}
+use Rattle.objects.proofs.RowLaws.{members-more}
+use Rattle.objects.proofs.Stores.{word-put, word-kept}
+use Rattle.text.proofs.PartLaws.{drop-at}
+use Rattle.clashes.specs.Marks.{hashes, allMarks, hashFrom, placeOf, highPlace, lowPlace, MarkedAt, Marked, Grows, AllMarked, Met, Noted}
+
+-- ---- hashes
+
+module _ (name : Bytes) (h i : ℕ) where
+  pub hash-next : i < length name → {b : ℕ} → b ≡ getD name i 0 → hashFrom h (drop i name) ≡ hashFrom ((h + b) * 1_103_515 % hashes) (drop (i + 1) name)
+  unfolding hashFrom
+  hash-next l p = rw (p, drop-at name i l)
+
+  pub hash-end : length name ≤ i → hashFrom h (drop i name) ≡ h
+  unfolding hashFrom
+  hash-end l = rw (drop-of-length-le name l)
+
+pub hash-read : (text : Bytes) (rows : Words) (m : ObjKey) {a n : ℕ} → a ≡ memberWord rows m 0 → n ≡ memberWord rows m 1 → {s : Bytes} → s ≡ take n (drop a text)
+    → {r : ℕ} → r ≡ hashFrom 0 s → r ≡ hashFrom 0 (memberAt text rows m .name)
+unfolding memberAt bytesAt
+hash-read text rows m ea en es er = er ∙ rw (es, ea, en)
+
+-- ---- marks that are added
+
+set-grows : (marks : Words) (at : ℕ) → at < length marks → Grows marks (set marks at 1)
+set-grows marks at l i h =
+    cases (eqb i at)
+    (λ e z. let q = word-put marks at 1 l in let p = eqb-true i at e in let y : wordAt (set marks at 1) at ≡ 0 = rw p at z in omega (arith, q, y))
+    (λ e z. h (sym (word-kept marks at 1 i (eqb-false i at e)) ∙ z))
+
+module _ (marks : Words) (p : ℕ) (long : allMarks ≤ length marks) {a : ℕ} (ea : a ≡ highPlace p) (la : a < allMarks) {b : ℕ} (eb : b ≡ lowPlace p) (lb : b < allMarks) where
+  first-set : wordAt (set marks a 1) a ≢ 0
+  first-set z = let q = word-put marks a 1 (omega arith) in omega (arith, q, z)
+
+  room : b < length (set marks a 1)
+  room = simp length-set (omega arith)
+
+  second-set : wordAt (set (set marks a 1) b 1) b ≢ 0
+  second-set z = let q = word-put (set marks a 1) b 1 room in omega (arith, q, z)
+
+  pub mark-adds : Grows marks (set (set marks a 1) b 1) × MarkedAt (set (set marks a 1) b 1) p
+  mark-adds = (
+    λ i h. set-grows (set marks a 1) b room i (set-grows marks a (omega arith) i h),
+    (rw (← ea) (set-grows (set marks a 1) b room a first-set), rw (← eb) second-set),
+  )
+
+pub not-high : (marks : Words) (p : ℕ) {a : ℕ} → a ≡ highPlace p → {x : ℕ} → x ≡ wordAt marks a → x ≡ 0 → MarkedAt marks p → ⊥
+not-high marks p ea ex z m = m .0 (rw (← ea) (sym ex ∙ z))
+
+pub not-low : (marks : Words) (p : ℕ) {a : ℕ} → a ≡ lowPlace p → {x : ℕ} → x ≡ wordAt marks a → x ≡ 0 → MarkedAt marks p → ⊥
+not-low marks p ea ex z m = m .1 (rw (← ea) (sym ex ∙ z))
+
+-- ---- marks that stay
+
+pub grown-mark : (marks after : Words) → Grows marks after → (k : ℕ) (name : Bytes) → Marked marks k name → Marked after k name
+unfolding Marked
+grown-mark marks after g k name m = (g _ (m .0), g _ (m .1))
+
+met-name : (marks after : Words) (k : ℕ) (name : Bytes) {h p : ℕ} → h ≡ hashFrom 0 name → p ≡ placeOf k h → {r : Bool} → Met marks p after r → Marked after k name
+unfolding Marked
+met-name marks after k name eh ep m = rw (← eh, ← ep) (m .here)
+
+-- ---- runs of members
+
+module _ (text : Bytes) (rows : Words) (k first : ℕ) where
+  pub noted-none : (marks : Words) → Noted marks k (membersFrom text rows first 0) marks
+  unfolding membersFrom
+  noted-none marks = record { grows = λ i h. h; all = λ x j. absurd j }
+
+  all-more : (marks after : Words) (i : ℕ) → Grows marks after → AllMarked marks k (membersFrom text rows first i) → Marked after k (memberAt text rows (objKey (first + i)) .name)
+      → AllMarked after k (membersFrom text rows first (i + 1))
+  all-more marks after i g a n =
+      rw (add-one i, members-more text rows first i)
+      (all-snoc (λ x. Marked after k (x .name)) (membersFrom text rows first i) (memberAt text rows (objKey (first + i))) (λ x j. grown-mark marks after g k (x .name) (a x j)) n)
+
+  module _ (i : ℕ) {h p : ℕ} (eh : h ≡ hashFrom 0 (memberAt text rows (objKey (first + i)) .name)) (ep : p ≡ placeOf k h) where
+    pub all-on : (marks after : Words) {r : Bool} → Met marks p after r → AllMarked marks k (membersFrom text rows first i) → AllMarked after k (membersFrom text rows first (i + 1))
+    all-on marks after m a = all-more marks after i (m .grows) a (met-name marks after k _ eh ep m)
+
+    pub noted-on : (marks₀ marks after : Words) {r : Bool} → Met marks p after r → Noted marks₀ k (membersFrom text rows first i) marks → Noted marks₀ k (membersFrom text rows first (i + 1)) after
+    noted-on marks₀ marks after m n = record { grows = λ j h. m .grows j (n .grows j h); all = all-on marks after m (n .all) }
+
+  pub noted-end : (marks after : Words) {i n : ℕ} → i ≤ n → n ≤ i → Noted marks k (membersFrom text rows first i) after → Noted marks k (membersFrom text rows first n) after
+  noted-end marks after {i = i} {n = n} l h e = let z : n ≡ i = omega arith in rw z e

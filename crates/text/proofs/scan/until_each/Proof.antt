@@ -1,0 +1,62 @@
+-- `text::scan::until_each` meets its contract. The invariant: the run from the start ends where the run from `i` ends. The measure is what is left up to `stop`.
+use mathlib.Core.Path.{_≡_, refl, sym, _∙_}
+use Prim.Native.Nat.{_-_}
+use Rattle.text.specs.Runs.{other, runEnd}
+use Rattle.text.proofs.PartLaws.{stop-in}
+use Rattle.text.proofs.RunLaws.{run-done, run-next, run-stop, other-no, other-yes}
+use borrow.Author.Needs.{needs}
+use Rattle.text.proofs.scan.until_each.Statement.{statement}
+use Rattle.text.proofs.scan.until_each.Tie as tie
+
+abbrev Inv-loop : tie.InvT-loop
+Inv-loop s at end sep stop i₀ i = runEnd (other sep) s at end ≡ runEnd (other sep) s i end
+
+abbrev μ-loop : tie.MeasureT-loop
+μ-loop s at end sep stop i₀ i = stop - i
+
+stop-requires : tie.Need-stop-requires Inv-loop μ-loop
+stop-requires c κs = search needs
+
+loop-holds : tie.Need-loop-holds Inv-loop μ-loop
+loop-holds c = refl
+
+shared-slice-read-wide : tie.Need-shared-slice-read-wide Inv-loop μ-loop
+shared-slice-read-wide c = stop-in _ _ _ (c .before .before .before .stop .ensures) (c .before .loop-test .taken) .1
+
+wide-requires : tie.Need-wide-requires Inv-loop μ-loop
+wide-requires c κs = search needs
+
+is-requires : tie.Need-is-requires Inv-loop μ-loop
+is-requires c κs = search needs
+
+returns : tie.Need-returns Inv-loop μ-loop
+returns c = sym ((c .before .before .before .before .before .loop .inv) ∙ run-stop _ _ _ _ (c .before .before .before .before .before .before .stop .ensures) (c .before .before .before .before .loop-test .taken) (c .before .before .wide .ensures) (other-no _ _ (c .before .is .ensures) (c .if1 .taken)))
+
+add-i : tie.Need-add-i Inv-loop μ-loop
+add-i c = search needs
+
+loop-less : tie.Need-loop-less Inv-loop μ-loop
+loop-less c = search needs
+
+loop-again : tie.Need-loop-again Inv-loop μ-loop
+loop-again c = (c .before .before .before .before .before .loop .inv) ∙ run-next _ _ _ _ (c .before .before .before .before .before .before .stop .ensures) (c .before .before .before .before .loop-test .taken) (c .before .before .wide .ensures) (other-yes _ _ (c .before .is .ensures) (c .if1 .left))
+
+returns-2 : tie.Need-returns-2 Inv-loop μ-loop
+returns-2 c = sym ((c .before .loop .inv) ∙ run-done _ _ _ _ (c .before .before .stop .ensures) (c .loop-test .left))
+
+pub until-each-spec : {M : Type 1} → statement M
+until-each-spec =
+    tie.close
+    (tie.spec
+    Inv-loop
+    μ-loop
+    stop-requires
+    loop-holds
+    shared-slice-read-wide
+    wide-requires
+    is-requires
+    returns
+    add-i
+    loop-less
+    loop-again
+    returns-2)
