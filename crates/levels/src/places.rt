@@ -1,18 +1,12 @@
 // The way to a row, up through the rows that it was reached from.
 ghost use mathlib.Core.Path.{_≡_};
-ghost use mathlib.Core.Bool.{_||_};
 ghost use Prim.Native.Nat.{_<_, _≤_};
 ghost use lib.ListN.{length};
 ghost use Rattle.objects.specs.Bounds.{maxPlaces};
 ghost use Rattle.levels.specs.Hits.{Written};
 use crate::words::ROW;
 use multiples::load;
-
-fn or(a: bool, b: bool) -> bool
-    ensures { λ r. ⌜ r ≡ a || b ⌝ }
-{
-    if a { true } else { b }
-}
+use text::bytes::or;
 
 // The places of the way to row i, d steps down, and the last place, in front of the lent row. Answers the flag: f, or whether a pointer was removed on the
 // way.
