@@ -35,10 +35,22 @@ numbers = 512
 unfoldable pub fieldsNumber : ℕ → ℕ
 fieldsNumber u = maxTypes + u % maxTypes
 
--- the hash of the bytes, with what those before gave
+-- the hash of bytes one at a time, with what those before gave
+unfoldable pub hashRest : ℕ → Bytes → ℕ
+hashRest h [] = h
+hashRest h (b ∷ l) = hashRest ((h + b) * 1_103_515 % hashes) l
+
+-- four bytes as one number
+unfoldable pub fourOf : ℕ → ℕ → ℕ → ℕ → ℕ
+fourOf a b c d = a * 16_777_216 + b * 65_536 + c * 256 + d
+
+-- the hash of bytes four at a time, and what is left one at a time
 unfoldable pub hashFrom : ℕ → Bytes → ℕ
-hashFrom h [] = h
-hashFrom h (b ∷ bs) = hashFrom ((h + b) * 1_103_515 % hashes) bs
+hashFrom h [] = hashRest h []
+hashFrom h (a ∷ []) = hashRest h (a ∷ [])
+hashFrom h (a ∷ b ∷ []) = hashRest h (a ∷ b ∷ [])
+hashFrom h (a ∷ b ∷ c ∷ []) = hashRest h (a ∷ b ∷ c ∷ [])
+hashFrom h (a ∷ b ∷ c ∷ d ∷ l) = hashFrom ((h + fourOf a b c d) * 1_103_515 % hashes) l
 
 -- of a hash and a number
 unfoldable pub placeOf : ℕ → ℕ → ℕ
@@ -48,7 +60,7 @@ unfoldable pub highPlace : ℕ → ℕ
 highPlace p = p / 262_144
 
 unfoldable pub lowPlace : ℕ → ℕ
-lowPlace p = half + p / 16 % half
+lowPlace p = half + (p + p / 65_536) % half
 
 -- ---- what is marked
 

@@ -2,10 +2,10 @@
 ghost use mathlib.Core.Path.{_≡_};
 ghost use mathlib.Core.Bool.{false};
 ghost use Prim.Native.Nat.{_+_, _<_, _≤_};
-ghost use lib.ListN.{length};
+ghost use lib.ListN.{length, getD, drop};
 ghost use Rattle.objects.specs.Bounds.{maxElements};
 ghost use Rattle.objects.specs.Rows.{wordAt, memberAt, membersFrom};
-ghost use Rattle.clashes.specs.Marks.{hashes, numbers, fieldsNumber, allMarks, hashFrom, placeOf, highPlace, lowPlace, MarkedAt, Grows, Met, Noted};
+ghost use Rattle.clashes.specs.Marks.{hashes, numbers, fieldsNumber, allMarks, hashRest, fourOf, hashFrom, placeOf, highPlace, lowPlace, MarkedAt, Grows, Met, Noted};
 use objects::ObjKey;
 use objects::rows::member_word;
 use text::bytes::wide;
@@ -13,17 +13,45 @@ use text::compare::span;
 
 // ---- places
 
+// Four bytes as one number.
+fn four(s: &[u8], i: usize) -> u64
+    requires { ⌜ i + 4 ≤ length (now s) ⌝ }
+    ensures { λ r. ⌜ r ≡ fourOf (getD (now (s .entry)) i 0) (getD (now (s .entry)) (i + 1) 0) (getD (now (s .entry)) (i + 2) 0) (getD (now (s .entry)) (i + 3) 0) ⌝ }
+    ensures { λ r. ⌜ r < hashes ⌝ }
+{
+    let a = wide(s[i]);
+    let b = wide(s[i + 1]);
+    let c = wide(s[i + 2]);
+    let d = wide(s[i + 3]);
+    a * 16_777_216 + b * 65_536 + c * 256 + d
+}
+
+// The hash of the bytes from a place on, one at a time.
+fn hash_rest(name: &[u8], at: usize, before: u64) -> u64
+    requires { ⌜ before < hashes ⌝ }
+    ensures { λ r. ⌜ r ≡ hashRest before (drop at (now (name .entry))) ⌝ }
+    ensures { λ r. ⌜ r < hashes ⌝ }
+{
+    let mut h = before;
+    let mut i = at;
+    while i < name.len() {
+        h = (h + wide(name[i])) * 1_103_515 % 4_294_967_296;
+        i += 1;
+    }
+    h
+}
+
 pub fn hash(name: &[u8]) -> u64
     ensures { λ r. ⌜ r ≡ hashFrom 0 (now (name .entry)) ⌝ }
     ensures { λ r. ⌜ r < hashes ⌝ }
 {
     let mut h: u64 = 0;
     let mut i: usize = 0;
-    while i < name.len() {
-        h = (h + wide(name[i])) * 1_103_515 % 4_294_967_296;
-        i += 1;
+    while 4 <= name.len() - i {
+        h = (h + four(name, i)) * 1_103_515 % 4_294_967_296;
+        i += 4;
     }
-    h
+    hash_rest(name, i, h)
 }
 
 pub fn name_hash(text: &[u8], rows: &[u32], m: ObjKey) -> u64
@@ -63,10 +91,11 @@ fn high(p: u64) -> usize
 }
 
 fn low(p: u64) -> usize
+    requires { ⌜ p < hashes ⌝ }
     ensures { λ r. ⌜ r ≡ lowPlace p ⌝ }
     ensures { λ r. ⌜ r < allMarks ⌝ }
 {
-    (16_384 + p / 16 % 16_384) as usize
+    (16_384 + (p + p / 65_536) % 16_384) as usize
 }
 
 // ---- marks

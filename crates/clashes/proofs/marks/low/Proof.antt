@@ -6,7 +6,10 @@ use Rattle.clashes.proofs.marks.low.Statement.{statement}
 use Rattle.clashes.proofs.marks.low.Tie as tie
 
 add-result : tie.Need-add-result
-add-result c = omega arith
+add-result c = omega (arith, (c .pre))
+
+add-result-2 : tie.Need-add-result-2
+add-result-2 c = omega (arith, (c .pre))
 
 returns : tie.Need-returns
 unfolding lowPlace
@@ -17,4 +20,5 @@ low-spec =
     tie.close
     (tie.spec
     add-result
+    add-result-2
     returns)
