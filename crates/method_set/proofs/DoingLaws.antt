@@ -1,35 +1,31 @@
 -- All levels: the rows of all names between two levels, from the first to the last.
 use mathlib.Core.Path.{_≡_, refl, sym, ap, _∙_, subst}
-use mathlib.Core.Bool.{Bool, true, false}
-use mathlib.Core.List.{List, [], _∷_}
+use mathlib.Core.List.{[]}
 use Prim.Native.Nat.{ℕ, zero, suc, _+_, _*_, _≤_, _<_}
 use native.Mathlib.Omega.{arith}
 use lib.Dec.{eqb}
-use lib.ListN.{length, getD, set, replicate}
+use lib.ListN.{length, set, replicate}
 use borrow.Author.Tests.{eqb-true, eqb-false}
-use Rattle.objects.specs.Bounds.{selRow, selWords, maxTypes}
-use Rattle.objects.specs.Lists.{Bytes, any, In, upTo}
+use Rattle.objects.specs.Bounds.{selRow, selWords}
+use Rattle.objects.specs.Lists.{Bytes, upTo}
 use Rattle.objects.proofs.ListLaws.{cases}
 use Rattle.objects.proofs.RowLaws.{size-read, under-read}
 use Rattle.objects.proofs.Stores.{word-put, word-kept}
 use Rattle.objects.specs.declared.TypeKey.{TypeKey}
-use Rattle.objects.specs.Table.{Table, size, typeKey, objKey, sameType}
+use Rattle.objects.specs.Table.{Table, size, typeKey, objKey}
 use Rattle.objects.specs.Rows.{Words, wordAt, typeCount, tableOf}
-use Rattle.objects.specs.Types.{underRead}
 use Rattle.rules.specs.Library.{Library}
 use Rattle.rules.specs.Sound.{Sound}
 use Rattle.rules.proofs.Sounds.{loads-sound}
 use Rattle.rules.proofs.RangeLaws.{under-in}
-use Rattle.rules.specs.Ways.{Walk, Way, ends}
-use Rattle.rules.specs.MethodSet.{Standing, absent, settled, standing}
-use Rattle.method_levels.specs.Levels as levels
+use Rattle.rules.specs.MethodSet.{settled, standing}
 use Rattle.method_levels.specs.Levels.{levelAt, OnLevel}
 use Rattle.method_names.specs.Names.{identityAt}
 use Rattle.method_set.specs.Sets.{selWord}
 use Rattle.method_set.specs.Hits as model
 use Rattle.method_set.specs.Hits.{Small, Under, Copied}
 use Rattle.method_set.specs.Standings.{Key, Shows, Settled}
-use Rattle.method_set.proofs.Tallies.{Tally, none, one, gather}
+use Rattle.method_set.proofs.Tallies.{none, one, gather}
 use Rattle.method_set.proofs.LevelTally.{settledBy, settled-tally, level-tally, atOwner}
 use Rattle.method_set.proofs.StandsLaws.{Stands, after, stands-shows, level-done}
 use Rattle.method_set.proofs.OverLevels.{in-table, endsOn, soFar, so-far, so-far-none, so-far-last, so-far-all}

@@ -1,37 +1,37 @@
 -- One name while a level is gone through: each member that has the name adds the ways that end in it, and no other member touches the row.
 use mathlib.Core.Path.{_≡_, refl, sym, ap, _∙_, subst}
 use mathlib.Core.Bool.{Bool, true, false, cond, not, _&&_, _||_}
-use mathlib.Core.List.{List, [], _∷_, _++_}
-use mathlib.Core.Logic.{inl, inr}
+use mathlib.Core.List.{List, [], _∷_}
+use mathlib.Core.Logic.{inl}
 use Prim.Native.Nat.{ℕ, zero, suc, _+_, _*_, _≤_, _<_}
 use native.Mathlib.Omega.{arith}
 use lib.Dec.{eqb}
 use lib.ListN.{length}
-use borrow.Author.Tests.{eqb-true, eqb-false, eq-eqb, ne-eqb}
-use Rattle.objects.specs.Bounds.{maxMembers, selRow, selWords}
-use Rattle.objects.specs.Lists.{Bytes, any, In, upTo}
-use Rattle.objects.proofs.ListLaws.{cases, or-true, or-false, In-keep, In-append-l, In-append-r}
-use Rattle.objects.proofs.KeyLaws.{same-key, same-self}
-use Rattle.objects.proofs.RowLaws.{members-length, members-more, member-key, method-meant, ptr-meant, size-read, under-read, declared-read, fields-read, methods-read, iface-read}
+use borrow.Author.Tests.{eqb-true, eqb-false}
+use Rattle.objects.specs.Bounds.{selRow, selWords}
+use Rattle.objects.specs.Lists.{Bytes, any, In}
+use Rattle.objects.proofs.ListLaws.{cases, or-true, or-false, In-keep}
+use Rattle.objects.proofs.KeyLaws.{same-key}
+use Rattle.objects.proofs.RowLaws.{member-key, method-meant, ptr-meant, size-read, iface-read}
 use Rattle.objects.specs.declared.TypeKey.{TypeKey}
-use Rattle.objects.specs.Table.{Table, size, typeKey, objKey, sameType, Member, isMethod, hasPtr, bit, ifaceUnder, under, kindAt, declaredOf, fieldsOf, allMethods, allMethodsOf}
-use Rattle.objects.specs.Rows.{Words, wordAt, typeCount, memberCountOf, memberAt, membersFrom, tableOf}
-use Rattle.objects.specs.Types.{ifaceRead, namedRead, numberRead, underRead, firstRead, totalRead, methodRead, ptrRead}
+use Rattle.objects.specs.Table.{Table, size, objKey, sameType, isMethod, hasPtr, bit}
+use Rattle.objects.specs.Rows.{Words, wordAt, typeCount, memberCountOf, memberAt, tableOf}
+use Rattle.objects.specs.Types.{ifaceRead, underRead, methodRead, ptrRead}
 use Rattle.rules.specs.Members.{Identity, identityOf, sameId}
 use Rattle.rules.proofs.MemberLaws.{sameId-eq}
-use Rattle.rules.specs.Ways.{Place, Walk, Way, placesFrom, fieldPlaces, owned}
-use Rattle.rules.specs.MethodSet.{Standing, absent, methodFlag}
+use Rattle.rules.specs.Ways.{Place, Walk, Way, owned}
+use Rattle.rules.specs.MethodSet.{absent, methodFlag}
 use Rattle.method_levels.specs.Levels as levels
-use Rattle.method_levels.specs.Levels.{levelAt, times, upToTwo, firstWord, OnLevel, Came}
+use Rattle.method_levels.specs.Levels.{levelAt, times, firstWord, OnLevel}
 use Rattle.method_names.specs.Names.{identityAt}
 use Rattle.method_set.specs.Sets.{selWord}
 use Rattle.method_set.specs.Hits as model
 use Rattle.method_set.specs.Hits.{isSettled, flagAt, Small}
-use Rattle.method_set.specs.Standings.{Key, Shows}
-use Rattle.method_set.proofs.Tallies.{Tally, none, many, one, plus, plus-none, plus-assoc, two-many, gather, gather-snoc, gather-append, gather-none}
-use Rattle.method_set.proofs.LevelTally.{way, atPlace, atOwner}
-use Rattle.method_set.proofs.StandsLaws.{Stands, Same, Written, stands-kept, several-written, alone-shows, stands-hit}
-use Rattle.method_set.proofs.RowHits.{hit-other, hit-kept, hit-written, hit-length}
+use Rattle.method_set.specs.Standings.{Key}
+use Rattle.method_set.proofs.Tallies.{Tally, none, many, one, plus, plus-none, two-many, gather}
+use Rattle.method_set.proofs.LevelTally.{way, atPlace}
+use Rattle.method_set.proofs.StandsLaws.{Stands, Written, stands-kept, several-written, alone-shows, stands-hit}
+use Rattle.method_set.proofs.RowHits.{hit-other, hit-kept, hit-written}
 use Rattle.method_set.proofs.OverLevels.{soFar, unreached}
 
 -- a flag as a word: of a walk, and of an interface

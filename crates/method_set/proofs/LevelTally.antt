@@ -1,11 +1,11 @@
 -- The ways of a name on a level, counted type by type and member by member: in whatever order they come, they come to the same.
 use mathlib.Core.Path.{_≡_, refl, sym, ap, _∙_}
 use mathlib.Core.Bool.{Bool, true, false, cond}
-use mathlib.Core.List.{List, [], _∷_, map}
+use mathlib.Core.List.{List, [], _∷_}
 use Prim.Native.Nat.{ℕ, _<_}
 use lib.Dec.{eqb}
 use Rattle.objects.specs.Lists.{keep, flat, In, upTo}
-use Rattle.objects.proofs.ListLaws.{cases, In-keep}
+use Rattle.objects.proofs.ListLaws.{In-keep}
 use Rattle.objects.proofs.KeyLaws.{same-key}
 use Rattle.objects.specs.declared.TypeKey.{TypeKey}
 use Rattle.objects.specs.Table.{Table, typeKey}
@@ -13,7 +13,7 @@ use Rattle.rules.specs.Members.{Identity, identityOf, sameId}
 use Rattle.rules.specs.Ways.{Place, Walk, Way, owned, ends}
 use Rattle.rules.specs.MethodSet.{Standing, absent, hidden, alone, settled}
 use Rattle.method_levels.specs.Levels as levels
-use Rattle.method_set.proofs.Tallies.{Tally, none, many, one, plus, two-many, gather, gather-same, gather-none, gather-keep, gather-map, gather-flat, gather-swap, by-number}
+use Rattle.method_set.proofs.Tallies.{Tally, none, many, one, two-many, gather, gather-same, gather-none, gather-keep, gather-map, gather-flat, gather-swap, by-number}
 
 abbrev pub way : Walk → Place → Way
 way w p = record { walk = w; last = p }

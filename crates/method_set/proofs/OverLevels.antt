@@ -1,24 +1,24 @@
 -- The standing of a name from level to level, and what a name that no level so far has settled says of the types reached so far.
-use mathlib.Core.Path.{_≡_, refl, sym, ap, ap₂, _∙_, subst}
-use mathlib.Core.Bool.{Bool, true, false, not, _&&_}
-use mathlib.Core.List.{List, [], _∷_, map}
+use mathlib.Core.Path.{_≡_, refl, sym, ap, _∙_, subst}
+use mathlib.Core.Bool.{true, false, _&&_}
+use mathlib.Core.List.{List, []}
 use Prim.Native.Nat.{ℕ, zero, suc, _+_, _-_, _≤_, _<_}
 use native.Mathlib.Omega.{arith}
-use Rattle.objects.specs.Lists.{any, keep, flat, In}
-use Rattle.objects.proofs.ListLaws.{cases, clash, any-In}
+use Rattle.objects.specs.Lists.{any, flat, In}
+use Rattle.objects.proofs.ListLaws.{clash, any-In}
 use Rattle.objects.proofs.BoolLaws.{false-of}
 use Rattle.objects.specs.declared.TypeKey.{TypeKey}
 use Rattle.objects.specs.Table.{Table, size, sameType, isMethod}
 use Rattle.rules.specs.Members.{Identity, identityOf, sameId}
 use Rattle.rules.specs.Sound.{Sound}
-use Rattle.rules.specs.Ways.{Place, Walk, Way, start, owned, ends, onward}
-use Rattle.rules.specs.MethodSet.{Level, Standing, absent, hidden, given, firstLevel, reaches, barred, below, settled, standingFrom, standing}
+use Rattle.rules.specs.Ways.{Place, Walk, Way, start, owned, ends}
+use Rattle.rules.specs.MethodSet.{Level, Standing, absent, hidden, given, firstLevel, below, settled, standingFrom, standing}
 use Rattle.ways.specs.OfTable.{graph}
 use Rattle.ways.proofs.Bound.{in-size}
 use Rattle.ways.proofs.Bridge.{walks-are}
-use Rattle.ways.proofs.AllWays.{plain, plain-lawful}
+use Rattle.ways.proofs.AllWays.{plain-lawful}
 use Rattle.ways.proofs.TableLaws.{closed, bare-in}
-use Rattle.ways.proofs.MethodSets.{setLevel, level-walks, seen-reached, isAbsent, endsInMethod, settled-absent, hasMethod, NoMethod, no-method-on}
+use Rattle.ways.proofs.MethodSets.{setLevel, level-walks, seen-reached, isAbsent, settled-absent, NoMethod, no-method-on}
 use Rattle.method_levels.specs.Levels.{levelAt}
 use Rattle.method_set.proofs.StandsLaws.{after}
 

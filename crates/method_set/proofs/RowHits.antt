@@ -1,8 +1,8 @@
 -- The rows of words after a hit: the row that is hit, and the others.
-use mathlib.Core.Path.{_≡_, refl, sym, ap, _∙_}
-use mathlib.Core.Bool.{Bool, true, false, cond}
-use mathlib.Core.List.{List, [], _∷_}
-use Prim.Native.Nat.{ℕ, suc, _+_, _*_, _≤_, _<_}
+use mathlib.Core.Path.{_≡_, refl}
+use mathlib.Core.Bool.{true, false}
+use mathlib.Core.List.{List}
+use Prim.Native.Nat.{ℕ, _+_, _*_, _≤_, _<_}
 use native.Mathlib.Omega.{arith}
 use lib.ListN.{length, getD}
 use lib.Seq.{sets, length-sets}
@@ -15,7 +15,7 @@ use Rattle.objects.specs.Types.{methodRead, ptrRead}
 use Rattle.objects.proofs.Stores.{run-kept, run-put}
 use Rattle.objects.proofs.ListLaws.{cases}
 use Rattle.method_set.specs.Sets.{selWord}
-use Rattle.method_set.specs.Hits.{standsAfter, isSettled, flagAt, rowAfter, hit}
+use Rattle.method_set.specs.Hits.{isSettled, flagAt, rowAfter, hit}
 use Rattle.method_set.proofs.StandsLaws.{Written}
 
 module _ (sels : Words) (vs : List ℕ) (six : length vs ≡ 6) where

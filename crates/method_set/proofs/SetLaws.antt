@@ -1,23 +1,22 @@
 -- The whole set: the keys of names, the line of each that is given, and the lines of M.
 use mathlib.Core.Path.{_≡_, refl, sym, ap, ap₂, _∙_, subst}
-use mathlib.Core.Bool.{Bool, true, false, cond, _&&_, _||_}
-use mathlib.Core.List.{List, [], _∷_, _++_, map}
+use mathlib.Core.Bool.{Bool, true, false, _&&_, _||_}
+use mathlib.Core.List.{List, [], _∷_, map}
 use mathlib.Core.Logic.{inl, inr}
-use Prim.Native.Nat.{ℕ, zero, suc, _+_, _-_, _≤_, _<_}
+use Prim.Native.Nat.{ℕ, zero, suc, _-_, _≤_, _<_}
 use native.Mathlib.Omega.{arith}
 use lib.Dec.{eqb}
 use lib.ListN.{length, take}
 use borrow.Author.Tests.{eqb-true}
 use Rattle.objects.specs.Bounds.{maxMembers, maxPlaces}
 use Rattle.objects.specs.Lists.{Bytes, keep, flat, In, Sorted}
-use Rattle.objects.proofs.ListLaws.{cases, clash, In-keep, map-In-to}
+use Rattle.objects.proofs.ListLaws.{clash, In-keep, map-In-to}
 use Rattle.objects.proofs.BoolLaws.{false-of}
 use Rattle.objects.proofs.RowLaws.{size-read, pointer-read, bare-read, number-read, named-pointer-read}
 use Rattle.objects.specs.declared.TypeKey.{TypeKey}
-use Rattle.objects.specs.declared.ObjKey.{ObjKey}
-use Rattle.objects.specs.Table.{Table, size, typeKey, objKey, bit, kindNumber, kindAt, bare, pointerAt, namedPointer}
+use Rattle.objects.specs.Table.{Table, objKey, kindNumber, kindAt}
 use Rattle.objects.specs.Rows.{Words, wordAt, typeCount, memberCountOf, tableOf}
-use Rattle.objects.specs.Types.{underRead, bareRead}
+use Rattle.objects.specs.Types.{bareRead}
 use Rattle.text.proofs.ByteLaws.{below-irrefl}
 use Rattle.rules.specs.Library.{Library}
 use Rattle.rules.specs.Sound.{Sound}
@@ -25,14 +24,13 @@ use Rattle.rules.proofs.Sounds.{loads-sound}
 use Rattle.rules.specs.Members.{Identity, sameId, idBytes}
 use Rattle.rules.proofs.MemberLaws.{sameId-true, sameId-eq}
 use Rattle.rules.proofs.MethodNames.{Lower, names-ascend}
-use Rattle.rules.specs.Ways.{Walk, Way, memberOf, placesOf}
-use Rattle.rules.specs.MethodSet.{Standing, absent, hidden, given, listed, methodFlag, methodNames, standing, emptySet, methodSet}
-use Rattle.rules.specs.Answer.{Sel, selOf}
+use Rattle.rules.specs.Ways.{Way}
+use Rattle.rules.specs.MethodSet.{Standing, absent, hidden, given, listed, standing, emptySet, methodSet}
+use Rattle.rules.specs.Answer.{selOf}
 use Rattle.ways.proofs.TableLaws.{bare-in}
-use Rattle.method_levels.specs.Levels.{placesTo, Came}
 use Rattle.method_names.specs.Names.{identityAt, NamesHeld, Indexed}
 use Rattle.method_set.specs.Sets.{selWord, selAt, selNumbers, SetHeld}
-use Rattle.method_set.specs.Hits.{Small, Under, emptyRead, isGiven}
+use Rattle.method_set.specs.Hits.{Small, emptyRead, isGiven}
 use Rattle.method_set.specs.Standings.{GivenRow, Shows, Key, Settled}
 use Rattle.method_set.proofs.DoingLaws.{under-table}
 

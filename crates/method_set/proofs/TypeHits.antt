@@ -2,7 +2,7 @@
 use mathlib.Core.Path.{_≡_, refl, sym, ap, ap₂, _∙_, subst}
 use mathlib.Core.Bool.{Bool, true, false, cond}
 use mathlib.Core.List.{List, [], _∷_, _++_}
-use mathlib.Core.Logic.{inl, inr}
+use mathlib.Core.Logic.{inl}
 use Prim.Native.Nat.{ℕ, zero, suc, _+_, _≤_, _<_}
 use native.Mathlib.Omega.{arith}
 use lib.Dec.{eqb}
@@ -11,9 +11,9 @@ use borrow.Author.Tests.{eqb-true, eqb-false}
 use Rattle.objects.specs.Bounds.{selWords}
 use Rattle.objects.specs.Lists.{Bytes, In, upTo}
 use Rattle.objects.proofs.ListLaws.{cases, In-append-l, In-append-r}
-use Rattle.objects.proofs.RowLaws.{members-length, members-more, size-read, under-read, declared-read, fields-read, methods-read, all-methods-read}
+use Rattle.objects.proofs.RowLaws.{members-length, members-more, size-read, under-read, declared-read, fields-read, all-methods-read}
 use Rattle.objects.specs.declared.TypeKey.{TypeKey}
-use Rattle.objects.specs.Table.{Table, size, typeKey, objKey, Member, under, kindAt, declaredOf, fieldsOf, allMethods}
+use Rattle.objects.specs.Table.{Table, typeKey, objKey, Member, under, kindAt, fieldsOf}
 use Rattle.objects.specs.Rows.{Words, wordAt, typeCount, memberCountOf, memberAt, membersFrom, tableOf}
 use Rattle.objects.specs.Types.{ifaceRead, namedRead, numberRead, underRead, firstRead, totalRead}
 use Rattle.objects.specs.Laid.{Laid}

@@ -1,7 +1,7 @@
 -- What the row of a name says of its standing, and what all levels together leave in the rows.
 use mathlib.Core.Path.{_≡_}
 use mathlib.Core.Bool.{false}
-use mathlib.Core.List.{List, [], _∷_}
+use mathlib.Core.List.{[], _∷_}
 use Prim.Native.Nat.{ℕ, suc, _≤_, _<_}
 use Rattle.objects.specs.Lists.{Bytes, any}
 use Rattle.objects.specs.declared.TypeKey.{TypeKey}

@@ -1,4 +1,3 @@
-use native.Mathlib.Omega.{arith}
 use Rattle.method_set.proofs.ListedLaws.{push-yes, push-no}
 use borrow.Author.Needs.{needs}
 use Rattle.method_set.proofs.push.Statement.{statement}

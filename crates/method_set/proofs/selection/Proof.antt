@@ -1,5 +1,4 @@
 use native.Mathlib.Omega.{arith}
-use lib.ListN.{length-set}
 use Rattle.method_set.proofs.LineLaws.{selection-is}
 use borrow.Author.Needs.{needs}
 use Rattle.method_set.proofs.selection.Statement.{statement}

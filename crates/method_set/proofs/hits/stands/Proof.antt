@@ -1,5 +1,4 @@
 use Rattle.method_set.proofs.CodeLaws.{again-hides, several-hide, field-leaves, plain-given, pointer-hides, pointer-given}
-use borrow.Author.Needs.{needs}
 use Rattle.method_set.proofs.hits.stands.Statement.{statement}
 use Rattle.method_set.proofs.hits.stands.Tie as tie
 

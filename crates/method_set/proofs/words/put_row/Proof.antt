@@ -1,5 +1,4 @@
 use Prim.Native.Nat.{_*_}
-use native.Mathlib.Omega.{arith}
 use Rattle.method_set.proofs.CodeLaws.{row-put}
 use borrow.Author.Needs.{needs}
 use Rattle.method_set.proofs.words.put_row.Statement.{statement}
