@@ -78,12 +78,13 @@ fn verdict(
     requires { ⌜ OwnAt (now text) (now rows) (nameMeant (now text) (now rows) (now names) q) (now search) i place m ⌝ }
     ensures { λ r. ⌜ Selects (now (text .entry)) (now (rows .entry)) r (now (places .exit)) (judgedRow (tableOf (now (text .entry)) (now (rows .entry))) (nameMeant (now (text .entry)) (now (rows .entry)) (now (names .entry)) q) (now (search .entry)) f a d i (hitsIn (tableOf (now (text .entry)) (now (rows .entry))) (nameMeant (now (text .entry)) (now (rows .entry)) (now (names .entry)) q) (now (search .entry)) (suc i) n)) ⌝ }
 {
+    let count = d + 1;
     let e = load(search, ROW * (i as usize));
     if e.multiples {
         write_places(search, places, d, i, f, place);
         return Selection {
             result: LookupResult::Ambiguous,
-            count: d + 1,
+            count: count,
         };
     }
     match next_hit(text, rows, search, names, q, i + 1, n) {
@@ -91,7 +92,7 @@ fn verdict(
             write_places(search, places, d, j, f, second);
             Selection {
                 result: LookupResult::Ambiguous,
-                count: d + 1,
+                count: count,
             }
         }
         Hit::Nothing => {
@@ -99,7 +100,7 @@ fn verdict(
             let result = alone(text, rows, m, flag, a);
             Selection {
                 result: result,
-                count: d + 1,
+                count: count,
             }
         }
     }

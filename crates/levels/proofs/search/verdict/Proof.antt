@@ -8,6 +8,9 @@ use borrow.Author.Needs.{needs}
 use Rattle.levels.proofs.search.verdict.Statement.{statement}
 use Rattle.levels.proofs.search.verdict.Tie as tie
 
+add-count : tie.Need-add-count
+add-count c = omega (arith, (c .before .before .before .before .before .pre .1 .0 .0))
+
 mul-load : tie.Need-mul-load
 mul-load c = omega arith
 
@@ -16,9 +19,6 @@ load-requires c κs = search needs
 
 write-places-requires : tie.Need-write-places-requires
 write-places-requires c κs = search needs
-
-add-t26 : tie.Need-add-t26
-add-t26 c = omega (arith, (c .before .before .before .before .before .before .before .before .before .before .before .pre .1 .0 .0))
 
 same-length : tie.Need-same-length
 same-length c = search needs
@@ -38,9 +38,6 @@ enum-known-j c = search needs
 write-places-requires-2 : tie.Need-write-places-requires-2
 write-places-requires-2 c κs = search needs
 
-add-t34 : tie.Need-add-t34
-add-t34 c = omega (arith, (c .before .before .before .before .before .before .before .before .before .before .before .before .before .before .before .pre .1 .0 .0))
-
 enum-told : tie.Need-enum-told
 enum-told c = search needs
 
@@ -49,9 +46,6 @@ write-places-requires-3 c κs = search needs
 
 alone-requires : tie.Need-alone-requires
 alone-requires c κs = search needs
-
-add-t37 : tie.Need-add-t37
-add-t37 c = omega (arith, (c .before .before .before .before .before .before .before .before .before .before .before .before .before .before .before .pre .1 .0 .0))
 
 same-length-2 : tie.Need-same-length-2
 same-length-2 c = search needs
@@ -69,21 +63,19 @@ pub verdict-spec : {M : Type 1} → statement M
 verdict-spec =
     tie.close
     (tie.spec
+    add-count
     mul-load
     load-requires
     write-places-requires
-    add-t26
     same-length
     returns
     add-next-hit
     next-hit-requires
     enum-known-j
     write-places-requires-2
-    add-t34
     enum-told
     write-places-requires-3
     alone-requires
-    add-t37
     same-length-2
     returns-2
     same-length-3
