@@ -4,6 +4,7 @@ pub mod engine;
 pub mod prng;
 pub mod question;
 pub mod random;
+pub mod refusals;
 pub mod table;
 pub mod tables;
 pub mod typeask;
