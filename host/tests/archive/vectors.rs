@@ -1,11 +1,8 @@
 //! What `typeask` prints, put together from calls, against what is stored.
 
-mod lent;
-mod stored;
-
-use lent::asked;
+use crate::lent::asked;
+use crate::stored::{calls, cases, say, Case};
 use std::collections::BTreeSet;
-use stored::{cases, say, Case};
 use yifgrun::{Refusal, WORK_WORDS};
 
 /// The bytes that `typeask` reads at most, and those of its answer buffer.
@@ -124,7 +121,7 @@ fn bytes(digits: &str) -> Vec<u8> {
 
 #[test]
 fn stored_calls_return_what_is_stored() {
-    let calls = stored::calls();
+    let calls = calls();
     calls.lines().for_each(stored_call);
     say(&format!("{} calls", calls.lines().count()));
 }
