@@ -94,11 +94,12 @@ fn question(prng: &mut Prng, table: &Table) -> Vec<u8> {
 /// What a call gives: an answer, or a refusal's number and line.
 type Outcome = Result<Vec<u8>, (u8, usize)>;
 
-/// How many calls gave what: an answer that was compared, one that was not, and each refusal.
+/// How many calls gave what.
 #[derive(Default)]
 pub struct Counts {
-    pub compared: u64,
     pub answered: u64,
+    /// Answers, and refusals 13, that were held against goscript's answer, or the counts for V.
+    pub compared: u64,
     pub refused: [u64; 14],
 }
 
@@ -133,7 +134,7 @@ impl Hammer {
                 let due = Ok(answer.into_bytes());
                 let fits = due.as_ref().is_ok_and(|a: &Vec<u8>| a.len() <= call.room);
                 let due = if fits { due } else { Err((13, 0)) };
-                assert_eq!(given, due, "goscript gives the second");
+                assert_eq!(given, due, "the second is due");
                 self.counts.compared += 1;
             }
             Err(refused) => assert_eq!(given, Err(refused), "the second is due"),

@@ -25,9 +25,12 @@ fn random_and_damaged_tables() {
     let due = (1..14).filter(|&n| n != 2);
     let missing: Vec<usize> = due.filter(|&n| counts.refused[n] == 0).collect();
     assert_eq!(missing, [0; 0], "refusals that no call gave");
+    if engine::goscript().is_none() {
+        say(engine::NOT_AT_HAND);
+    }
     let (compared, refused) = (counts.compared, &counts.refused[1..]);
     say(&format!(
-        "60,000 calls: {compared} compared with goscript, refused {refused:?}"
+        "60,000 calls: {compared} answers compared, refused {refused:?}"
     ));
 }
 

@@ -1,8 +1,10 @@
-//! What a table or a question earns by `refusals`, against the vectors where they are at hand.
+//! What a table or a question earns by `refusals`, against the vectors where they are at hand, and the sample in
+//! `../testdata`.
 
 mod batches;
 
 use compare::refusals::{self, Refused};
+use std::path::Path;
 use std::str::Lines;
 
 /// A refusal as `typeask` prints it.
@@ -43,6 +45,14 @@ fn refusals_agree_with_the_vectors() {
         for (n, (input, output)) in batches::cases(&folder, name).iter().enumerate() {
             agrees(input, output, &format!("case {n} of {name}"));
         }
+    }
+}
+
+#[test]
+fn refusals_agree_with_the_stored_sample() {
+    let folder = Path::new(env!("CARGO_MANIFEST_DIR")).join("../testdata");
+    for (n, (input, output)) in batches::cases(&folder, "sample").iter().enumerate() {
+        agrees(input, output, &format!("case {n} of the sample"));
     }
 }
 

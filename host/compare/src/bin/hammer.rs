@@ -47,14 +47,14 @@ fn print(seed: u64, count: u64, hammer: &Hammer, time: Duration) {
         "seed {seed}: {count} calls in {} s, all as promised",
         time.as_secs()
     );
-    println!(
-        "{} answers and refusals 13 compared with goscript's",
-        counts.compared
-    );
     println!("{} answered", counts.answered);
     for (number, count) in counts.refused.iter().enumerate().skip(1) {
         println!("{count} refused {number}");
     }
+    println!(
+        "{} answers and refusals 13 are those of goscript, or for V of the table",
+        counts.compared
+    );
 }
 
 /// Lets a failure say which call it is, and show it.
