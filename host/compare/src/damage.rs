@@ -2,6 +2,7 @@
 
 use crate::prng::Prng;
 use crate::table::{Kind, Table};
+use std::ops::Range;
 
 /// Numbers at the edges of what is taken.
 const NUMBERS: [&str; 18] = [
@@ -213,29 +214,59 @@ fn change_field(prng: &mut Prng, text: &mut Vec<u8>, field: &str) {
 
 /// Changes what a line of a table refers to, or which members a type has; the lines keep their right forms.
 pub fn misdirect(prng: &mut Prng, table: &mut Table) {
-    let (types, packages) = (table.types.len(), table.packages.len());
-    let t = prng.below(types);
-    let beyond = usize::from(prng.chance(10));
+    let types = table.types.len();
+    let beyond = usize::from(prng.chance(5));
     let to = prng.below(types + beyond);
-    let range = table.types[t].members.clone();
-    if range.is_empty() || prng.chance(25) {
-        let typ = &mut table.types[t];
-        typ.kind = redirected(prng, &typ.kind, to);
-        return;
+    let has_members = |t: &usize| !table.types[*t].members.is_empty();
+    let with_members: Vec<usize> = (0..types).filter(has_members).collect();
+    match prng.pick(&with_members) {
+        Some(&t) if prng.chance(70) => change_member(prng, table, t, to),
+        _ => {
+            let typ = &mut table.types[prng.below(types)];
+            typ.kind = redirected(prng, &typ.kind, to);
+        }
     }
+}
+
+/// Changes a member of a type that has some, or puts another in its place.
+fn change_member(prng: &mut Prng, table: &mut Table, t: usize, to: usize) {
+    let range = table.types[t].members.clone();
     let m = range.start + prng.below(range.len());
     let other = range.start + prng.below(range.len());
-    match prng.below(7) {
-        0 | 1 => table.members[m].typ = to,
+    match prng.below(8) {
+        0 => table.members[m].typ = to,
+        1 => table.members[m].typ = holder(prng, table, t).unwrap_or(to),
         2 => table.members[m].mark ^= true,
-        3 => table.members[m].package = prng.below(packages + 2).checked_sub(1),
+        3 => table.members[m].package = prng.below(table.packages.len() + 2).checked_sub(1),
         4 => table.members.swap(m, other),
         5 => table.members[m] = table.members[other].clone(),
-        _ => {
-            let any = prng.below(table.members.len());
-            table.members[m].name = table.members[any].name.clone();
-            table.members[m].package = table.members[any].package;
+        6 => {
+            if let Kind::Named(u) = table.types[t].kind {
+                let fields = table.types.get(u).map_or(0..0, |t| t.members.clone());
+                rename(prng, table, m, fields);
+            }
         }
+        _ => rename(prng, table, m, 0..table.members.len()),
+    }
+}
+
+/// A type that has `t` in it.
+fn holder(prng: &mut Prng, table: &Table, t: usize) -> Option<usize> {
+    let holds = |e: &usize| match table.types[*e].kind {
+        Kind::Named(u) | Kind::Array(_, u) => u == t,
+        Kind::Struct => table.members_of(*e).iter().any(|m| m.typ == t),
+        _ => false,
+    };
+    let found: Vec<usize> = (0..table.types.len()).filter(holds).collect();
+    prng.pick(&found).copied()
+}
+
+/// Gives a member the name and the package of one of these, if there are any.
+fn rename(prng: &mut Prng, table: &mut Table, m: usize, from: Range<usize>) {
+    if !from.is_empty() {
+        let other = table.members[from.start + prng.below(from.len())].clone();
+        table.members[m].name = other.name;
+        table.members[m].package = other.package;
     }
 }
 
