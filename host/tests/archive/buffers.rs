@@ -1,6 +1,7 @@
 //! The lengths of the answer buffer and of the work area, and what a call leaves in them.
 
 use crate::lent::asked;
+use std::thread;
 use yifgrun::{ask, Answers, WORK_WORDS};
 
 const TABLE: &str = "typetable\t1\nP\toffice/cat\nT\tbasic\t2\nT\ttuple\nT\tfunc\t0\t1\t1\nT\tnamed\t4\n\
@@ -127,6 +128,24 @@ fn calls_are_independent() {
             assert_eq!(&answer[..length.expect("an answer")], due.as_bytes());
         }
     }
+}
+
+/// Calls on different buffers may run at the same time.
+#[test]
+fn calls_run_side_by_side() {
+    thread::scope(|scope| {
+        for _ in 0..4 {
+            scope.spawn(|| {
+                let mut answers = Answers::new();
+                for _ in 0..500 {
+                    for (question, due) in ANSWERS {
+                        let answer = answers.ask(TABLE.as_bytes(), question.as_bytes());
+                        assert_eq!(answer, Ok(due.as_bytes()));
+                    }
+                }
+            });
+        }
+    });
 }
 
 /// A method set longer than the first buffer is answered whole.

@@ -10,6 +10,16 @@ use std::time::{Duration, Instant};
 const RUNS: usize = 3;
 const SPENT: Duration = Duration::from_millis(300);
 
+const HEAD: [&str; 7] = [
+    "Nanoseconds, the fastest run of each; buffers are not cleared between calls. `pass` is a look at each byte of the",
+    "text, `one` a load and a question on the average, `all` a load and all questions; yifgrun loads for each question.",
+    "`first / one` and `first / all` are the times of the case's first engine divided by this one's, `one / pass` is the",
+    "time for one divided by that of the pass.",
+    "",
+    "| case | table bytes | questions | engine | pass | load | one | all | first / one | first / all | one / pass |",
+    "|---|---:|---:|---|---:|---:|---:|---:|---:|---:|---:|",
+];
+
 fn main() {
     if engine::goscript().is_none() {
         println!("{}", engine::NOT_AT_HAND);
@@ -18,12 +28,9 @@ fn main() {
         .into_iter()
         .flatten()
         .collect();
-    println!("Nanoseconds, the fastest run of each. `one` is a load and a question on the average, `all` a load and all");
-    println!("questions; yifgrun loads for each question. `times` is how often the first engine's time for one, and for");
-    println!("all, has this engine's in it, and how often this engine's for one has the pass over the text.");
-    println!();
-    println!("| case | table bytes | questions | engine | pass | load | one | all | times one | times all | passes |");
-    println!("|---|---:|---:|---|---:|---:|---:|---:|---:|---:|---:|");
+    for line in HEAD {
+        println!("{line}");
+    }
     for case in cases() {
         let pass = fastest(|| {
             black_box(pass(black_box(case.table.as_bytes())));
@@ -50,14 +57,14 @@ struct Times {
     all: Duration,
 }
 
-/// Whether every byte is a tab, a newline or printable: a look at each byte once.
+/// Whether every byte is a tab, a newline or printable: a look at each byte, one after the other.
 fn pass(text: &[u8]) -> bool {
-    let mut right = 0;
     for &byte in text {
-        let byte = black_box(byte);
-        right += usize::from(matches!(byte, b'\t' | b'\n' | 32..=126));
+        if !matches!(byte, b'\t' | b'\n' | 32..=126) {
+            return false;
+        }
     }
-    right == text.len()
+    true
 }
 
 fn times(engine: &mut dyn Engine, case: &Case) -> Times {
