@@ -92,7 +92,7 @@ fn question(prng: &mut Prng, table: &Table) -> Vec<u8> {
 }
 
 /// What a call gives: an answer, or a refusal's number and line.
-type Outcome = Result<Vec<u8>, (u8, usize)>;
+type Outcome = Result<String, (u8, usize)>;
 
 /// How many calls gave what.
 #[derive(Default)]
@@ -121,7 +121,7 @@ impl Hammer {
         let (mut answer, mut work) = (vec![0; call.room], vec![0; call.words]);
         let result = lent::asked(&call.table, &call.question, &mut answer, &mut work);
         let given: Outcome = match result {
-            Ok(length) => Ok(answer[..length].to_vec()),
+            Ok(length) => Ok(String::from_utf8_lossy(&answer[..length]).into_owned()),
             Err(refusal) => Err((refusal.number, refusal.line.into())),
         };
         match &given {
@@ -131,9 +131,8 @@ impl Hammer {
         match self.due(call) {
             Ok(None) => assert!(matches!(given, Ok(_) | Err((13, 0))), "{given:?}"),
             Ok(Some(answer)) => {
-                let due = Ok(answer.into_bytes());
-                let fits = due.as_ref().is_ok_and(|a: &Vec<u8>| a.len() <= call.room);
-                let due = if fits { due } else { Err((13, 0)) };
+                let fits = answer.len() <= call.room;
+                let due = if fits { Ok(answer) } else { Err((13, 0)) };
                 assert_eq!(given, due, "the second is due");
                 self.counts.compared += 1;
             }
