@@ -15,7 +15,7 @@ struct Deep {
 }
 
 fn all_deep() -> Vec<Deep> {
-    let mut all = vec![nested_pairs(), rings()];
+    let mut all = vec![nested_pairs(), rings(), long_path()];
     all.extend(towers());
     all.extend(chain());
     all
@@ -98,6 +98,41 @@ fn rings() -> Deep {
         table,
         question: format!("I\t{}\t{}", starts[0], starts[1]),
         due: "yes\n".to_owned(),
+    }
+}
+
+/// 31 interfaces, each with a func of its own that takes all of them in some order, so that a path through their pairs
+/// is longer than the levels that may be nested, and then one of two pointers: beside the last pair of the path, these
+/// are compared down a chain of 160, at whose end they differ.
+fn long_path() -> Deep {
+    const IFACES: usize = 31;
+    const ENTRIES: usize = 120;
+    const POINTERS: usize = 254 - 3 * IFACES;
+    let mut numbers = Numbers(88_172_645_463_325_252);
+    let mut table = "typetable\t1\nT\tbasic\t2\nT\ttuple\n".to_owned();
+    for n in 0..POINTERS {
+        let below = if n == 0 { 0 } else { n + 1 };
+        table += &format!("T\tpointer\t{below}\n");
+    }
+    let (last, first) = (POINTERS + 1, POINTERS + 2);
+    for n in 0..IFACES {
+        table += &format!("T\tiface\nM\tM\t-\t{}\t0\n", first + 2 * IFACES + n);
+    }
+    for n in 0..IFACES {
+        table += "T\ttuple";
+        for _ in 0..ENTRIES {
+            table += &format!("\t{}", first + numbers.below(IFACES));
+        }
+        table += &format!("\t{}\n", last - n % 2);
+    }
+    for n in 0..IFACES {
+        table += &format!("T\tfunc\t0\t{}\t1\n", first + IFACES + n);
+    }
+    Deep {
+        name: "a path of pairs of interfaces over a chain of pointers, I",
+        table,
+        question: format!("I\t{first}\t{}", first + 1),
+        due: "no\n".to_owned(),
     }
 }
 
