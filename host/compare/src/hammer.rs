@@ -51,10 +51,10 @@ fn asked(prng: &mut Prng) -> (Vec<u8>, Vec<u8>) {
     if prng.chance(10) {
         return (damage::soup(prng), damage::question(prng));
     }
-    let shape = match prng.below(200) {
+    let shape = match prng.below(1_000) {
         0 => Shape::largest(),
-        1..=3 => Shape::middle(),
-        4..=40 => Shape::small(),
+        1..=5 => Shape::middle(),
+        6..=100 => Shape::small(),
         _ => Shape::tiny(),
     };
     let table = random::table(prng, &shape);
