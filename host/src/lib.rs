@@ -46,7 +46,7 @@
 //! ```
 //!
 //! The library holds nothing between calls and allocates nothing: calls on different buffers may run at the same
-//! time. A call nests at most some 2,300 levels (`I` on types that lie within one another), less than 1 MiB of
+//! time. A call nests at most 2,256 levels (`I` on types that lie within one another), less than 1 MiB of
 //! stack.
 
 mod refusal;
