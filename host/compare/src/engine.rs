@@ -1,4 +1,4 @@
-//! What answers questions on a table: goscript's functions, and whatever is put beside them.
+//! What answers questions on a table: goscript's functions, and the proved library beside them.
 
 /// What is said where there is no goscript to compare with.
 pub const NOT_AT_HAND: &str = "goscript's files are not at hand: nothing compared";
@@ -12,6 +12,11 @@ pub trait Engine {
 
     /// The answer to a question line on the table loaded; nothing if it can't be read.
     fn ask(&mut self, question: &str) -> Option<String>;
+
+    /// Whether a question is answered from what a load left, or the table text is loaded again for it.
+    fn keeps_tables(&self) -> bool {
+        true
+    }
 }
 
 /// goscript's functions, if its files were at hand when this was built.
@@ -40,5 +45,44 @@ impl Engine for OfGoscript {
 
     fn ask(&mut self, question: &str) -> Option<String> {
         crate::answers::answer(self.0.as_mut()?, question)
+    }
+}
+
+/// The proved library, if this was built with it.
+pub fn library() -> Option<Box<dyn Engine>> {
+    #[cfg(feature = "library")]
+    return Some(Box::<OfLibrary>::default());
+    #[cfg(not(feature = "library"))]
+    None
+}
+
+/// The library's call. It keeps nothing between calls, so that each question loads the table text.
+#[cfg(feature = "library")]
+#[derive(Default)]
+struct OfLibrary {
+    table: String,
+    answers: yifgrun::Answers,
+}
+
+#[cfg(feature = "library")]
+impl Engine for OfLibrary {
+    fn name(&self) -> &str {
+        "yifgrun"
+    }
+
+    fn load(&mut self, table: &str) -> Option<()> {
+        self.table.clear();
+        self.table.push_str(table);
+        self.ask("V").map(|_| ())
+    }
+
+    fn ask(&mut self, question: &str) -> Option<String> {
+        let answer = self.answers.ask(self.table.as_bytes(), question.as_bytes());
+        let text = String::from_utf8(answer.ok()?.to_vec());
+        Some(text.expect("an answer is text"))
+    }
+
+    fn keeps_tables(&self) -> bool {
+        false
     }
 }

@@ -1,9 +1,14 @@
-//! goscript's own functions over type tables: what the answers of document 01 are compared with.
+//! goscript's own functions over type tables, and the answers of the proved library held against them.
 
+pub mod damage;
 pub mod engine;
+#[cfg(feature = "library")]
+pub mod hammer;
 pub mod prng;
 pub mod question;
 pub mod random;
+pub mod refusals;
+pub mod side_by_side;
 pub mod table;
 pub mod tables;
 pub mod typeask;

@@ -34,7 +34,12 @@ pub fn cases() -> Vec<Case> {
     cases.push(one_receiver());
     cases.push(wide_methods());
     cases.push(deep_methods());
-    cases.push(whole_text());
+    cases.push(random_text(
+        "random table of 40 to 120 types",
+        &Shape::middle(),
+    ));
+    cases.push(random_text("random table of 256 types", &Shape::largest()));
+    cases.extend(long_loads());
     cases
 }
 
@@ -271,10 +276,41 @@ fn deep_methods() -> Case {
     )
 }
 
-/// A random table of nearly 32,768 bytes and a hundred random questions.
-fn whole_text() -> Case {
+/// A random table of this shape and a hundred random questions.
+fn random_text(name: &str, shape: &Shape) -> Case {
     let mut prng = Prng::new(1);
-    let table = random::table(&mut prng, &Shape::largest());
+    let table = random::table(&mut prng, shape);
     let questions = random::questions(&mut prng, &table, 100);
-    Case::new("random table, 100 questions", &table, questions)
+    Case::new(name, &table, questions)
+}
+
+/// Texts that take long to load, with the question V.
+fn long_loads() -> [Case; 4] {
+    let counts = || vec!["V".to_owned()];
+    let mut alike = Table::default();
+    let int = alike.put(Kind::Basic(2), []);
+    let common = "n".repeat(61);
+    alike.put_struct((0..255).map(|k| field(format!("{common}{k:03}"), int, false)));
+    let mut many = Table::default();
+    let int = many.put(Kind::Basic(2), []);
+    for _ in 0..4 {
+        many.put_struct((0..255).map(|k| field(format!("f{k}"), int, false)));
+    }
+    // Each named type stands for the array behind it, which has the next named type in it.
+    let mut rising = Table::default();
+    for k in 0..127 {
+        rising.put(Kind::Named(2 * k + 1), []);
+        rising.put(Kind::Array(1, 2 * k + 2), []);
+    }
+    rising.put(Kind::Named(255), []);
+    rising.put(Kind::Basic(2), []);
+    let mut tuple = Table::default();
+    let int = tuple.put(Kind::Basic(2), []);
+    tuple.put(Kind::Tuple(vec![int; 16_368]), []);
+    [
+        Case::new("255 fields whose names share 61 bytes, V", &alike, counts()),
+        Case::new("four structs of 255 fields, V", &many, counts()),
+        Case::new("a chain by value of rising numbers, V", &rising, counts()),
+        Case::new("a tuple of 16,368 elements, V", &tuple, counts()),
+    ]
 }

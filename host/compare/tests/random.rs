@@ -1,11 +1,9 @@
 //! Random tables load, are read as they are written, and give answers of every form.
 
-mod batches;
-mod loads;
-
 use compare::engine;
 use compare::prng::Prng;
 use compare::random::{self, Shape};
+use compare::refusals;
 use compare::table::Table;
 use compare::tables::cases;
 use std::collections::BTreeMap;
@@ -20,45 +18,17 @@ fn random_tables_load() {
         let mut prng = Prng::new(seed);
         let shape = any_shape(&mut prng);
         let table = random::table(&mut prng, &shape);
-        assert_eq!(loads::refusal(&table), None, "seed {seed}");
-        assert_eq!(Table::parse(&table.to_string()), Some(table), "seed {seed}");
-    }
-}
-
-/// The check that a table loads is itself held against the vectors: those that load, and those refused
-/// with 7 to 10.
-#[test]
-fn the_check_agrees_with_the_vectors() {
-    let Some(folder) = batches::vectors() else {
-        return;
-    };
-    for (input, output) in batches::cases(&folder, "damaged") {
-        let number = output.strip_prefix("refused\t").map(|rest| {
-            let (number, _) = rest.split_once('\t').expect("a number and a line");
-            number.parse().expect("a number")
-        });
-        let table = input
-            .split_once("\nQ\n")
-            .map_or(input.clone(), |(table, _)| format!("{table}\n"));
-        match number {
-            Some(2..=6) => {}
-            Some(refused @ 7..=10) => {
-                let table = Table::parse(&table).expect("it can be read");
-                assert_eq!(loads::refusal(&table), Some(refused), "{table}");
-            }
-            _ => {
-                let table = Table::parse(&table).expect("it can be read");
-                assert_eq!(loads::refusal(&table), None, "{table}");
-            }
-        }
+        let text = table.to_string();
+        assert_eq!(Table::parse(&text), Some(table.clone()), "seed {seed}");
+        assert_eq!(refusals::table(text.as_bytes()), Ok(table), "seed {seed}");
     }
 }
 
 #[test]
 fn hard_tables_load() {
     for case in cases() {
-        let table = Table::parse(&case.table).expect("it can be read");
-        assert_eq!(loads::refusal(&table), None, "{}", case.name);
+        let refused = refusals::table(case.table.as_bytes()).err();
+        assert_eq!(refused, None, "{}", case.name);
     }
 }
 

@@ -13,7 +13,7 @@ fn agree(folder: &Path, name: &str) {
     };
     let cases = batches::cases(folder, name);
     for (n, (input, output)) in cases.iter().enumerate() {
-        let printed = typeask::print(goscript.as_mut(), input);
+        let printed = typeask::print(goscript.as_mut(), str::from_utf8(input).expect("text"));
         assert_eq!(printed.as_ref(), Some(output), "case {n} of {name}");
     }
     println!("{name}: {} cases agree", cases.len());

@@ -1,4 +1,5 @@
-//! Times every engine on every hard table: taking the table text, and one question on it.
+//! Times every engine on every hard table: taking the table text, taking it and answering one question, and all
+//! questions. A pass over the text that looks at each byte is the floor.
 
 use compare::engine::{self, Engine};
 use compare::tables::{cases, Case};
@@ -9,41 +10,101 @@ use std::time::{Duration, Instant};
 const RUNS: usize = 3;
 const SPENT: Duration = Duration::from_millis(300);
 
+const HEAD: [&str; 7] = [
+    "Nanoseconds, the fastest run of each; buffers are not cleared between calls. `pass` is a look at each byte of the",
+    "text, `one` a load and a question on the average, `all` a load and all questions; yifgrun loads for each question.",
+    "`first / one` and `first / all` are the times of the case's first engine divided by this one's, `one / pass` is the",
+    "time for one divided by that of the pass.",
+    "",
+    "| case | table bytes | questions | engine | pass | load | one | all | first / one | first / all | one / pass |",
+    "|---|---:|---:|---|---:|---:|---:|---:|---:|---:|---:|",
+];
+
 fn main() {
-    let Some(goscript) = engine::goscript() else {
+    if engine::goscript().is_none() {
         println!("{}", engine::NOT_AT_HAND);
-        return;
-    };
-    let mut engines = [goscript];
-    println!("Nanoseconds, the fastest run of each:");
-    println!();
-    println!("| case | table bytes | questions | engine | load | a question | all |");
-    println!("|---|---:|---:|---|---:|---:|---:|");
+    }
+    let mut engines: Vec<_> = [engine::goscript(), engine::library()]
+        .into_iter()
+        .flatten()
+        .collect();
+    for line in HEAD {
+        println!("{line}");
+    }
     for case in cases() {
+        let pass = fastest(|| {
+            black_box(pass(black_box(case.table.as_bytes())));
+        });
+        let mut first = None;
         for engine in &mut engines {
-            print_row(engine.as_mut(), &case);
+            let times = times(engine.as_mut(), &case);
+            print_row(
+                engine.name(),
+                &case,
+                pass,
+                &times,
+                first.get_or_insert(times),
+            );
         }
     }
 }
 
-/// Prints the time of a load, of a question on the average, and of a load and all questions.
-fn print_row(engine: &mut dyn Engine, case: &Case) {
+/// A load, a load and a question, a load and all questions.
+#[derive(Clone, Copy)]
+struct Times {
+    load: Duration,
+    one: Duration,
+    all: Duration,
+}
+
+/// Whether every byte is a tab, a newline or printable: a look at each byte, one after the other.
+fn pass(text: &[u8]) -> bool {
+    for &byte in text {
+        if !matches!(byte, b'\t' | b'\n' | 32..=126) {
+            return false;
+        }
+    }
+    true
+}
+
+fn times(engine: &mut dyn Engine, case: &Case) -> Times {
     let load = fastest(|| load(engine, case));
     let ask = fastest(|| {
         for question in &case.questions {
             black_box(engine.ask(black_box(question)));
         }
     });
+    let average = ask / case.questions.len() as u32;
+    let kept = if engine.keeps_tables() {
+        load
+    } else {
+        Duration::ZERO
+    };
+    Times {
+        load,
+        one: kept + average,
+        all: kept + ask,
+    }
+}
+
+fn print_row(name: &str, case: &Case, pass: Duration, times: &Times, first: &Times) {
     println!(
-        "| {} | {} | {} | {} | {} | {} | {} |",
+        "| {} | {} | {} | {name} | {} | {} | {} | {} | {:.1} | {:.1} | {:.1} |",
         case.name,
         case.table.len(),
         case.questions.len(),
-        engine.name(),
-        load.as_nanos(),
-        ask.as_nanos() / case.questions.len() as u128,
-        (load + ask).as_nanos(),
+        pass.as_nanos(),
+        times.load.as_nanos(),
+        times.one.as_nanos(),
+        times.all.as_nanos(),
+        ratio(first.one, times.one),
+        ratio(first.all, times.all),
+        ratio(times.one, pass),
     );
+}
+
+fn ratio(a: Duration, b: Duration) -> f64 {
+    a.as_secs_f64() / b.as_secs_f64()
 }
 
 fn load(engine: &mut dyn Engine, case: &Case) {

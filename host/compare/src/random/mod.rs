@@ -7,6 +7,7 @@ mod members;
 use crate::prng::Prng;
 use crate::table::{Kind, Member, Table};
 use maker::Maker;
+use std::collections::BTreeSet;
 use std::mem::discriminant;
 
 /// How large a table may become.
@@ -24,6 +25,18 @@ pub struct Shape {
 }
 
 impl Shape {
+    /// A table of so few types that every question can be asked.
+    pub fn tiny() -> Shape {
+        Shape {
+            packages: 2,
+            least_types: 3,
+            types: 10,
+            members: 4,
+            bytes: 2_048,
+            long_names: false,
+        }
+    }
+
     /// A table of few types.
     pub fn small() -> Shape {
         Shape {
@@ -74,6 +87,30 @@ pub fn table(prng: &mut Prng, shape: &Shape) -> Table {
 /// So many questions S, M, N, I and C of the right form on a table that has a type.
 pub fn questions(prng: &mut Prng, table: &Table, count: usize) -> Vec<String> {
     (0..count).map(|_| question(prng, table)).collect()
+}
+
+/// Every question S, M, N, I and C on a table; S for every name that it has, and one that it has not.
+pub fn all_questions(table: &Table) -> Vec<String> {
+    let types = 0..table.types.len();
+    let names: BTreeSet<&str> = table.members.iter().map(|m| &*m.name).collect();
+    let packages: Vec<String> = (0..table.packages.len()).map(|p| p.to_string()).collect();
+    let mut questions = Vec::new();
+    for t in types.clone() {
+        questions.extend([format!("M\t{t}"), format!("C\t{t}")]);
+        questions.extend(types.clone().map(|y| format!("I\t{t}\t{y}")));
+        for i in types
+            .clone()
+            .filter(|&i| table.types[i].kind == Kind::Iface)
+        {
+            questions.extend([0, 1].map(|s| format!("N\t{t}\t{i}\t{s}")));
+        }
+        for name in names.iter().chain(&["Zero"]) {
+            for package in packages.iter().map(|p| &**p).chain(["-"]) {
+                questions.extend([0, 1].map(|a| format!("S\t{t}\t{a}\t{package}\t{name}")));
+            }
+        }
+    }
+    questions
 }
 
 fn question(prng: &mut Prng, table: &Table) -> String {

@@ -17,20 +17,31 @@ pub fn vectors() -> Option<PathBuf> {
     Some(folder)
 }
 
-/// Every input of a pair of files with what is printed for it; bytes that are no text are replaced.
-pub fn cases(folder: &Path, name: &str) -> Vec<(String, String)> {
+/// Every input of a pair of files with what is printed for it.
+pub fn cases(folder: &Path, name: &str) -> Vec<(Vec<u8>, String)> {
     let read = |extension| {
         let path = folder.join(name).with_extension(extension);
-        let bytes = fs::read(&path).unwrap_or_else(|e| panic!("{}: {e}", path.display()));
-        String::from_utf8_lossy(&bytes).into_owned()
-    };
-    let split = |text: &str| -> Vec<String> {
-        let cases = text.split_terminator("---\n");
-        cases.map(str::to_owned).collect()
+        fs::read(&path).unwrap_or_else(|e| panic!("{}: {e}", path.display()))
     };
     let inputs = read("in");
-    let inputs = split(inputs.strip_prefix("BATCH\n").expect("a line BATCH"));
+    let inputs = split(inputs.strip_prefix(b"BATCH\n").expect("a line BATCH"));
     let outputs = split(&read("out"));
     assert_eq!(inputs.len(), outputs.len(), "cases of {name}");
-    inputs.into_iter().zip(outputs).collect()
+    let text = |bytes| String::from_utf8(bytes).expect("what is printed is text");
+    inputs
+        .into_iter()
+        .zip(outputs.into_iter().map(text))
+        .collect()
+}
+
+/// The cases of a file, each ended by the bytes `---` and a newline.
+fn split(mut rest: &[u8]) -> Vec<Vec<u8>> {
+    const END: &[u8] = b"---\n";
+    let mut cases = Vec::new();
+    while let Some(at) = rest.windows(END.len()).position(|w| w == END) {
+        cases.push(rest[..at].to_vec());
+        rest = &rest[at + END.len()..];
+    }
+    assert!(rest.is_empty(), "a case without an end");
+    cases
 }

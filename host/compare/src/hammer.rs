@@ -1,0 +1,171 @@
+//! Calls of the library on random and damaged tables, each from a seed alone. Each is held against what every call
+//! promises of the number and the buffers, against the refusals that document 01's words give, and, where an answer
+//! is due, against goscript.
+
+#[path = "../../tests/archive/lent.rs"]
+mod lent;
+
+use crate::damage::{self, damage, misdirect};
+use crate::engine::{self, Engine};
+use crate::prng::Prng;
+use crate::random::{self, Shape};
+use crate::refusals;
+use crate::table::Table;
+use yifgrun::WORK_WORDS;
+
+/// What a call is asked and lent.
+pub struct Call {
+    pub table: Vec<u8>,
+    pub question: Vec<u8>,
+    /// The bytes of the answer buffer, and the words of the work area.
+    pub room: usize,
+    pub words: usize,
+}
+
+impl Call {
+    /// The call that a seed and a number stand for.
+    pub fn new(seed: u64, number: u64) -> Call {
+        let mut prng = Prng::new(seed ^ number.wrapping_mul(0xd134_2543_de82_ef95));
+        let (table, question) = asked(&mut prng);
+        let room = match prng.below(8) {
+            0 => prng.below(41),
+            1 => 16_384,
+            _ => prng.below(1_000),
+        };
+        let words = match prng.below(20) {
+            0 => prng.below(WORK_WORDS),
+            1 => WORK_WORDS + prng.below(1_000),
+            _ => WORK_WORDS,
+        };
+        Call {
+            table,
+            question,
+            room,
+            words,
+        }
+    }
+}
+
+/// A table text and a question on it, either damaged or not.
+fn asked(prng: &mut Prng) -> (Vec<u8>, Vec<u8>) {
+    if prng.chance(10) {
+        return (damage::soup(prng), damage::question(prng));
+    }
+    let shape = match prng.below(1_000) {
+        0 => Shape::largest(),
+        1..=5 => Shape::middle(),
+        6..=100 => Shape::small(),
+        _ => Shape::tiny(),
+    };
+    let table = random::table(prng, &shape);
+    let question = question(prng, &table);
+    (text(prng, table), question)
+}
+
+/// The text of a table: as it is, with a line changed, or damaged.
+fn text(prng: &mut Prng, mut table: Table) -> Vec<u8> {
+    let times = 1 + prng.below(2);
+    let what = prng.below(10);
+    if (4..7).contains(&what) {
+        (0..times).for_each(|_| misdirect(prng, &mut table));
+    }
+    let mut text = table.to_string().into_bytes();
+    if what >= 7 {
+        (0..times).for_each(|_| damage(prng, &mut text));
+    }
+    text
+}
+
+/// A question on a table, or on none.
+fn question(prng: &mut Prng, table: &Table) -> Vec<u8> {
+    let any = |prng: &mut Prng| prng.below(table.types.len());
+    let mut question = match prng.below(20) {
+        0 => damage::question(prng),
+        1 => b"V".to_vec(),
+        2 => format!("N\t{}\t{}\t0", any(prng), any(prng)).into_bytes(),
+        _ => random::questions(prng, table, 1).concat().into_bytes(),
+    };
+    if prng.chance(7) {
+        damage(prng, &mut question);
+    }
+    question
+}
+
+/// What a call gives: an answer, or a refusal's number and line.
+type Outcome = Result<String, (u8, usize)>;
+
+/// How many calls gave what.
+#[derive(Default)]
+pub struct Counts {
+    pub answered: u64,
+    /// Answers, and refusals 13, that were held against goscript's answer, or the counts for V.
+    pub compared: u64,
+    pub refused: [u64; 14],
+}
+
+pub struct Hammer {
+    goscript: Option<Box<dyn Engine>>,
+    pub counts: Counts,
+}
+
+impl Hammer {
+    pub fn new() -> Hammer {
+        Hammer {
+            goscript: engine::goscript(),
+            counts: Counts::default(),
+        }
+    }
+
+    /// Makes a call and checks it; panics where something does not hold.
+    pub fn strike(&mut self, call: &Call) {
+        let (mut answer, mut work) = (vec![0; call.room], vec![0; call.words]);
+        let result = lent::asked(&call.table, &call.question, &mut answer, &mut work);
+        let given: Outcome = match result {
+            Ok(length) => Ok(String::from_utf8_lossy(&answer[..length]).into_owned()),
+            Err(refusal) => Err((refusal.number, refusal.line.into())),
+        };
+        match &given {
+            Ok(_) => self.counts.answered += 1,
+            Err((number, _)) => self.counts.refused[usize::from(*number)] += 1,
+        }
+        match self.due(call) {
+            Ok(None) => assert!(matches!(given, Ok(_) | Err((13, 0))), "{given:?}"),
+            Ok(Some(answer)) => {
+                let fits = answer.len() <= call.room;
+                let due = if fits { Ok(answer) } else { Err((13, 0)) };
+                assert_eq!(given, due, "the second is due");
+                self.counts.compared += 1;
+            }
+            Err(refused) => assert_eq!(given, Err(refused), "the second is due"),
+        }
+    }
+
+    /// The answer or refusal that is due; no answer if there is nothing to compare it with.
+    fn due(&mut self, call: &Call) -> Result<Option<String>, (u8, usize)> {
+        if call.words < WORK_WORDS {
+            return Err((1, 0));
+        }
+        let refused = |refused: refusals::Refused| (refused.number, refused.line);
+        let table = refusals::table(&call.table).map_err(refused)?;
+        refusals::question(&table, &call.question).map_err(refused)?;
+        Ok(self.answer(call, &table))
+    }
+
+    fn answer(&mut self, call: &Call, table: &Table) -> Option<String> {
+        if call.question == b"V" {
+            let (p, t, m) = (&table.packages, &table.types, &table.members);
+            return Some(format!("ok\t{}\t{}\t{}\n", p.len(), t.len(), m.len()));
+        }
+        let goscript = self.goscript.as_mut()?;
+        let text = |bytes| str::from_utf8(bytes).expect("what loads is text");
+        goscript.load(text(&call.table)).expect("it loads");
+        let answer = goscript.ask(text(&call.question));
+        Some(answer.expect("the question has the right form"))
+    }
+}
+
+impl Default for Hammer {
+    fn default() -> Hammer {
+        Hammer::new()
+    }
+}

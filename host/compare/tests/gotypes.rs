@@ -1,0 +1,239 @@
+//! Go's own checker, package go/types of 1.19, on the same tables: every difference is one that docs/DIFFERENCES.md explains.
+
+mod batches;
+
+use compare::engine::{self, Engine};
+use compare::prng::Prng;
+use compare::random::{self, Shape};
+use compare::table::{Kind, Table};
+use std::io::Write;
+use std::path::{Path, PathBuf};
+use std::process::{Command, Stdio};
+use std::{env, thread};
+
+/// Go 1.19's command, if it is installed: `GO`, or where Debian's package golang-1.19-go puts it.
+fn go() -> Option<String> {
+    let command = env::var("GO").unwrap_or("/usr/lib/go-1.19/bin/go".to_owned());
+    let version = Command::new(&command).arg("version").output().ok()?;
+    let version = String::from_utf8_lossy(&version.stdout).into_owned();
+    version.contains("go1.19").then_some(command)
+}
+
+/// The program over go/types, built.
+fn program(go: &str) -> PathBuf {
+    let folder = Path::new(env!("CARGO_MANIFEST_DIR")).join("gotypes");
+    let to = Path::new(env!("CARGO_TARGET_TMPDIR"));
+    let built = to.join("gotypes");
+    let done = Command::new(go)
+        .args(["build", "-o"])
+        .args([&built, Path::new(".")])
+        .current_dir(folder)
+        .env("GOCACHE", to.join("go-cache"))
+        .env("GOFLAGS", "-mod=mod")
+        .status();
+    assert!(done.expect("go runs").success(), "gotypes is built");
+    built
+}
+
+/// A table that loads, and questions on it.
+type Case = (String, Vec<String>);
+
+/// What go/types answers, case by case and question by question.
+fn go_answers(program: &Path, cases: &[Case]) -> Vec<Vec<String>> {
+    let mut input = String::from("BATCH\n");
+    for (table, questions) in cases {
+        input += table;
+        input += "Q\n";
+        for question in questions {
+            input += question;
+            input.push('\n');
+        }
+        input += "---\n";
+    }
+    let mut run = Command::new(program)
+        .stdin(Stdio::piped())
+        .stdout(Stdio::piped())
+        .spawn()
+        .expect("gotypes runs");
+    let mut stdin = run.stdin.take().expect("its input");
+    let writer = thread::spawn(move || stdin.write_all(input.as_bytes()));
+    let output = run.wait_with_output().expect("its output");
+    writer.join().expect("written").expect("written");
+    let output = String::from_utf8(output.stdout).expect("text");
+    let cases = output.split_terminator("---\n");
+    cases.map(answers).collect()
+}
+
+/// Answers one by one: the lines `sel` belong to the line `set` before them.
+fn answers(printed: &str) -> Vec<String> {
+    let mut all: Vec<String> = Vec::new();
+    for line in printed.lines() {
+        if line.starts_with("sel\t") {
+            let last = all.last_mut().expect("a line set");
+            *last += line;
+            last.push('\n');
+        } else {
+            all.push(format!("{line}\n"));
+        }
+    }
+    all
+}
+
+/// How often go/types agrees, and how often each explained difference is met.
+#[derive(Debug, Default)]
+struct Count {
+    same: usize,
+    pointer_to_named_interface: usize,
+    method_below_a_field: usize,
+    pointer_receiver_only: usize,
+}
+
+/// Holds one case against go/types' answers; what is not explained fails.
+fn hold(engine: &mut dyn Engine, (table, questions): &Case, theirs: &[String], count: &mut Count) {
+    assert_eq!(theirs.len(), questions.len(), "{table}\n{theirs:?}");
+    engine.load(table).expect("it loads");
+    let parsed = Table::parse(table).expect("a table");
+    for (question, theirs) in questions.iter().zip(theirs) {
+        let ours = engine.ask(question).expect("an answer");
+        if question == "V" || ours == *theirs {
+            count.same += 1;
+        } else if !explained(engine, &parsed, question, &ours, theirs, count) {
+            panic!("{table}\n{question}\nours: {ours}go: {theirs}");
+        }
+    }
+}
+
+fn explained(
+    engine: &mut dyn Engine,
+    table: &Table,
+    question: &str,
+    ours: &str,
+    theirs: &str,
+    count: &mut Count,
+) -> bool {
+    let fields: Vec<&str> = question.split('\t').collect();
+    let t: usize = fields[1].parse().expect("a number");
+    match fields[0] {
+        "M" if points_to_named_interface(table, t) => {
+            count.pointer_to_named_interface += 1;
+            theirs == "set\t0\n"
+        }
+        "M" => {
+            count.method_below_a_field += 1;
+            let theirs: Vec<&str> = theirs.lines().skip(1).collect();
+            let ours: Vec<&str> = ours.lines().skip(1).collect();
+            theirs.iter().all(|line| ours.contains(line))
+                && ours
+                    .iter()
+                    .filter(|line| !theirs.contains(line))
+                    .all(|line| below_a_field(engine, table, t, line))
+        }
+        "N" => {
+            count.pointer_receiver_only += 1;
+            let member = ours.split('\t').nth(1).expect("a member");
+            ours == format!("missing\t{member}\t0\n")
+                && theirs == format!("missing\t{member}\t1\n")
+                && selected(engine, table, t, 0, member) == "badreceiver\n"
+        }
+        _ => false,
+    }
+}
+
+fn points_to_named_interface(table: &Table, t: usize) -> bool {
+    let Kind::Pointer(e) = table.types[t].kind else {
+        return false;
+    };
+    matches!(table.types[e].kind, Kind::Named(u) if table.types[u].kind == Kind::Iface)
+}
+
+/// What S says of the name of a member, asked from its own package.
+fn selected(engine: &mut dyn Engine, table: &Table, t: usize, a: u8, member: &str) -> String {
+    let m = &table.members[member.parse::<usize>().expect("a number")];
+    let pkg = m.package.map_or("-".to_owned(), |p| p.to_string());
+    let question = format!("S\t{t}\t{a}\t{pkg}\t{}", m.name);
+    engine.ask(&question).expect("an answer")
+}
+
+/// A line `sel` of a method that S does not select, since a field of its name is less deep.
+fn below_a_field(engine: &mut dyn Engine, table: &Table, t: usize, line: &str) -> bool {
+    let member = line.split('\t').nth(1).expect("a member");
+    let answer = selected(engine, table, t, 1, member);
+    let Some(found) = answer.strip_prefix("entry\t") else {
+        return false;
+    };
+    let found: usize = found
+        .split('\t')
+        .next()
+        .expect("a member")
+        .trim()
+        .parse()
+        .expect("a number");
+    let fields = table.types.iter().filter(|t| t.kind == Kind::Struct);
+    fields.into_iter().any(|t| t.members.contains(&found))
+}
+
+/// The library where this is built with it, otherwise goscript.
+fn ours() -> Option<Box<dyn Engine>> {
+    engine::library().or_else(engine::goscript)
+}
+
+fn compare_all(cases: &[Case], what: &str) {
+    let (Some(go), Some(mut engine)) = (go(), ours()) else {
+        println!("{what}: Go 1.19 or the answers to compare are not at hand: nothing compared");
+        return;
+    };
+    let theirs = go_answers(&program(&go), cases);
+    assert_eq!(theirs.len(), cases.len());
+    let mut count = Count::default();
+    for (case, theirs) in cases.iter().zip(&theirs) {
+        hold(engine.as_mut(), case, theirs, &mut count);
+    }
+    println!(
+        "{what}, {} tables, {}: {count:?}",
+        cases.len(),
+        engine.name()
+    );
+}
+
+#[test]
+fn stored_tables() {
+    let sample = Path::new(env!("CARGO_MANIFEST_DIR")).join("testdata");
+    let stored = match batches::vectors() {
+        Some(folder) => [
+            batches::cases(&folder, "small"),
+            batches::cases(&folder, "mixed"),
+        ]
+        .concat(),
+        None => batches::cases(&sample, "sample"),
+    };
+    let mut cases = Vec::new();
+    for (input, _) in stored {
+        let input = String::from_utf8(input).expect("text");
+        let Some((table, questions)) = input.split_once("\nQ\n") else {
+            continue;
+        };
+        cases.push((
+            format!("{table}\n"),
+            questions.lines().map(str::to_owned).collect(),
+        ));
+    }
+    compare_all(&cases, "stored");
+}
+
+#[test]
+fn random_tables() {
+    let mut prng = Prng::new(19);
+    let mut cases = Vec::new();
+    for (count, shape) in [
+        (600, Shape::tiny()),
+        (200, Shape::small()),
+        (40, Shape::middle()),
+    ] {
+        for _ in 0..count {
+            let table = random::table(&mut prng, &shape);
+            let questions = random::questions(&mut prng, &table, 60);
+            cases.push((table.to_string(), questions));
+        }
+    }
+    compare_all(&cases, "random");
+}

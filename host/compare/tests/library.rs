@@ -1,0 +1,94 @@
+//! The library against goscript and against the refusals that are due: short runs of the programs `compare` and
+//! `hammer`, and the hard tables.
+
+use compare::hammer::{Call, Hammer};
+use compare::prng::Prng;
+use compare::random::{self, Shape};
+use compare::tables::cases;
+use compare::{engine, side_by_side};
+use std::io::{self, Write};
+
+/// Says on standard error what was run. The harness hides what is printed, but not what is written.
+fn say(what: &str) {
+    writeln!(io::stderr(), "{what}").expect("standard error takes a line");
+}
+
+#[test]
+fn random_and_damaged_tables() {
+    let mut hammer = Hammer::new();
+    for seed in [1, 2] {
+        for number in 0..30_000 {
+            hammer.strike(&Call::new(seed, number));
+        }
+    }
+    let counts = &hammer.counts;
+    let due = (1..14).filter(|&n| n != 2);
+    let missing: Vec<usize> = due.filter(|&n| counts.refused[n] == 0).collect();
+    assert_eq!(missing, [0; 0], "refusals that no call gave");
+    if engine::goscript().is_none() {
+        say(engine::NOT_AT_HAND);
+    }
+    let (compared, refused) = (counts.compared, &counts.refused[1..]);
+    say(&format!(
+        "60,000 calls: {compared} answers compared, refused {refused:?}"
+    ));
+}
+
+#[test]
+fn random_tables_that_load() {
+    let (Some(mut goscript), Some(mut library)) = (engine::goscript(), engine::library()) else {
+        say(engine::NOT_AT_HAND);
+        return;
+    };
+    let mut held = 0;
+    for seed in 0..400 {
+        let mut prng = Prng::new(seed);
+        let shape = [Shape::tiny, Shape::small, Shape::middle, Shape::largest][prng.below(4)]();
+        let table = random::table(&mut prng, &shape);
+        let questions = random::questions(&mut prng, &table, 50);
+        let engines = (goscript.as_mut(), library.as_mut());
+        let result = side_by_side::hold(engines, &table.to_string(), &questions);
+        assert_eq!(result, Ok(()), "seed {seed}");
+        held += questions.len();
+    }
+    say(&format!(
+        "{held} answers on 400 random tables are goscript's"
+    ));
+}
+
+#[test]
+fn every_question_on_small_tables() {
+    let (Some(mut goscript), Some(mut library)) = (engine::goscript(), engine::library()) else {
+        say(engine::NOT_AT_HAND);
+        return;
+    };
+    let mut held = 0;
+    for seed in 0..200 {
+        let table = random::table(&mut Prng::new(seed), &Shape::tiny());
+        let questions = random::all_questions(&table);
+        let engines = (goscript.as_mut(), library.as_mut());
+        let result = side_by_side::hold(engines, &table.to_string(), &questions);
+        assert_eq!(result, Ok(()), "seed {seed}");
+        held += questions.len();
+    }
+    say(&format!(
+        "{held} answers, all on 200 small tables, are goscript's"
+    ));
+}
+
+/// Every answer of goscript to the hard tables, but those that it takes seconds for.
+#[test]
+fn hard_tables() {
+    let (Some(mut goscript), Some(mut library)) = (engine::goscript(), engine::library()) else {
+        say(engine::NOT_AT_HAND);
+        return;
+    };
+    for case in cases() {
+        if case.name.starts_with("two towers of 24") {
+            continue;
+        }
+        let engines = (goscript.as_mut(), library.as_mut());
+        let result = side_by_side::hold(engines, &case.table, &case.questions);
+        assert_eq!(result, Ok(()), "{}", case.name);
+    }
+}

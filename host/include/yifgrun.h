@@ -1,0 +1,67 @@
+/* Member selection over Go type tables: the proved library's call, for C and whatever calls C.
+ *
+ * Link with libyifgrun.a, which `rt staticlib yifgrun` makes as target/staticlib/libyifgrun.a. The library keeps
+ * nothing between calls and allocates nothing; calls on different buffers may run at the same time. */
+#ifndef YIFGRUN_H
+#define YIFGRUN_H
+
+#include <stddef.h>
+#include <stdint.h>
+
+#ifdef __cplusplus
+extern "C" {
+#endif
+
+/* The words of the work area that a call needs. */
+#define YIFGRUN_WORK_WORDS 4096
+
+/* Asks one question on a table.
+ *
+ *   table     the table text; it is only read
+ *   question  one question line without its newline; it is only read
+ *   answer    where the answer goes: lines that end in a newline, their fields parted by one tab
+ *   work      a work area of at least YIFGRUN_WORK_WORDS words, at a multiple of four bytes; it may hold anything
+ *
+ * Each length counts bytes, that of the work area words. The buffers do not overlap. No pointer is null, also
+ * where its length is 0.
+ *
+ * What comes back is the answer's length, 0 or more, or a number below 0 for a refusal: minus
+ * (refusal * 65536 + line), the line being 0 where none is named.
+ *
+ *                           answer buffer                                 work area
+ *   an answer               the answer in front, the rest unchanged       all words 0
+ *   refusals 2 to 13        unchanged                                     all words 0
+ *   refusal 1               unchanged                                     unchanged
+ */
+int64_t yifgrun_ask(const uint8_t *table, size_t table_len,
+                    const uint8_t *question, size_t question_len,
+                    uint8_t *answer, size_t answer_len,
+                    uint32_t *work, size_t work_len);
+
+/* The refusal (1 to 13) and the line of a number below 0. */
+#define YIFGRUN_REFUSAL(number) ((int)(-(number) / 65536))
+#define YIFGRUN_LINE(number) ((int)(-(number) % 65536))
+
+enum yifgrun_refusal {
+    YIFGRUN_WORK_TOO_SHORT = 1,      /* the work area has fewer than YIFGRUN_WORK_WORDS words */
+    YIFGRUN_TABLE_TOO_LONG = 2,      /* the table has more than 32,768 bytes */
+    YIFGRUN_HEADER = 3,              /* the first line is not exactly `typetable`, tab, `1`, newline */
+    YIFGRUN_FORM = 4,                /* wrong form: letter, field count, value outside its range, or no newline */
+    YIFGRUN_PLACE = 5,               /* out of place: P after T, F not under a struct, M not under a named type or
+                                        interface */
+    YIFGRUN_TOO_MANY = 6,            /* a 65th package, 257th type, 1,025th member, or 256th member of one type */
+    YIFGRUN_LACKING = 7,             /* a package or type number that the table lacks */
+    YIFGRUN_KIND = 8,                /* a kind of type that is not allowed there */
+    YIFGRUN_CLASH = 9,               /* a member's identity clashes, or an interface's methods do not ascend */
+    YIFGRUN_CONTAINS_ITSELF = 10,    /* a type contains itself by value */
+    YIFGRUN_QUESTION = 11,           /* the question has a wrong form, more than 256 bytes, or a number that the
+                                        table lacks */
+    YIFGRUN_NOT_AN_INTERFACE = 12,   /* the second type of an N question is not itself of kind iface */
+    YIFGRUN_ANSWER_TOO_LONG = 13     /* the answer is longer than the answer buffer */
+};
+
+#ifdef __cplusplus
+}
+#endif
+
+#endif

@@ -1,0 +1,66 @@
+//! Calls on buffers that are filled before and looked at behind: what every call promises of them, whatever it is
+//! asked.
+
+use yifgrun::{ask, Refusal, WORK_WORDS};
+
+/// The byte that stands at a place of the answer buffer before a call.
+fn byte(place: usize) -> u8 {
+    (place as u8).wrapping_mul(37) ^ 0xa5
+}
+
+/// The word that stands at a place of the work area before a call; never 0.
+fn word(place: usize) -> u32 {
+    (place as u32).wrapping_mul(0x9e37_79b9) | 1
+}
+
+/// Asks, with the answer buffer patterned and the work area dirty, and checks both and the number.
+pub fn asked(
+    table: &[u8],
+    question: &[u8],
+    answer: &mut [u8],
+    work: &mut [u32],
+) -> Result<usize, Refusal> {
+    for (place, b) in answer.iter_mut().enumerate() {
+        *b = byte(place);
+    }
+    for (place, w) in work.iter_mut().enumerate() {
+        *w = word(place);
+    }
+    let result = ask(table, question, answer, work);
+    let touched = match result {
+        Ok(length) => length,
+        Err(refusal) => {
+            check_refusal(refusal, table);
+            0
+        }
+    };
+    assert!(touched <= answer.len(), "{touched} of {}", answer.len());
+    let first = (touched..answer.len()).find(|&place| answer[place] != byte(place));
+    assert_eq!(
+        first, None,
+        "a byte behind the answer is changed: {result:?}"
+    );
+    check_work(result, work);
+    result
+}
+
+/// The number is one of document 01's, and a line is named just where one is due.
+fn check_refusal(refusal: Refusal, table: &[u8]) {
+    let line = usize::from(refusal.line);
+    let lines = table.split_inclusive(|&b| b == b'\n').count();
+    match refusal.number {
+        1 | 2 | 11..=13 => assert_eq!(line, 0, "{refusal}"),
+        3 => assert_eq!(line, 1, "{refusal}"),
+        4..=10 => assert!((2..=lines).contains(&line), "{refusal} of {lines}"),
+        _ => panic!("{refusal}"),
+    }
+}
+
+/// Refusal 1 is due for a short work area alone and leaves it; otherwise every word is 0.
+fn check_work(result: Result<usize, Refusal>, work: &[u32]) {
+    let few = matches!(result, Err(refusal) if refusal.number == 1);
+    assert_eq!(few, work.len() < WORK_WORDS, "{result:?}");
+    let due = |place| if few { word(place) } else { 0 };
+    let first = (0..work.len()).find(|&place| work[place] != due(place));
+    assert_eq!(first, None, "a word of the work area: {result:?}");
+}

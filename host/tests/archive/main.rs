@@ -1,0 +1,12 @@
+//! The library's call through its archive: answers, refusals, and what it leaves in the buffers lent.
+
+mod buffers;
+#[cfg(target_os = "linux")]
+mod fenced;
+mod lent;
+#[cfg(target_os = "linux")]
+mod pages;
+#[cfg(target_os = "linux")]
+mod stack;
+mod stored;
+mod vectors;

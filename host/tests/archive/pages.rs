@@ -1,0 +1,156 @@
+//! Each buffer against a page that may not be touched, before it and behind it; table and question also may not be
+//! written. Any access outside what was lent is a fault.
+
+use crate::fenced::{Fenced, Side};
+use crate::lent::asked;
+use crate::stored::{cases, say};
+use yifgrun::{Refusal, WORK_WORDS};
+
+const SIDES: [Side; 2] = [Side::Front, Side::Back];
+
+/// The four buffers, each in pages of its own.
+struct Pages {
+    table: Fenced,
+    question: Fenced,
+    answer: Fenced,
+    work: Fenced,
+}
+
+/// The side of each buffer: table, question, answer, work.
+type Sides = [Side; 4];
+
+impl Pages {
+    fn new() -> Pages {
+        Pages {
+            table: Fenced::new(1 << 17),
+            question: Fenced::new(1 << 13),
+            answer: Fenced::new(1 << 15),
+            work: Fenced::new(4 * (WORK_WORDS + 1_000)),
+        }
+    }
+
+    /// A call with each buffer on its side, and the answer.
+    fn ask(
+        &mut self,
+        [table_side, question_side, answer_side, work_side]: Sides,
+        (table, question): (&[u8], &[u8]),
+        (room, words): (usize, usize),
+    ) -> Result<Vec<u8>, Refusal> {
+        let table = self.table.copy(table, table_side);
+        let question = self.question.copy(question, question_side);
+        let answer = self.answer.bytes(room, answer_side);
+        let work = self.work.words(words, work_side);
+        let length = asked(table, question, answer, work)?;
+        Ok(answer[..length].to_vec())
+    }
+}
+
+/// Every choice of four sides.
+fn all_sides() -> Vec<Sides> {
+    let side = |n: usize, k: usize| SIDES[n >> k & 1];
+    (0..16)
+        .map(|n| [side(n, 0), side(n, 1), side(n, 2), side(n, 3)])
+        .collect()
+}
+
+#[test]
+fn stored_questions_touch_only_what_is_lent() {
+    let mut pages = Pages::new();
+    let cases = cases();
+    let mut calls = 0;
+    for case in &cases {
+        let (table, mut questions) = case.parted();
+        questions.sort_unstable();
+        questions.dedup();
+        // The second time the room is just the answer's length, so that the page behind follows its last byte.
+        for question in questions {
+            let room = pages
+                .ask([Side::Front; 4], (table, question), (1 << 14, WORK_WORDS))
+                .map_or(64, |answer| answer.len());
+            let back = pages.ask([Side::Back; 4], (table, question), (room, WORK_WORDS));
+            assert!(
+                back.map_or(64, |answer| answer.len()) == room,
+                "{}",
+                case.name
+            );
+            calls += 2;
+        }
+    }
+    say(&format!(
+        "{calls} calls between pages that may not be touched"
+    ));
+}
+
+const TABLE: &str =
+    "typetable\t1\nP\ta\nT\tbasic\t2\nT\ttuple\nT\tfunc\t0\t1\t1\nT\tiface\nM\tRead\t0\t2\t0\n\
+    T\tstruct\nF\tLen\t0\t0\t0\nT\tnamed\t4\nM\tRead\t0\t2\t1\nT\tpointer\t5\n";
+
+const QUESTIONS: [&str; 9] = [
+    "S\t6\t0\t0\tLen",
+    "M\t6",
+    "N\t5\t3\t1",
+    "N\t6\t4\t1",
+    "I\t3\t3",
+    "C\t4",
+    "V",
+    "C\t9",
+    "",
+];
+
+/// Every choice of sides, with damaged tables and questions, short rooms and short work areas, and nothing at all.
+#[test]
+fn every_choice_of_sides() {
+    let mut pages = Pages::new();
+    let table = TABLE.as_bytes();
+    let tables = [table, &table[..table.len() - 1], &table[..15], &[]];
+    let rooms = [0, 1, 3, 16, 40];
+    let words = [0, 1, WORK_WORDS - 1, WORK_WORDS, WORK_WORDS + 1];
+    for sides in all_sides() {
+        for question in QUESTIONS {
+            for lent in rooms.iter().flat_map(|&r| words.map(|w| (r, w))) {
+                for table in tables {
+                    let result = pages.ask(sides, (table, question.as_bytes()), lent);
+                    let few = matches!(result, Err(refusal) if refusal.number == 1);
+                    assert_eq!(few, lent.1 < WORK_WORDS, "{question} {lent:?}");
+                }
+            }
+        }
+    }
+}
+
+/// A table that loads, of just so many bytes: its last line is a long tuple.
+fn filled(bytes: usize) -> Vec<u8> {
+    let start = |path: &str| format!("{}T\ttuple", TABLE.replace("P\ta\n", path));
+    let mut text = start("P\ta\n");
+    if (bytes - text.len()).is_multiple_of(2) {
+        text = start("P\tab\n");
+    }
+    let entries = (bytes - text.len() - 1) / 2;
+    text += &"\t0".repeat(entries);
+    text += "\n";
+    assert_eq!(text.len(), bytes);
+    text.into_bytes()
+}
+
+/// Tables and questions of every length around the longest that are taken.
+#[test]
+fn longest_tables_and_questions() {
+    let mut pages = Pages::new();
+    for side in SIDES {
+        for bytes in 32_760..32_776 {
+            let result = pages.ask([side; 4], (&filled(bytes), b"V"), (40, WORK_WORDS));
+            let due = match bytes {
+                ..=32_768 => Ok(b"ok\t1\t8\t3\n".to_vec()),
+                _ => Err(2),
+            };
+            assert_eq!(result.map_err(|refusal| refusal.number), due, "{bytes}");
+        }
+        for bytes in [255, 256, 257, 4_000] {
+            for byte in [b'S', b'\t', b'0', 0, 255] {
+                let question = vec![byte; bytes];
+                let result = pages.ask([side; 4], (TABLE.as_bytes(), &question), (40, WORK_WORDS));
+                assert_eq!(result.map_err(|refusal| refusal.number), Err(11));
+            }
+        }
+    }
+}

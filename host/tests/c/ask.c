@@ -1,0 +1,65 @@
+/* The library called from C, through its header: answers, refusals, and the buffers behind each. */
+#include "yifgrun.h"
+
+#include <stdio.h>
+#include <string.h>
+
+static const char table[] =
+    "typetable\t1\nP\toffice/cat\nT\tbasic\t2\nT\ttuple\nT\tfunc\t0\t1\t1\nT\tnamed\t4\nM\tClose\t0\t2\t1\n"
+    "T\tstruct\nF\tLen\t0\t0\t0\nT\tpointer\t3\nT\tstruct\nF\tBlock\t0\t5\t1\nT\tnamed\t6\n";
+
+static uint8_t answer[64];
+static uint32_t work[YIFGRUN_WORK_WORDS + 1];
+
+/* Asks with the answer buffer full of '.' and the work area full of 7. */
+static int64_t ask(const char *text, const char *question, size_t room, size_t words)
+{
+    size_t i;
+    memset(answer, '.', sizeof answer);
+    for (i = 0; i < sizeof work / sizeof work[0]; i++)
+        work[i] = 7;
+    return yifgrun_ask((const uint8_t *)text, strlen(text), (const uint8_t *)question, strlen(question),
+                       answer, room, work, words);
+}
+
+/* Whether the first words of the work area are all this one, and the others untouched. */
+static int work_is(uint32_t word, size_t words)
+{
+    size_t i;
+    for (i = 0; i < sizeof work / sizeof work[0]; i++)
+        if (work[i] != (i < words ? word : 7))
+            return 0;
+    return 1;
+}
+
+static void print_answer(const char *question)
+{
+    int64_t length = ask(table, question, sizeof answer, YIFGRUN_WORK_WORDS);
+    if (length >= 0)
+        printf("%.*s", (int)length, (const char *)answer);
+    printf("rest %s, work %s\n", answer[length < 0 ? 0 : length] == '.' ? "kept" : "changed",
+           work_is(0, YIFGRUN_WORK_WORDS) ? "zero" : "not zero");
+}
+
+static void print_refusal(const char *text, const char *question, size_t room, size_t words)
+{
+    int64_t number = ask(text, question, room, words);
+    size_t i, kept = 0;
+    for (i = 0; i < sizeof answer; i++)
+        kept += answer[i] == '.';
+    printf("refusal %d line %d, %s, work %s\n", YIFGRUN_REFUSAL(number), YIFGRUN_LINE(number),
+           kept == sizeof answer ? "kept" : "changed",
+           work_is(YIFGRUN_REFUSAL(number) == YIFGRUN_WORK_TOO_SHORT ? 7 : 0, words) ? "right" : "wrong");
+}
+
+int main(void)
+{
+    print_answer("S\t7\t0\t0\tClose");
+    print_answer("M\t7");
+    print_answer("C\t2");
+    print_refusal(table, "V", sizeof answer, YIFGRUN_WORK_WORDS - 1);
+    print_refusal("typetable\t1\nT\tnamed\t9\n", "V", sizeof answer, YIFGRUN_WORK_WORDS);
+    print_refusal(table, "X", 0, YIFGRUN_WORK_WORDS + 1);
+    print_refusal(table, "M\t7", 3, YIFGRUN_WORK_WORDS);
+    return 0;
+}

@@ -1,0 +1,118 @@
+//! The command `yifgrun`: what it prints, what it says on standard error, and its exit status.
+
+use std::io::Write;
+use std::path::PathBuf;
+use std::process::{Command, Output, Stdio};
+use std::{env, fs};
+
+const TABLE: &str = "typetable\t1\nP\toffice/cat\nT\tbasic\t2\nT\ttuple\nT\tfunc\t0\t1\t1\nT\tnamed\t4\n\
+    M\tClose\t0\t2\t1\nT\tstruct\nF\tLen\t0\t0\t0\nT\tpointer\t3\nT\tstruct\nF\tBlock\t0\t5\t1\nT\tnamed\t6\n";
+
+/// A table that contains itself by value: line 2.
+const CYCLE: &str = "typetable\t1\nT\tarray\t3\t1\nT\tnamed\t0\n";
+
+/// Runs the command on arguments and standard input, and gives its status, output and errors.
+fn run(arguments: &[&str], input: &str) -> (i32, String, String) {
+    let mut child = Command::new(env!("CARGO_BIN_EXE_yifgrun"))
+        .args(arguments)
+        .stdin(Stdio::piped())
+        .stdout(Stdio::piped())
+        .stderr(Stdio::piped())
+        .spawn()
+        .expect("the command starts");
+    // A command that does not read its input may end before all is written.
+    let _ = child
+        .stdin
+        .take()
+        .expect("a pipe")
+        .write_all(input.as_bytes());
+    let Output {
+        status,
+        stdout,
+        stderr,
+    } = child.wait_with_output().expect("the command ends");
+    let text = |bytes| String::from_utf8(bytes).expect("text");
+    (status.code().expect("a status"), text(stdout), text(stderr))
+}
+
+/// A file of this name and text, in the tests' own folder.
+fn file(name: &str, text: &str) -> String {
+    let path = PathBuf::from(env!("CARGO_TARGET_TMPDIR")).join(name);
+    fs::write(&path, text).expect("the folder takes a file");
+    path.to_str().expect("a path that is text").to_owned()
+}
+
+fn says(status: i32, out: &str, err: &str) -> (i32, String, String) {
+    (status, out.to_owned(), err.to_owned())
+}
+
+#[test]
+fn one_question() {
+    let table = file("one", TABLE);
+    let answer = says(0, "entry\t0\t1\t0\t0\n", "");
+    assert_eq!(run(&[&table, "S", "7", "0", "0", "Close"], ""), answer);
+    assert_eq!(run(&[&table, "S 7 0 0 Close"], ""), answer);
+    assert_eq!(run(&[&table, " S\t7 0\t0", "Close "], ""), answer);
+    assert_eq!(run(&["-", "S", "7", "0", "0", "Close"], TABLE), answer);
+    let with_questions = file("with_questions", &format!("{TABLE}Q\nV\n"));
+    assert_eq!(run(&[&with_questions, "S 7 0 0 Close"], ""), answer);
+}
+
+#[test]
+fn one_refused_question() {
+    let table = file("refused", TABLE);
+    let wrong = "yifgrun: the question has a wrong form, more than 256 bytes, or a number that the table lacks \
+        (refusal 11)\n";
+    assert_eq!(run(&[&table, "S", "7"], ""), says(1, "", wrong));
+    assert_eq!(run(&[&table, ""], ""), says(1, "", wrong));
+    let second =
+        "yifgrun: the second type of an N question is not itself of kind iface (refusal 12)\n";
+    assert_eq!(run(&[&table, "N 3 7 0"], ""), says(1, "", second));
+}
+
+#[test]
+fn a_refused_table() {
+    let cycle = "yifgrun: line 2: a type contains itself by value (refusal 10)\n";
+    let table = file("cycle", CYCLE);
+    assert_eq!(run(&[&table, "V"], ""), says(1, "", cycle));
+    assert_eq!(run(&[&table], ""), says(1, "", cycle));
+    assert_eq!(
+        run(&[], &format!("{CYCLE}Q\nV\nX\nV\n")),
+        says(1, "", cycle)
+    );
+    assert_eq!(run(&[], &format!("{CYCLE}Q\n")), says(1, "", cycle));
+}
+
+#[test]
+fn a_file_of_questions() {
+    let input = format!("{TABLE}Q\nS\t7\t0\t0\tClose\nM\t7\nC\t2");
+    let answers = says(0, "entry\t0\t1\t0\t0\nset\t1\nsel\t0\t1\t0\t0\nno\n", "");
+    assert_eq!(run(&[&file("questions", &input)], ""), answers);
+    assert_eq!(run(&[], &input), answers);
+    assert_eq!(run(&["-"], &input), answers);
+    assert_eq!(run(&[], TABLE), says(0, "ok\t1\t8\t3\n", ""));
+    assert_eq!(run(&[], &format!("{TABLE}Q\n")), says(0, "", ""));
+}
+
+#[test]
+fn a_file_with_refused_questions() {
+    let input = format!("{TABLE}Q\nC\t2\nN\t3\t7\t0\nC\t0\n");
+    let second = "yifgrun: question 2: the second type of an N question is not itself of kind iface (refusal 12)\n";
+    assert_eq!(run(&[], &input), says(1, "no\nyes\n", second));
+}
+
+#[test]
+fn wrong_use() {
+    let (status, out, err) = run(&["--what"], "");
+    assert_eq!((status, &*out), (2, ""));
+    assert!(
+        err.starts_with("yifgrun: no option --what\nusage: "),
+        "{err}"
+    );
+    let (status, out, err) = run(&["/no/such/file", "V"], "");
+    assert_eq!((status, &*out), (2, ""));
+    assert!(err.starts_with("yifgrun: /no/such/file: "), "{err}");
+    let (status, out, err) = run(&["--help"], "");
+    assert_eq!((status, &*err), (0, ""));
+    assert!(out.contains("usage: yifgrun TABLE QUESTION.."), "{out}");
+}
