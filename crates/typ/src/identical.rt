@@ -28,8 +28,8 @@ const PAIRS: usize = 65_536;
 const PAIR_WORDS: usize = 2_048;
 
 // So many levels may be nested before pairs are put off. Below the last such pair lie only arrays, slices, pointers and channels, whose numbers fall:
-// 2,256 levels at most. A level of the two functions takes 336 bytes of stack as measured, so that 758 KB are enough.
-const DEEP: usize = 2_000;
+// 1,256 levels at most. docs/ENTRY.md has what stack they take.
+const DEEP: usize = 1_000;
 
 fn less(deep: usize) -> usize {
     if deep == 0 { 0 } else { deep - 1 }
