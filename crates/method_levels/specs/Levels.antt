@@ -1,6 +1,6 @@
 -- The levels of a method set as words: for each type how often a level reaches it, and through which place of which type it was first reached.
 use mathlib.Core.Path.{_≡_}
-use mathlib.Core.Bool.{Bool, false, not}
+use mathlib.Core.Bool.{Bool, true, false, not}
 use mathlib.Core.List.{List, [], _∷_, _++_}
 use Prim.Native.Nat.{ℕ, zero, suc, _+_, _*_, _<_, _≤_}
 use lib.Dec.{eqb}
@@ -56,5 +56,7 @@ pub record OnLevel (T : Table) (t : TypeKey) (d : ℕ) (now first : Words) : Typ
   pub counts : (u : TypeKey) → u .0 < size T → wordAt now (u .0) ≡ times (levelAt T t d .walks) u
   -- a type has a level exactly if this or an earlier level reaches it
   pub reached : (u : TypeKey) → u .0 < size T → any (sameType u) (reaches T (levelAt T t d)) ≡ not (eqb (firstWord first u 3) 0)
+  -- The type that led to a reached type is reached, so that the rows that `placesTo` goes through are never written again. (The start's row names itself.)
+  pub led : (u : TypeKey) → any (sameType u) (reaches T (levelAt T t d)) ≡ true → any (sameType (typeKey (firstWord first u 0))) (reaches T (levelAt T t d)) ≡ true
   -- the one walk to a type on the level that reaches it first; what is given stands at the end of such a walk
   pub alone : (e : ℕ) (w : Walk) → e ≤ d → standing (w .at) (levelAt T t e .walks) ≡ w ∷ [] → any (sameType (w .at)) (levelAt T t e .reached) ≡ false → Came first e w

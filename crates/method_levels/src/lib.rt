@@ -1,1 +1,274 @@
-// The levels of a method set: how often each type is reached on a level, and how each type was first reached.
+// The levels of a method set: how often each type is reached on a level, and how each type was first reached. Which order the types of a level are gone
+// through in does not matter: counts are numbers of walks, and what is said of first walks is said of types that one walk alone reaches first.
+ghost use mathlib.Core.Path.{_≡_};
+ghost use mathlib.Core.Bool.{false};
+ghost use mathlib.Core.List.{[], _∷_};
+ghost use Prim.Native.Nat.{suc, _+_, _<_, _≤_};
+ghost use lib.ListN.{length, replicate};
+ghost use lib.Seq.{sets};
+ghost use Rattle.objects.specs.Bounds.{maxTypes, maxPlaces, firstWords};
+ghost use Rattle.objects.specs.Lists.{In};
+ghost use Rattle.objects.specs.Table.{bit};
+ghost use Rattle.objects.specs.Rows.{typeCount, tableOf};
+ghost use Rattle.rules.specs.Library.{Library};
+ghost use Rattle.rules.specs.Ways.{fieldPlaces};
+ghost use Rattle.method_levels.specs.Levels.{levelAt, upToTwo, firstWord, placesTo, OnLevel};
+ghost use Rattle.method_levels.specs.Entering.{fieldTotal, barredRead, flagRead, fieldAt, nextPut, rowPut, firstPut, Clear, Enters};
+use objects::ObjKey;
+use objects::TypeKey;
+use objects::rows::bare;
+use objects::rows::first_member;
+use objects::rows::is_embedded;
+use objects::rows::kind_number;
+use objects::rows::member_total;
+use objects::rows::member_type;
+use objects::rows::named_at;
+use objects::rows::pointer_at;
+use objects::rows::type_count;
+use objects::rows::under;
+use objects::rows::word;
+
+// The words of a row that says how a type was first reached.
+const FIRST_ROW: usize = 4;
+
+// ---- how types were first reached
+
+fn first_word(first: &[u32], u: TypeKey, j: u32) -> u32
+    ensures { λ r. ⌜ r ≡ firstWord (now (first .entry)) u j ⌝ }
+{
+    word(first, FIRST_ROW * (u.0 as usize) + j as usize)
+}
+
+fn put_row(first: &mut [u32], v: TypeKey, from: u32, place: u32, flag: u32, level: u32)
+    requires { ⌜ (v .0 < maxTypes) × (firstWords ≤ length (now first)) ⌝ }
+    ensures { λ _. ⌜ now (first .exit) ≡ rowPut (now (first .entry)) v from place flag level ⌝ }
+{
+    let at = FIRST_ROW * (v.0 as usize);
+    first[at] = from;
+    first[at + 1] = place;
+    first[at + 2] = flag;
+    first[at + 3] = level;
+}
+
+// The places of d steps that led to u, written from the last one back.
+pub fn places(first: &[u32], u: TypeKey, d: u32, out: &mut [u32], from: usize)
+    requires { ⌜ (d ≤ maxPlaces) × (from + d ≤ length (now out)) ⌝ }
+    ensures { λ _. ⌜ now (out .exit) ≡ sets (now (out .entry)) from (placesTo (now (first .entry)) d u) ⌝ }
+{
+    let mut v = u;
+    let mut k = d;
+    while 0 < k {
+        k -= 1;
+        out[from + k as usize] = first_word(first, v, 1);
+        v = TypeKey(first_word(first, v, 0));
+    }
+}
+
+// ---- one step
+
+// Two for two or more.
+fn up_to_two(a: u32, b: u32) -> u32
+    ensures { λ r. ⌜ r ≡ upToTwo (a + b) ⌝ }
+{
+    if 1 < a {
+        return 2;
+    }
+    if 1 < b {
+        return 2;
+    }
+    a + b
+}
+
+// "no way enters a named type that an earlier level has reached". A type that the level being made has entered already may be entered again.
+fn is_barred(rows: &[u32], next: &[u32], first: &[u32], v: TypeKey) -> bool
+    ensures { λ r. ⌜ r ≡ barredRead (now (rows .entry)) (now (next .entry)) (now (first .entry)) v ⌝ }
+{
+    if named_at(rows, v) {
+        if first_word(first, v, 3) == 0 {
+            false
+        } else {
+            word(next, v.0 as usize) == 0
+        }
+    } else {
+        false
+    }
+}
+
+fn flag_on(rows: &[u32], first: &[u32], u: TypeKey, ty: TypeKey) -> u32
+    ensures { λ r. ⌜ r ≡ flagRead (now (rows .entry)) (now (first .entry)) u ty ⌝ }
+{
+    if pointer_at(rows, ty) {
+        1
+    } else {
+        first_word(first, u, 2)
+    }
+}
+
+fn enter(
+    next: &mut [u32],
+    first: &mut [u32],
+    v: TypeKey,
+    count: u32,
+    from: TypeKey,
+    place: u32,
+    flag: u32,
+    level: u32,
+)
+    requires { ⌜ (v .0 < maxTypes) × (maxTypes ≤ length (now next)) × (firstWords ≤ length (now first)) ⌝ }
+    ensures { λ _. ⌜ (now (next .exit) ≡ nextPut (now (next .entry)) v count) × (now (first .exit) ≡ firstPut (now (first .entry)) v (from .0) place flag level) ⌝ }
+{
+    let x = v.0 as usize;
+    next[x] = up_to_two(word(next, x), count);
+    if first_word(first, v, 3) == 0 {
+        put_row(first, v, from.0, place, flag, level);
+    }
+}
+
+// All walks that stand at u, through its field m at this place.
+fn step_field(
+    text: &[u8],
+    rows: &[u32],
+    d: u32,
+    u: TypeKey,
+    count: u32,
+    place: u32,
+    m: ObjKey,
+    next: &mut [u32],
+    first: &mut [u32],
+)
+    requires { ⌜ Library (now text) (now rows) × (d < maxTypes) × (0 < count) × (maxTypes ≤ length (now next)) × (firstWords ≤ length (now first)) × In (fieldAt (now text) (now rows) place m) (fieldPlaces (tableOf (now text) (now rows)) u) ⌝ }
+    ensures { λ _. ⌜ Enters (tableOf (now (text .entry)) (now (rows .entry))) d u count (fieldAt (now (text .entry)) (now (rows .entry)) place m ∷ []) (now (next .entry)) (now (first .entry)) (now (next .exit)) (now (first .exit)) ⌝ }
+{
+    if is_embedded(rows, m) {
+        let ty = member_type(rows, m);
+        let v = bare(rows, ty);
+        if !is_barred(rows, next, first, v) {
+            let flag = flag_on(rows, first, u, ty);
+            enter(next, first, v, count, u, place, flag, d + 2);
+        }
+    }
+}
+
+// ---- the next level
+
+fn field_total(rows: &[u32], u: TypeKey) -> u32
+    ensures { λ r. ⌜ r ≡ fieldTotal (now (rows .entry)) u ⌝ }
+{
+    let s = under(rows, u);
+    if kind_number(rows, s) == 8 {
+        member_total(rows, s)
+    } else {
+        0
+    }
+}
+
+fn from_type(
+    text: &[u8],
+    rows: &[u32],
+    d: u32,
+    u: TypeKey,
+    count: u32,
+    next: &mut [u32],
+    first: &mut [u32],
+)
+    requires { ⌜ Library (now text) (now rows) × (u .0 < typeCount (now rows)) × (d < maxTypes) × (0 < count) × (maxTypes ≤ length (now next)) × (firstWords ≤ length (now first)) ⌝ }
+    ensures { λ _. ⌜ Enters (tableOf (now (text .entry)) (now (rows .entry))) d u count (fieldPlaces (tableOf (now (text .entry)) (now (rows .entry))) u) (now (next .entry)) (now (first .entry)) (now (next .exit)) (now (first .exit)) ⌝ }
+{
+    let n = field_total(rows, u);
+    let from = first_member(rows, under(rows, u));
+    let mut i: u32 = 0;
+    while i < n {
+        step_field(text, rows, d, u, count, i, ObjKey(from + i), next, first);
+        i += 1;
+    }
+}
+
+// A type that the level does not have leads nowhere.
+fn pass_type(
+    text: &[u8],
+    rows: &[u32],
+    d: u32,
+    u: TypeKey,
+    count: u32,
+    next: &mut [u32],
+    first: &mut [u32],
+)
+    requires { ⌜ Library (now text) (now rows) × (u .0 < typeCount (now rows)) × (d < maxTypes) × (maxTypes ≤ length (now next)) × (firstWords ≤ length (now first)) ⌝ }
+    ensures { λ _. ⌜ Enters (tableOf (now (text .entry)) (now (rows .entry))) d u count (fieldPlaces (tableOf (now (text .entry)) (now (rows .entry))) u) (now (next .entry)) (now (first .entry)) (now (next .exit)) (now (first .exit)) ⌝ }
+{
+    if 0 < count {
+        from_type(text, rows, d, u, count, next, first);
+    }
+}
+
+fn clear(next: &mut [u32], n: u32)
+    requires { ⌜ n ≤ length (now next) ⌝ }
+    ensures { λ _. ⌜ Clear (now (next .exit)) n ⌝ }
+{
+    let mut i: u32 = 0;
+    while i < n {
+        next[i as usize] = 0;
+        i += 1;
+    }
+}
+
+fn any_entered(next: &[u32], n: u32) -> bool
+    ensures { λ r. ⌜ (r ≡ false → Clear (now (next .entry)) n) ⌝ }
+{
+    let mut i: u32 = 0;
+    while i < n {
+        if word(next, i as usize) != 0 {
+            return true;
+        }
+        i += 1;
+    }
+    false
+}
+
+fn bit_of(b: bool) -> u32
+    ensures { λ r. ⌜ r ≡ bit b ⌝ }
+{
+    if b { 1 } else { 0 }
+}
+
+// The level with no step: the type itself, one pointer removed.
+pub fn first_level(text: &[u8], rows: &[u32], t: TypeKey, level: &mut [u32], first: &mut [u32])
+    requires { ⌜ Library (now text) (now rows) × (t .0 < typeCount (now rows)) × (maxTypes ≤ length (now level)) × (firstWords ≤ length (now first)) × (now level ≡ replicate (length (now level)) 0) × (now first ≡ replicate (length (now first)) 0) ⌝ }
+    ensures { λ _. ⌜ OnLevel (tableOf (now (text .entry)) (now (rows .entry))) t 0 (now (level .exit)) (now (first .exit)) ⌝ }
+{
+    let v = bare(rows, t);
+    let flag = bit_of(pointer_at(rows, t));
+    level[v.0 as usize] = 1;
+    put_row(first, v, v.0, 0, flag, 1);
+}
+
+// The level after one more step. Answers whether it has a walk.
+pub fn below(
+    text: &[u8],
+    rows: &[u32],
+    t: TypeKey,
+    d: u32,
+    level: &[u32],
+    next: &mut [u32],
+    first: &mut [u32],
+) -> bool
+    requires { ⌜ Library (now text) (now rows) × (t .0 < typeCount (now rows)) × (d < maxTypes) × OnLevel (tableOf (now text) (now rows)) t d (now level) (now first) × (maxTypes ≤ length (now level)) × (maxTypes ≤ length (now next)) × (firstWords ≤ length (now first)) ⌝ }
+    ensures { λ r. ⌜ OnLevel (tableOf (now (text .entry)) (now (rows .entry))) t (suc d) (now (next .exit)) (now (first .exit)) × (r ≡ false → levelAt (tableOf (now (text .entry)) (now (rows .entry))) t (suc d) .walks ≡ []) ⌝ }
+{
+    let n = type_count(rows);
+    clear(next, n);
+    let mut u: u32 = 0;
+    while u < n {
+        pass_type(
+            text,
+            rows,
+            d,
+            TypeKey(u),
+            word(level, u as usize),
+            next,
+            first,
+        );
+        u += 1;
+    }
+    any_entered(next, n)
+}

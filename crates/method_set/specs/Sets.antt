@@ -29,4 +29,4 @@ selNumbers s = s .member .key .0 ∷ bit (s .flag) ∷ s .places
 pub record SetHeld (text : Bytes) (rows : Words) (t : TypeKey) (given sels first : Words) (n : ℕ) : Type 0 where
   pub lines : map (λ k. selAt sels first (objKey k)) (take n given) ≡ map selNumbers (map (selOf (tableOf text rows)) (methodSet (tableOf text rows) t))
   pub fits : (n ≤ maxMembers) × (n ≤ length given)
-  pub short : (k : ℕ) → In k (take n given) → selWord sels (objKey k) 1 ≤ maxPlaces
+  pub short : (k : ℕ) → In k (take n given) → (1 ≤ selWord sels (objKey k) 1) × (selWord sels (objKey k) 1 ≤ maxPlaces)

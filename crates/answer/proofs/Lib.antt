@@ -1,0 +1,4 @@
+pub mod Saying
+pub mod Members
+pub mod Setting
+pub mod Answering

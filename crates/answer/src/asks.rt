@@ -1,0 +1,135 @@
+// The questions, one function for each letter. Each has the local arrays that it alone needs.
+ghost use mathlib.Core.Path.{_≡_};
+ghost use Prim.Native.Nat.{_+_, _≤_, _<_};
+ghost use lib.ListN.{length, drop, replicate};
+ghost use Rattle.objects.specs.Bounds.{markWords, maxPlaces, searchWords};
+ghost use Rattle.objects.specs.Rows.{typeCount, packageCount, pkgOf, bytesAt, tableOf};
+ghost use Rattle.rules.specs.Library.{Library};
+ghost use Rattle.rules.specs.Question.{askS, askM, askN, askI, askC, askV};
+ghost use Rattle.rules.specs.Ways.{select};
+ghost use Rattle.selection.specs.Results.{Selects, nameMeant};
+ghost use Rattle.answer.specs.Done.{Does, due};
+use crate::Done;
+use crate::lines::say_counts;
+use crate::lines::say_missing;
+use crate::lines::say_selected;
+use crate::lines::say_truth;
+use crate::sets::say_set;
+use lookup::lookup_field_or_method;
+use lookup::missing::missing_method;
+use objects::TypeKey;
+use selection::Name;
+use selection::Selection;
+use typ::comparable::comparable;
+use typ::identical::identical;
+
+// S, with the places behind two words that are left free.
+fn select_behind(
+    text: &[u8],
+    rows: &[u32],
+    marks: &mut [u32],
+    search: &mut [u32],
+    numbers: &mut [u32],
+    names: &[u8],
+    q: Name,
+    t: TypeKey,
+    a: bool,
+) -> Selection
+    requires { ⌜ Library (now text) (now rows) ⌝ }
+    requires { ⌜ (t .0 < typeCount (now rows)) × (q .pkg ≤ packageCount (now rows)) × (markWords ≤ length (now marks)) × (searchWords ≤ length (now search)) × (maxPlaces + 2 ≤ length (now numbers)) ⌝ }
+    requires { ⌜ now marks ≡ replicate (length (now marks)) 0 ⌝ }
+    ensures { λ r. ⌜ Selects (now (text .entry)) (now (rows .entry)) r (drop 2 (now (numbers .exit))) (select (tableOf (now (text .entry)) (now (rows .entry))) (nameMeant (now (text .entry)) (now (rows .entry)) (now (names .entry)) q) t a) ⌝ }
+    ensures { λ _. ⌜ now (marks .exit) ≡ now (marks .entry) ⌝ }
+{
+    lookup_field_or_method(text, rows, marks, search, &mut numbers[2..], names, q, t, a)
+}
+
+pub fn ask_s(
+    text: &[u8],
+    rows: &[u32],
+    marks: &mut [u32],
+    line: &[u8],
+    answer: &mut [u8],
+    q: Name,
+    t: TypeKey,
+    a: bool,
+) -> Done
+    requires { ⌜ Library (now text) (now rows) ⌝ }
+    requires { ⌜ (t .0 < typeCount (now rows)) × (q .pkg ≤ packageCount (now rows)) × (markWords ≤ length (now marks)) ⌝ }
+    requires { ⌜ now marks ≡ replicate (length (now marks)) 0 ⌝ }
+    ensures { λ r. ⌜ Does (due (tableOf (now (text .entry)) (now (rows .entry))) (length (now (answer .entry))) (askS t a (pkgOf (q .pkg)) (bytesAt (now (line .entry)) (q .at) (q .len)))) r (now (answer .entry)) (now (answer .exit)) ⌝ }
+    ensures { λ _. ⌜ now (marks .exit) ≡ now (marks .entry) ⌝ }
+{
+    let mut search = [0u32; 1_792];
+    let mut numbers = [0u32; 258];
+    let s = select_behind(text, rows, marks, &mut search, &mut numbers, line, q, t, a);
+    say_selected(answer, s, &mut numbers)
+}
+
+pub fn ask_m(text: &[u8], rows: &[u32], answer: &mut [u8], t: TypeKey) -> Done
+    requires { ⌜ Library (now text) (now rows) ⌝ }
+    requires { ⌜ t .0 < typeCount (now rows) ⌝ }
+    ensures { λ r. ⌜ Does (due (tableOf (now (text .entry)) (now (rows .entry))) (length (now (answer .entry))) (askM t)) r (now (answer .entry)) (now (answer .exit)) ⌝ }
+{
+    let mut given = [0u32; 1_024];
+    let mut sels = [0u32; 6_144];
+    let mut first = [0u32; 1_024];
+    let n = method_set::new(text, rows, t, &mut given, &mut sels, &mut first);
+    say_set(answer, &given, n, &sels, &first)
+}
+
+pub fn ask_n(
+    text: &[u8],
+    rows: &[u32],
+    marks: &mut [u32],
+    answer: &mut [u8],
+    t: TypeKey,
+    i: TypeKey,
+    s: bool,
+) -> Done
+    requires { ⌜ Library (now text) (now rows) ⌝ }
+    requires { ⌜ (t .0 < typeCount (now rows)) × (i .0 < typeCount (now rows)) × (markWords ≤ length (now marks)) ⌝ }
+    requires { ⌜ now marks ≡ replicate (length (now marks)) 0 ⌝ }
+    ensures { λ r. ⌜ Does (due (tableOf (now (text .entry)) (now (rows .entry))) (length (now (answer .entry))) (askN t i s)) r (now (answer .entry)) (now (answer .exit)) ⌝ }
+    ensures { λ _. ⌜ now (marks .exit) ≡ now (marks .entry) ⌝ }
+{
+    let mut search = [0u32; 1_792];
+    let mut places = [0u32; 256];
+    let m = missing_method(text, rows, marks, &mut search, &mut places, t, i, s);
+    say_missing(answer, m)
+}
+
+pub fn ask_i(
+    text: &[u8],
+    rows: &[u32],
+    marks: &mut [u32],
+    answer: &mut [u8],
+    x: TypeKey,
+    y: TypeKey,
+) -> Done
+    requires { ⌜ Library (now text) (now rows) ⌝ }
+    requires { ⌜ (x .0 < typeCount (now rows)) × (y .0 < typeCount (now rows)) × (markWords ≤ length (now marks)) ⌝ }
+    requires { ⌜ now marks ≡ replicate (length (now marks)) 0 ⌝ }
+    ensures { λ r. ⌜ Does (due (tableOf (now (text .entry)) (now (rows .entry))) (length (now (answer .entry))) (askI x y)) r (now (answer .entry)) (now (answer .exit)) ⌝ }
+    ensures { λ _. ⌜ now (marks .exit) ≡ now (marks .entry) ⌝ }
+{
+    let b = identical(text, rows, marks, x, y);
+    say_truth(answer, b)
+}
+
+pub fn ask_c(text: &[u8], rows: &[u32], marks: &mut [u32], answer: &mut [u8], t: TypeKey) -> Done
+    requires { ⌜ Library (now text) (now rows) ⌝ }
+    requires { ⌜ (t .0 < typeCount (now rows)) × (markWords ≤ length (now marks)) ⌝ }
+    requires { ⌜ now marks ≡ replicate (length (now marks)) 0 ⌝ }
+    ensures { λ r. ⌜ Does (due (tableOf (now (text .entry)) (now (rows .entry))) (length (now (answer .entry))) (askC t)) r (now (answer .entry)) (now (answer .exit)) ⌝ }
+    ensures { λ _. ⌜ now (marks .exit) ≡ now (marks .entry) ⌝ }
+{
+    let b = comparable(text, rows, marks, t);
+    say_truth(answer, b)
+}
+
+pub fn ask_v(text: &[u8], rows: &[u32], answer: &mut [u8]) -> Done
+    ensures { λ r. ⌜ Does (due (tableOf (now (text .entry)) (now (rows .entry))) (length (now (answer .entry))) askV) r (now (answer .entry)) (now (answer .exit)) ⌝ }
+{
+    say_counts(answer, rows)
+}

@@ -1,0 +1,27 @@
+-- `levels::words::index_of` meets its contract.
+use Rattle.levels.specs.Words.{indexOf}
+use borrow.Author.Needs.{needs}
+use Rattle.levels.proofs.words.index_of.Statement.{statement}
+use Rattle.levels.proofs.words.index_of.Tie as tie
+
+cast-word : tie.Need-cast-word
+cast-word c = search needs
+
+add-word : tie.Need-add-word
+add-word c = search needs
+
+word-requires : tie.Need-word-requires
+word-requires c κs = search needs
+
+returns : tie.Need-returns
+unfolding indexOf
+returns c = (c .word .ensures)
+
+pub index-of-spec : {M : Type 1} → statement M
+index-of-spec =
+    tie.close
+    (tie.spec
+    cast-word
+    add-word
+    word-requires
+    returns)

@@ -1,0 +1,73 @@
+// The rows of a search in lent words (specs/Words.antt).
+ghost use mathlib.Core.Path.{_≡_};
+ghost use mathlib.Core.List.{[], _∷_};
+ghost use Prim.Native.Nat.{_<_, _≤_};
+ghost use lib.ListN.{length};
+ghost use Rattle.objects.specs.Bounds.{maxTypes, searchWords};
+ghost use Rattle.objects.specs.Rows.{typeCount};
+ghost use Rattle.ways.specs.Search.{rootRow};
+ghost use Rattle.levels.specs.Words.{Unindexed, indexOf, rowPut, rowsOf};
+ghost use Rattle.levels.specs.State.{Searching};
+use multiples::EmbeddedType;
+use multiples::save;
+use objects::ObjKey;
+use objects::TypeKey;
+use objects::rows::word;
+
+// "256 types": a row of six words for each, and a word for each
+const MAX_TYPES: usize = 256;
+
+pub const ROW: usize = 6;
+
+const INDEX_AT: usize = 1_536;
+
+// The number of the type's row and one, 0 for none.
+pub fn index_of(search: &[u32], t: TypeKey) -> u32
+    ensures { λ r. ⌜ r ≡ indexOf (now (search .entry)) t ⌝ }
+{
+    word(search, INDEX_AT + t.0 as usize)
+}
+
+// No type has a row.
+fn clear_index(search: &mut [u32])
+    requires { ⌜ searchWords ≤ length (now search) ⌝ }
+    ensures { λ _. ⌜ Unindexed (now (search .exit)) ⌝ }
+{
+    let mut i: usize = 0;
+    while i < MAX_TYPES {
+        search[INDEX_AT + i] = 0;
+        i += 1;
+    }
+}
+
+// Row n, and its type's word.
+pub fn put_row(search: &mut [u32], n: usize, e: EmbeddedType, key: ObjKey)
+    requires { ⌜ (searchWords ≤ length (now search)) × (n < maxTypes) × (e .typ .0 < maxTypes) ⌝ }
+    ensures { λ _. ⌜ now (search .exit) ≡ rowPut (now (search .entry)) n e key ⌝ }
+{
+    save(search, ROW * n, e);
+    search[ROW * n + 5] = key.0;
+    let t = e.typ.0;
+    search[INDEX_AT + t as usize] = (n + 1) as u32;
+}
+
+// The row of the type that the search starts at is the only one.
+pub fn put_root(text: &[u8], rows: &[u32], search: &mut [u32], t: TypeKey, f: bool)
+    requires { ⌜ (searchWords ≤ length (now search)) × (t .0 < typeCount (now rows)) × (typeCount (now rows) ≤ maxTypes) ⌝ }
+    ensures { λ _. ⌜ Searching (now (text .entry)) (now (rows .entry)) (now (search .exit)) 1 1 ⌝ }
+    ensures { λ _. ⌜ rowsOf (now (search .exit)) 1 ≡ rootRow t f ∷ [] ⌝ }
+{
+    clear_index(search);
+    put_row(
+        search,
+        0,
+        EmbeddedType {
+            typ: t,
+            parent: 0,
+            place: 0,
+            indirect: f,
+            multiples: false,
+        },
+        ObjKey(0),
+    );
+}

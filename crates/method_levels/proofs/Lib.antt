@@ -1,0 +1,9 @@
+pub mod CountLaws
+pub mod ReachLaws
+pub mod FirstLaws
+pub mod EnterLaws
+pub mod LevelLaws
+pub mod WordLaws
+pub mod FieldLaws
+pub mod StartLaws
+pub mod TypeLaws

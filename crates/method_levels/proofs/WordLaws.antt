@@ -1,0 +1,132 @@
+-- What the small functions read and write, way out by way out.
+use mathlib.Core.Path.{_≡_, refl, sym, ap, _∙_}
+use mathlib.Core.Bool.{Bool, true, false}
+use mathlib.Core.List.{List, [], _∷_, _++_}
+use Prim.Native.Nat.{ℕ, zero, suc, _+_, _-_, _<_, _≤_}
+use native.Mathlib.Omega.{arith}
+use lib.Dec.{eqb, ltb}
+use lib.ListN.{length, set, length-append}
+use lib.Seq.{sets, set-comm}
+use borrow.Author.Tests.{ne-eqb, eqb-true, eqb-false, ltb-true, ltb-false}
+use Rattle.objects.specs.declared.TypeKey.{TypeKey}
+use Rattle.objects.specs.Table.{typeKey}
+use Rattle.objects.specs.Rows.{Words, wordAt}
+use Rattle.objects.specs.Types.{numberRead, underRead, namedRead, pointerRead, totalRead}
+use Rattle.objects.proofs.ListLaws.{cases}
+use Rattle.objects.proofs.Stores.{word-put, word-kept}
+use Rattle.method_levels.specs.Levels.{upToTwo, firstWord, placesTo}
+use Rattle.method_levels.specs.Entering.{fieldTotal, barredRead, flagRead, nextPut, rowPut, firstPut, Clear}
+use Rattle.method_levels.proofs.CountLaws.{two-less, two-more}
+
+-- ---- two or more
+
+module _ (a b : ℕ) where
+  pub two-left : 1 < a → 2 ≡ upToTwo (a + b)
+  two-left h = sym (two-more (a + b) (omega arith))
+
+  pub two-right : 1 < b → 2 ≡ upToTwo (a + b)
+  two-right h = sym (two-more (a + b) (omega arith))
+
+  pub two-both : a ≤ 1 → b ≤ 1 → a + b ≡ upToTwo (a + b)
+  two-both h k =
+      cases (ltb (a + b) 2)
+      (λ e. sym (two-less (a + b) (ltb-true (a + b) 2 e)))
+      (λ e. let l = ltb-false (a + b) 2 e in let z : a + b ≡ 2 = omega arith in z ∙ sym (two-more (a + b) l))
+
+-- ---- barred
+
+module _ (rows next first : Words) (v : TypeKey) {n : Bool} (p : n ≡ namedRead rows v) where
+  pub barred-plain : n ≡ false → false ≡ barredRead rows next first v
+  unfolding barredRead
+  barred-plain e = sym (rw (← p, e))
+
+  module _ (e : n ≡ true) {s : ℕ} (q : s ≡ firstWord first v 3) where
+    pub barred-new : s ≡ 0 → false ≡ barredRead rows next first v
+    unfolding barredRead
+    barred-new z = sym (rw (← p, e, ← q, z))
+
+    pub barred-old : (s ≡ 0 → ⊥) → {k : ℕ} → k ≡ wordAt next (v .0) → eqb k 0 ≡ barredRead rows next first v
+    unfolding barredRead
+    barred-old z r = sym (rw (← p, e, ← q, ne-eqb s 0 z, ← r))
+
+-- ---- the flag
+
+module _ (rows first : Words) (u type : TypeKey) {p : Bool} (q : p ≡ pointerRead rows type) where
+  pub flag-pointer : p ≡ true → 1 ≡ flagRead rows first u type
+  unfolding flagRead
+  flag-pointer e = sym (rw (← q, e))
+
+  pub flag-plain : p ≡ false → {f : ℕ} → f ≡ firstWord first u 2 → f ≡ flagRead rows first u type
+  unfolding flagRead
+  flag-plain e r = sym (rw (← q, e, ← r))
+
+-- ---- a type is entered
+
+pub next-put : (next : Words) (v : TypeKey) (count : ℕ) {k s : ℕ} → k ≡ wordAt next (v .0) → s ≡ upToTwo (k + count) → set next (v .0) s ≡ nextPut next v count
+unfolding nextPut
+next-put next v count p q = rw (← p, ← q)
+
+module _ (first : Words) (v : TypeKey) (a b f l : ℕ) {s : ℕ} (p : s ≡ firstWord first v 3) where
+  pub first-put : s ≡ 0 → {after : Words} → after ≡ rowPut first v a b f l → after ≡ firstPut first v a b f l
+  unfolding firstPut
+  first-put z q = q ∙ sym (rw (← p, z))
+
+  pub first-kept : (s ≡ 0 → ⊥) → first ≡ firstPut first v a b f l
+  unfolding firstPut
+  first-kept z = sym (rw (← p, ne-eqb s 0 z))
+
+-- ---- the number of fields
+
+module _ (rows : Words) (u : TypeKey) {s : TypeKey} (p : s ≡ underRead rows u) {k : ℕ} (q : k ≡ numberRead rows s) where
+  pub total-struct : k ≡ 8 → {r : ℕ} → r ≡ totalRead rows s → r ≡ fieldTotal rows u
+  unfolding fieldTotal
+  total-struct e h = h ∙ sym (rw (← p, ← q, e))
+
+  pub total-none : (k ≡ 8 → ⊥) → 0 ≡ fieldTotal rows u
+  unfolding fieldTotal
+  total-none e = sym (rw (← p, ← q, ne-eqb k 8 e))
+
+-- ---- words that are 0
+
+pub clear-more : (next : Words) (i : ℕ) → i < length next → Clear next i → Clear (set next i 0) (i + 1)
+clear-more next i l h j k =
+    cases (eqb j i)
+    (λ e. let z = eqb-true j i e in rw z (word-put next i 0 l))
+    (λ e. let ne = eqb-false j i e in word-kept next i 0 j ne ∙ h j (omega arith))
+
+pub clear-on : (next : Words) (i : ℕ) → Clear next i → {k : ℕ} → k ≡ wordAt next i → k ≡ 0 → Clear next (i + 1)
+clear-on next i h p z j l =
+    cases (eqb j i)
+    (λ e. let q = eqb-true j i e in rw q (sym p ∙ z))
+    (λ e. let ne = eqb-false j i e in h j (omega arith))
+
+pub clear-all : (next : Words) (n i : ℕ) → n ≤ i → Clear next i → Clear next n
+clear-all next n i l h j k = h j (omega arith)
+
+-- ---- places
+
+sets-snoc : (xs l : List ℕ) (i y : ℕ) → sets l i (xs ++ (y ∷ [])) ≡ sets (set l (i + length xs) y) i xs
+sets-snoc [] l i y = let e : i + 0 ≡ i = omega arith in rw e
+sets-snoc (x ∷ xs) l i y =
+    let e : suc i + length xs ≡ i + suc (length xs) = omega arith in
+    sets-snoc xs (set l i x) (suc i) y ∙ ap (λ m. sets m (suc i) xs) (rw e (set-comm l i (i + suc (length xs)) x y (λ z. omega arith)))
+
+places-length : (first : Words) (k : ℕ) (u : TypeKey) → length (placesTo first k u) ≡ k
+unfolding placesTo
+places-length first zero u = refl
+places-length first (suc k) u = length-append (placesTo first k (typeKey (firstWord first u 0))) (firstWord first u 1 ∷ []) ∙ (let h = places-length first k (typeKey (firstWord first u 0)) in omega (arith, h))
+
+-- the last place is written; the others lead to the type before
+pub places-more : (first out : Words) (from k : ℕ) (u : TypeKey) → 0 < k → {p w : ℕ} → p ≡ firstWord first u 1 → w ≡ firstWord first u 0
+    → sets out from (placesTo first k u) ≡ sets (set out (from + (k - 1)) p) from (placesTo first (k - 1) (typeKey w))
+unfolding placesTo
+places-more first out from zero u l p q = absurd (omega arith)
+places-more first out from (suc k) u l p q =
+    let z : suc k - 1 ≡ k = omega arith in
+    rw (z, q, p)
+    (sets-snoc (placesTo first k (typeKey (firstWord first u 0))) out from (firstWord first u 1) ∙ ap (λ n. sets (set out (from + n) (firstWord first u 1)) from (placesTo first k (typeKey (firstWord first u 0)))) (places-length first k (typeKey (firstWord first u 0))))
+
+pub places-end : (first out : Words) (from k : ℕ) (u : TypeKey) → k ≤ 0 → sets out from (placesTo first k u) ≡ out
+unfolding placesTo
+places-end first out from zero u l = refl
+places-end first out from (suc k) u l = absurd (omega arith)

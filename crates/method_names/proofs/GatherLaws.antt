@@ -1,0 +1,237 @@
+-- What the code knows (specs/Search.antt) after each member, and that the contract follows at the end.
+use mathlib.Core.Path.{_≡_, refl, sym, ap, _∙_, subst}
+use mathlib.Core.Bool.{true, false}
+use mathlib.Core.List.{List, _∷_, _++_, map}
+use mathlib.Core.Logic.{inl, inr}
+use Prim.Native.Nat.{ℕ, zero, suc, _+_, _-_, _<_, _≤_}
+use native.Mathlib.Omega.{arith}
+use native.Mathlib.Nat.{eq-or-lt-of-le}
+use lib.ListN.{length, getD, take, drop, set, replicate}
+use lib.Seq.{length-take-le, getD-take}
+use Rattle.objects.specs.Bounds.{maxMembers}
+use Rattle.objects.specs.Lists.{Bytes, In, Sorted}
+use Rattle.objects.specs.Table.{Member, objKey, isMethod}
+use Rattle.objects.specs.Rows.{Words, wordAt, memberCountOf, memberAt, tableOf}
+use Rattle.objects.specs.Types.{methodRead}
+use Rattle.objects.proofs.ListLaws.{clash, either, In-map, map-In-to}
+use Rattle.objects.proofs.PartLaws.{getD-In}
+use Rattle.objects.proofs.RowLaws.{method-meant}
+use Rattle.objects.proofs.SortedLaws.{sorted-same}
+use Rattle.text.specs.Bytes.{belowBytes}
+use Rattle.text.proofs.ByteLaws.{below-irrefl, below-trans}
+use Rattle.rules.specs.Library.{Library}
+use Rattle.rules.specs.Members.{Identity, identityOf, idBytes}
+use Rattle.rules.specs.MethodSet.{methodNames}
+use Rattle.rules.proofs.MethodNames.{Lower, names-listed, names-ascend}
+use Rattle.method_names.specs.declared.Place.{Place}
+use Rattle.method_names.specs.Names.{identityAt, NamesHeld, Indexed}
+use Rattle.method_names.specs.Search.{idAt, Listed, Placed, Worded, Known, Gathered, Filled}
+use Rattle.method_names.proofs.KeyMembers.{member-is, key-below, stands-at, sound-rows}
+use Rattle.method_names.proofs.SortedParts.{In-put, put-In, put-In-self, In-parts, sorted-put, sorted-map}
+use Rattle.method_names.proofs.SearchLaws.{found-at, new-at, same-identity, other-identity, by-word}
+
+module _ (text : Bytes) (rows : Words) where
+  -- ---- the word of one member
+
+  module _ (lib : Library text rows) (names : Words) (n : ℕ) (fits : n ≤ length names) (listed : Listed text rows (take n names)) (m : ℕ) (hm : m < memberCountOf rows)
+      {r : Place} (s : Placed text rows (take n names) (idAt text rows m) r) (i : ℕ) where
+    pub word-found : r ≡ Place.Found i → Worded text rows (take n names) m (getD names i 0 + 1)
+    word-found p =
+        let f = found-at text rows (take n names) (idAt text rows m) s p in
+        let c : length (take n names) ≡ n = length-take-le n names fits in
+        let inn : i < n = rw c at (f .0) in
+        let a : getD (take n names) i 0 ≡ getD names i 0 = getD-take n names i 0 inn in
+        let here : In (getD names i 0) (take n names) = subst (λ x. In x (take n names)) a (getD-In (take n names) i 0 (f .0)) in
+        let same = same-identity text rows lib (getD names i 0) m (listed .keys (getD names i 0) here) hm (rw a at (f .1)) in
+        record {
+          some = λ k e. let z : getD names i 0 ≡ k = omega arith in (subst (λ x. In x (take n names)) z here, subst (λ x. identityAt text rows x ≡ identityAt text rows m) z same);
+          none = λ k e j. absurd (omega arith);
+        }
+
+    pub word-none : r ≡ Place.At i → Worded text rows (take n names) m 0
+    word-none p =
+        let f = new-at text rows (take n names) (idAt text rows m) s p in
+        record {
+          some = λ k e. absurd (omega arith);
+          none = λ k w j. other-identity text rows lib k m (λ e.
+              either (In-parts i (take n names) k j)
+              (λ a. clash (subst (λ x. belowBytes x (idAt text rows m) ≡ true) e (f .1 k a)) (below-irrefl (idAt text rows m)))
+              (λ a. clash (subst (λ x. belowBytes (idAt text rows m) x ≡ true) e (f .2 k a)) (below-irrefl (idAt text rows m))));
+        }
+
+  -- the index with it
+  pub known-word : (l : List ℕ) (index : Words) (m x : ℕ) → m < length index → Worded text rows l m x → Known text rows l index → Known text rows l (set index m x)
+  known-word l index m x h s known j k hj e = by-word index m x h j (λ q w. rw q (s .some k (sym w ∙ e))) (λ q w. known j k hj (sym w ∙ e))
+
+  -- ---- no name yet
+
+  zeros : (n i : ℕ) → _≡_ {A = ℕ} (getD (replicate n 0) i 0) 0
+  zeros zero i = refl
+  zeros (suc n) zero = refl
+  zeros (suc n) (suc i) = zeros n i
+
+  pub gather-start : (names index : Words) → index ≡ replicate (length index) 0 → {c : ℕ} → c ≡ memberCountOf rows → Gathered text rows names 0 index c
+  unfolding wordAt
+  gather-start names index e p = record {
+    listed = record { sorted = tt; keys = λ k i. absurd i; methods = λ k i. absurd i };
+    room = (omega arith, omega arith);
+    known = λ m k h f. let z : getD index m 0 ≡ 0 = ap (λ l. getD l m 0) e ∙ zeros (length index) m in absurd (omega arith);
+    done = λ k a b. absurd (omega arith);
+  }
+
+  -- before the next member, and after the last
+  pub gather-on : (names : Words) (n : ℕ) (index : Words) (m : ℕ) → 0 < m → Gathered text rows names n index m → Gathered text rows names n index (m - 1 + 1)
+  gather-on names n index m h g = let z : m - 1 + 1 ≡ m = omega arith in subst (Gathered text rows names n index) (sym z) g
+
+  pub gather-end : (names : Words) (n : ℕ) (index : Words) (m : ℕ) → m ≤ 0 → Gathered text rows names n index m → Gathered text rows names n index 0
+  gather-end names n index m h g = let z : m ≡ 0 = omega arith in subst (Gathered text rows names n index) z g
+
+  module _ (names : Words) (n : ℕ) (index : Words) (m : ℕ) (g : Gathered text rows names n index (m + 1)) where
+    -- a member that is no method
+    pub gather-skip : methodRead rows (objKey m) ≡ false → Gathered text rows names n index m
+    gather-skip e =
+        let r = g .room in
+        record {
+          listed = g .listed;
+          room = (r .0, omega arith);
+          known = g .known;
+          done = λ k a b f. either (eq-or-lt-of-le a) (λ q. clash f (subst (λ i. methodRead rows (objKey i) ≡ false) q e)) (λ l. g .done k (omega arith) b f);
+        }
+
+    pub left : m < memberCountOf rows
+    left = let r = g .room in omega arith
+
+    module _ (lib : Library text rows) (e : methodRead rows (objKey m) ≡ true) (i : ℕ) {r : Place} (s : Placed text rows (take n names) (idAt text rows m) r) where
+      -- its name is there
+      pub gather-found : r ≡ Place.Found i → maxMembers ≤ length index → Gathered text rows names n (set index m (getD names i 0 + 1)) m
+      gather-found p h =
+          let w = g .room in
+          let lm = lib .laid .members in
+          record {
+            listed = g .listed;
+            room = (w .0, omega arith);
+            known = known-word (take n names) index m (getD names i 0 + 1) (omega arith) (word-found lib names n (w .0) (g .listed) m left s i p) (g .known);
+            done = λ k x y z. by-word index m (getD names i 0 + 1) (omega arith) k
+                (λ q v u. absurd (omega arith))
+                (λ q v u. g .done k (omega arith) y z (sym v ∙ u));
+          }
+
+      -- it is a new one
+      pub gather-new : r ≡ Place.At i → maxMembers ≤ length index → maxMembers ≤ length names → (after : Words) → length after ≡ length names
+          → take (n + 1) after ≡ take i (take n names) ++ (m ∷ drop i (take n names))
+          → Gathered text rows after (n + 1) (set index m (m + 1)) m
+      gather-new p h hn after len put =
+          let w = g .room in
+          let lm = lib .laid .members in
+          let l = take n names in
+          let f = new-at text rows l (idAt text rows m) s p in
+          gathered put (record {
+            sorted = sorted-put (λ (a b : ℕ). belowBytes (idAt text rows a) (idAt text rows b) ≡ true) i l m (g .listed .sorted) (f .1) (f .2);
+            keys = λ k j. either (In-put i l m k j) (λ q. rw q left) (λ q. g .listed .keys k q);
+            methods = λ k j. either (In-put i l m k j) (λ q. rw q e) (λ q. g .listed .methods k q);
+          }) (known-word (take i l ++ (m ∷ drop i l)) index m (m + 1) (omega arith) own (λ j y a b. let v = g .known j y a b in (put-In i l m y (v .0), v .1)))
+        where
+          own : Worded text rows (take i (take n names) ++ (m ∷ drop i (take n names))) m (m + 1)
+          own = record {
+            some = λ k q. let z : m ≡ k = omega arith in (subst (λ x. In x (take i (take n names) ++ (m ∷ drop i (take n names)))) z (put-In-self i (take n names) m), ap (identityAt text rows) (sym z));
+            none = λ k q j. absurd (omega arith);
+          }
+
+          -- the names after it, whatever list they are
+          gathered : {q : List ℕ} → take (n + 1) after ≡ q → Listed text rows q → Known text rows q (set index m (m + 1)) → Gathered text rows after (n + 1) (set index m (m + 1)) m
+          gathered {q} eq li kn =
+              let w = g .room in
+              let lm = lib .laid .members in
+              record {
+                listed = subst (Listed text rows) (sym eq) li;
+                room = (omega arith, omega arith);
+                known = subst (λ x. Known text rows x (set index m (m + 1))) (sym eq) kn;
+                done = λ k x y z. by-word index m (m + 1) (omega arith) k
+                    (λ q v u. absurd (omega arith))
+                    (λ q v u. g .done k (omega arith) y z (sym v ∙ u));
+              }
+
+  -- ---- fields
+
+  pub fill-start : (names : Words) (n : ℕ) (index : Words) → Gathered text rows names n index 0 → Filled text rows (take n names) index 0
+  fill-start names n index g = record {
+    known = g .known;
+    none = λ j k h c w i. either c (λ l. absurd (omega arith)) (λ e. absurd (g .done j (omega arith) h e w));
+  }
+
+  pub fill-end : (l : List ℕ) (index : Words) (m : ℕ) {count : ℕ} → count ≡ memberCountOf rows → m ≤ count → count ≤ m → Filled text rows l index m → Filled text rows l index (memberCountOf rows)
+  fill-end l index m p a b f = let z : m ≡ memberCountOf rows = omega arith in subst (Filled text rows l index) z f
+
+  module _ (l : List ℕ) (index : Words) (m : ℕ) (g : Filled text rows l index m) where
+    pub fill-method : m < memberCountOf rows → methodRead rows (objKey m) ≡ true → Filled text rows l index (m + 1)
+    fill-method h e = record {
+      known = g .known;
+      none = λ j k hj c w i. either c
+          (λ a. let b : j ≤ m = omega arith in either (eq-or-lt-of-le b) (λ q. rw q (g .none m k h (inr e) (subst (λ x. wordAt index x ≡ 0) q w) i)) (λ q. g .none j k hj (inl q) w i))
+          (λ f. g .none j k hj (inr f) w i);
+    }
+
+    pub fill-field : (x : ℕ) → Worded text rows l m x → m < length index → Filled text rows l (set index m x) (m + 1)
+    fill-field x s h = record {
+      known = known-word l index m x h s (g .known);
+      none = λ j k hj c e i. by-word index m x h j
+          (λ q w. rw q (s .none k (sym w ∙ e) i))
+          (λ q w. g .none j k hj (either c (λ a. inl (omega arith)) (λ a. inr a)) (sym w ∙ e) i);
+    }
+
+  -- ---- the end
+
+  module _ (lib : Library text rows) (names : Words) (n : ℕ) (index : Words) (g : Gathered text rows names n index 0) where
+    named-method : (x : Identity) → In x (map (identityAt text rows) (take n names)) → In x (methodNames (tableOf text rows))
+    unfolding identityAt
+    named-method x i =
+        let r = In-map (identityAt text rows) (take n names) x i in
+        let t = stands-at text rows lib (r .0) (g .listed .keys (r .0) (r .1)) in
+        names-listed (tableOf text rows) x .1
+        (record {
+          type = t .0;
+          method = memberAt text rows (objKey (r .0));
+          stands = t .1;
+          isOne = method-meant text rows (objKey (r .0)) ∙ g .listed .methods (r .0) (r .1);
+          named = r .2;
+        })
+
+    not-zero : (w : ℕ) → (w ≡ 0 → ⊥) → (k : ℕ) × (w ≡ suc k)
+    not-zero zero h = absurd (h refl)
+    not-zero (suc k) h = (k, refl)
+
+    method-named : (x : Identity) → In x (methodNames (tableOf text rows)) → In x (map (identityAt text rows) (take n names))
+    unfolding identityAt
+    method-named x i =
+        let h = names-listed (tableOf text rows) x .0 i in
+        let k = h .method .key .0 in
+        let e : h .method ≡ memberAt text rows (objKey k) = member-is text rows (h .type) (h .method) (h .stands) in
+        let b = key-below text rows lib (h .type) (h .method) (h .stands) in
+        let isOne : methodRead rows (objKey k) ≡ true = sym (method-meant text rows (objKey k)) ∙ ap (λ (m : Member). isMethod (m .entity)) (sym e) ∙ h .isOne in
+        let w = not-zero (wordAt index k) (g .done k (omega arith) b isOne) in
+        let v = g .known k (w .0) b (w .1) in
+        let q : identityAt text rows (w .0) ≡ x = v .1 ∙ ap (identityOf (tableOf text rows)) (sym e) ∙ sym (h .named) in
+        subst (λ y. In y (map (identityAt text rows) (take n names))) q (map-In-to (identityAt text rows) (take n names) (w .0) (v .0))
+
+    ascends : Sorted Lower (map (identityAt text rows) (take n names))
+    unfolding idAt
+    ascends = sorted-map (identityAt text rows) Lower (take n names) (g .listed .sorted)
+
+    pub names-held : NamesHeld text rows names n
+    names-held =
+        let r = g .room in
+        let lm = lib .laid .members in
+        record {
+          all = sorted-same Lower
+              (λ x e. clash e (below-irrefl (idBytes x)))
+              (λ x y z a b. below-trans (idBytes x) (idBytes y) (idBytes z) a b)
+              (map (identityAt text rows) (take n names)) (methodNames (tableOf text rows)) ascends (names-ascend (tableOf text rows) (sound-rows text rows lib)) named-method method-named;
+          fits = (omega arith, r .0);
+          keys = g .listed .keys;
+        }
+
+  pub indexed : (names : Words) (n : ℕ) (index : Words) → Filled text rows (take n names) index (memberCountOf rows) → Indexed text rows names n index
+  indexed names n index f = record {
+    none = λ m k h w i. f .none m k h (inl h) w i;
+    some = λ m k h w. f .known m k h w;
+  }

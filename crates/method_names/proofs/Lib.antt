@@ -1,0 +1,4 @@
+pub mod KeyMembers
+pub mod SortedParts
+pub mod SearchLaws
+pub mod GatherLaws

@@ -1,0 +1,175 @@
+-- The ways through the code of one hit, as laws on what it reads.
+use mathlib.Core.Path.{_≡_, refl, sym, ap, _∙_}
+use mathlib.Core.Bool.{Bool, true, false, cond, not, _&&_}
+use mathlib.Core.List.{[], _∷_}
+use Prim.Native.Nat.{ℕ, zero, suc, _+_, _*_, _-_, _≤_, _<_}
+use native.Mathlib.Omega.{arith}
+use lib.Dec.{eqb, ltb}
+use lib.ListN.{set}
+use lib.Seq.{sets}
+use borrow.Author.Tests.{lt-ltb, le-ltb, ne-eqb, eqb-true, not-true, not-false}
+use Rattle.objects.specs.Bounds.{selRow, firstRow}
+use Rattle.objects.specs.declared.TypeKey.{TypeKey}
+use Rattle.objects.specs.declared.ObjKey.{ObjKey}
+use Rattle.objects.specs.Table.{objKey}
+use Rattle.objects.proofs.ListLaws.{cases}
+use Rattle.objects.specs.Rows.{Words, wordAt, typeWord, typeCount, memberCountOf}
+use Rattle.objects.specs.Laid.{Laid, endOf}
+use Rattle.objects.specs.Types.{numberOf, ifaceRead, numberRead, underRead, namedRead, firstRead, totalRead, methodRead, ptrRead}
+use Rattle.method_levels.specs.Levels.{firstWord}
+use Rattle.method_set.specs.Sets.{selWord}
+use Rattle.method_set.specs.Hits.{standsAfter, isSettled, flagAt, rowAfter, hit, named, members, membersIf, owned, atType, atTypes}
+
+-- ---- how a name stands
+
+module _ (again method ptr : Bool) (walks flag : ℕ) where
+  pub again-hides : again ≡ true → 1 ≡ standsAfter again walks method ptr flag
+  unfolding standsAfter
+  again-hides a = rw a
+
+  pub several-hide : again ≡ false → 1 < walks → 1 ≡ standsAfter again walks method ptr flag
+  unfolding standsAfter
+  several-hide a s = rw (a, lt-ltb 1 walks s)
+
+  pub field-leaves : again ≡ false → walks ≤ 1 → not method ≡ true → 0 ≡ standsAfter again walks method ptr flag
+  unfolding standsAfter
+  field-leaves a s m = rw (a, le-ltb 1 walks s, not-true method m)
+
+  pub plain-given : again ≡ false → walks ≤ 1 → not method ≡ false → not ptr ≡ true → 2 ≡ standsAfter again walks method ptr flag
+  unfolding standsAfter
+  plain-given a s m p = rw (a, le-ltb 1 walks s, not-false method m, not-true ptr p)
+
+  pub pointer-hides : again ≡ false → walks ≤ 1 → not method ≡ false → not ptr ≡ false → flag ≡ 0 → 1 ≡ standsAfter again walks method ptr flag
+  unfolding standsAfter
+  pointer-hides a s m p f = rw (a, le-ltb 1 walks s, not-false method m, not-false ptr p, f)
+
+  pub pointer-given : again ≡ false → walks ≤ 1 → not method ≡ false → not ptr ≡ false → (flag ≡ 0 → ⊥) → 2 ≡ standsAfter again walks method ptr flag
+  unfolding standsAfter
+  pointer-given a s m p f = rw (a, le-ltb 1 walks s, not-false method m, not-false ptr p, ne-eqb flag 0 f)
+
+-- ---- what is read of a row
+
+module _ (sels : Words) (k : ObjKey) (stamp : ℕ) where
+  pub settled-no : {s : ℕ} → s ≡ selWord sels k 0 → s ≡ 0 → false ≡ isSettled sels k stamp
+  unfolding isSettled
+  settled-no e z = rw (← e, z)
+
+  pub settled-by : {s l : ℕ} → s ≡ selWord sels k 0 → (s ≡ 0 → ⊥) → l ≡ selWord sels k 1 → not (eqb l stamp) ≡ isSettled sels k stamp
+  unfolding isSettled
+  settled-by {s} e z f = rw (← e, ← f, ne-eqb s 0 z)
+
+module _ (rows first : Words) (u : TypeKey) (b : Bool) (e : b ≡ ifaceRead rows u) where
+  pub flag-iface : b ≡ true → 1 ≡ flagAt rows first u
+  unfolding flagAt
+  flag-iface y = rw (← e, y)
+
+  pub flag-walk : {f : ℕ} → b ≡ false → f ≡ wordAt first (4 * (u .0) + 2) → f ≡ flagAt rows first u
+  unfolding flagAt firstWord
+  flag-walk n w = rw (← e, n, w)
+
+-- ---- a row written
+
+pub row-put : (sels : Words) (at a b c d e f : ℕ) (s1 s2 s3 s4 s5 s6 : Words)
+    → s1 ≡ set sels at a → s2 ≡ set s1 (at + 1) b → s3 ≡ set s2 (at + 2) c → s4 ≡ set s3 (at + 3) d → s5 ≡ set s4 (at + 4) e → s6 ≡ set s5 (at + 5) f
+    → s6 ≡ sets sels at (a ∷ b ∷ c ∷ d ∷ e ∷ f ∷ [])
+row-put sels at a b c d e f s1 s2 s3 s4 s5 s6 e1 e2 e3 e4 e5 e6 =
+    let i1 : at + 1 ≡ suc at = omega arith in
+    let i2 : at + 2 ≡ suc (suc at) = omega arith in
+    let i3 : at + 3 ≡ suc (suc (suc at)) = omega arith in
+    let i4 : at + 4 ≡ suc (suc (suc (suc at))) = omega arith in
+    let i5 : at + 5 ≡ suc (suc (suc (suc (suc at)))) = omega arith in
+    rw (e6, e5, e4, e3, e2, e1, i1, i2, i3, i4, i5)
+
+module _ (rows level first sels : Words) (stamp : ℕ) (u : TypeKey) (place : ℕ) (m k : ObjKey) (b : Bool) (e : b ≡ isSettled sels k stamp) where
+  pub hit-settled : b ≡ true → sels ≡ hit rows level first stamp u place m k sels
+  unfolding hit
+  hit-settled y = rw (← e, y)
+
+  pub hit-written : {f l c s : ℕ} {method ptr : Bool} {after : Words} → b ≡ false → f ≡ flagAt rows first u → l ≡ selWord sels k 1 → c ≡ wordAt level (u .0)
+      → method ≡ methodRead rows m → ptr ≡ ptrRead rows m → s ≡ standsAfter (eqb l stamp) c method ptr f
+      → after ≡ sets sels (selRow * (k .0)) (s ∷ stamp ∷ u .0 ∷ place ∷ m .0 ∷ f ∷ [])
+      → after ≡ hit rows level first stamp u place m k sels
+  unfolding hit rowAfter
+  hit-written n ef el ec em ep es ea = rw (← e, n, ← ef, ← el, ← ec, ← em, ← ep, ← es, ea)
+
+-- ---- members and types
+
+-- the members under a type that is no tuple are members of the table
+pub members-within : (rows : Words) (v : TypeKey) (n : ℕ) → Laid rows → v .0 < typeCount rows → 8 ≤ n → eqb (numberRead rows v) n ≡ true → firstRead rows v + totalRead rows v ≤ memberCountOf rows
+unfolding firstRead totalRead numberRead numberOf endOf
+members-within rows v n laid i l e =
+    cases (eqb (typeWord rows v 0) 6)
+    (λ h. let k : typeWord rows v 0 ≡ 6 = eqb-true (typeWord rows v 0) 6 h in let six : 6 ≡ n = eqb-true 6 n (rw k at e) in absurd (omega (arith, six)))
+    (λ h. rw h at (laid .within v i))
+
+pub owned-within : (rows : Words) (u : TypeKey) (b : Bool) → Laid rows → u .0 < typeCount rows → b ≡ namedRead rows u → b ≡ true → firstRead rows u + totalRead rows u ≤ memberCountOf rows
+unfolding namedRead
+owned-within rows u b laid i e h = members-within rows u 10 laid i (omega arith) (sym e ∙ h)
+
+pub under-within : (rows : Words) (u v : TypeKey) (kind n : ℕ) → Laid rows → underRead rows u .0 < typeCount rows → v ≡ underRead rows u → kind ≡ numberRead rows v → 8 ≤ n → eqb kind n ≡ true
+    → firstRead rows v + totalRead rows v ≤ memberCountOf rows
+under-within rows u v kind n laid i ev ek l h = members-within rows v n laid (rw ev i) l (rw (← ek) h)
+
+module _ (rows level first index sels : Words) (stamp : ℕ) (u : TypeKey) where
+  pub named-none : (place : ℕ) (m : ObjKey) {k : ℕ} → k ≡ wordAt index (m .0) → k ≡ 0 → sels ≡ named rows level first stamp index u place m (wordAt index (m .0)) sels
+  unfolding named
+  named-none place m e z = rw (← e, z)
+
+  pub named-some : (place : ℕ) (m : ObjKey) (k : ℕ) {after : Words} → k ≡ wordAt index (m .0) → (k ≡ 0 → ⊥) → after ≡ hit rows level first stamp u place m (objKey (k - 1)) sels
+      → after ≡ named rows level first stamp index u place m (wordAt index (m .0)) sels
+  unfolding named
+  named-some place m zero e z h = absurd (z refl)
+  named-some place m (suc k) e z h = let s : suc k - 1 ≡ k = omega arith in rw (← e) (rw s at h)
+
+  pub members-none : (start : ℕ) → sels ≡ members rows level first stamp index u start 0 sels
+  unfolding members
+  members-none start = refl
+
+  pub members-next : (start n : ℕ) {before after : Words} → before ≡ members rows level first stamp index u start n sels
+      → after ≡ named rows level first stamp index u n (objKey (start + n)) (wordAt index (start + n)) before
+      → after ≡ members rows level first stamp index u start (n + 1) sels
+  unfolding members
+  members-next start n b a = let s : n + 1 ≡ suc n = omega arith in rw (s, ← b, a)
+
+  pub members-end : (start n : ℕ) {i : ℕ} {after : Words} → after ≡ members rows level first stamp index u start i sels → i ≤ n → n ≤ i → after ≡ members rows level first stamp index u start n sels
+  members-end start n {i} a l g = let e : i ≡ n = omega arith in rw (← e) a
+
+  module _ (has : Bool) (v : TypeKey) where
+    pub if-has : {start n : ℕ} {after : Words} → has ≡ true → start ≡ firstRead rows v → n ≡ totalRead rows v → after ≡ members rows level first stamp index u start n sels
+        → after ≡ membersIf rows level first stamp index u has v sels
+    unfolding membersIf
+    if-has h s n a = rw (h, ← s, ← n, a)
+
+    pub if-not : has ≡ false → sels ≡ membersIf rows level first stamp index u has v sels
+    unfolding membersIf
+    if-not h = rw h
+
+  pub owned-is : {v : TypeKey} {kind : ℕ} {isNamed : Bool} {s1 s2 s3 : Words} → v ≡ underRead rows u → kind ≡ numberRead rows v → isNamed ≡ namedRead rows u
+      → s1 ≡ membersIf rows level first stamp index u isNamed u sels
+      → s2 ≡ membersIf rows level first stamp index u (eqb kind 8) v s1
+      → s3 ≡ membersIf rows level first stamp index u (eqb kind 9) v s2
+      → s3 ≡ owned rows level first stamp index u sels
+  unfolding owned
+  owned-is ev ek en e1 e2 e3 = rw (← ev, ← ek, ← en, ← e1, ← e2, e3)
+
+  module _ (c : ℕ) (e : c ≡ wordAt level (u .0)) where
+    pub type-none : c ≡ 0 → sels ≡ atType rows level first stamp index u sels
+    unfolding atType
+    type-none z = rw (← e, z)
+
+    pub type-some : {after : Words} → (c ≡ 0 → ⊥) → after ≡ owned rows level first stamp index u sels → after ≡ atType rows level first stamp index u sels
+    unfolding atType
+    type-some z a = rw (← e, ne-eqb c 0 z, a)
+
+module _ (rows level first index sels : Words) (stamp : ℕ) where
+  pub types-none : sels ≡ atTypes rows level first stamp index 0 sels
+  unfolding atTypes
+  types-none = refl
+
+  pub types-next : (n : ℕ) {before after : Words} → before ≡ atTypes rows level first stamp index n sels → after ≡ atType rows level first stamp index (record { 0 = n }) before
+      → after ≡ atTypes rows level first stamp index (n + 1) sels
+  unfolding atTypes
+  types-next n b a = let s : n + 1 ≡ suc n = omega arith in rw (s, ← b, a)
+
+  pub types-end : (n : ℕ) {i m : ℕ} {after : Words} → m ≡ n → after ≡ atTypes rows level first stamp index i sels → i ≤ m → m ≤ i → after ≡ atTypes rows level first stamp index n sels
+  types-end n {i} e a l g = let s : i ≡ n = omega (arith, e) in rw (← s) a

@@ -1,0 +1,12 @@
+pub mod LineLaws
+pub mod CodeLaws
+pub mod Tallies
+pub mod LevelTally
+pub mod StandsLaws
+pub mod RowHits
+pub mod OverLevels
+pub mod HitLaws
+pub mod TypeHits
+pub mod DoingLaws
+pub mod ListedLaws
+pub mod SetLaws

@@ -1,0 +1,54 @@
+use mathlib.Core.Path.{_≡_}
+use Prim.Native.Nat.{_-_, _≤_}
+use native.Mathlib.Omega.{arith}
+use lib.ListN.{length}
+use Rattle.method_set.specs.Hits as model
+use Rattle.method_set.proofs.CodeLaws.{types-none, types-next, types-end}
+use borrow.Author.Needs.{needs}
+use Rattle.method_set.proofs.hits.at_types.Statement.{statement}
+use Rattle.method_set.proofs.hits.at_types.Tie as tie
+
+abbrev Inv-loop : tie.InvT-loop
+Inv-loop rows level first stamp index sels₀ n u₀ sels u = (length sels ≡ length sels₀) × (u ≤ n) × (sels ≡ model.atTypes rows level first stamp index u sels₀)
+
+abbrev μ-loop : tie.MeasureT-loop
+μ-loop rows level first stamp index sels₀ n u₀ sels u = n - u
+
+type-count-requires : tie.Need-type-count-requires Inv-loop μ-loop
+type-count-requires c κs = search needs
+
+loop-holds : tie.Need-loop-holds Inv-loop μ-loop
+loop-holds c = (search needs, omega arith, types-none _ _ _ _ _ _)
+
+at-type-requires : tie.Need-at-type-requires Inv-loop μ-loop
+at-type-requires c κs = ((c .before .before .before .before .before .before .before .before .before .pre .0), (c .before .before .before .before .before .before .before .before .before .pre .1), omega (arith, (c .before .before .before .type-count .ensures), (c .before .loop-test .taken)), (c .before .before .before .before .before .before .before .before .before .pre .2 .within) _ (omega (arith, (c .before .before .before .type-count .ensures), (c .before .loop-test .taken))), omega (arith, (c .before .before .loop .inv .0), (c .before .before .before .before .before .before .before .before .before .pre .3)))
+
+add-u : tie.Need-add-u Inv-loop μ-loop
+add-u c = search needs
+
+loop-less : tie.Need-loop-less Inv-loop μ-loop
+loop-less c = search needs
+
+loop-again : tie.Need-loop-again Inv-loop μ-loop
+loop-again c = (search needs, omega arith, types-next _ _ _ _ _ _ _ ((c .before .before .before .before .before .loop .inv .2)) ((c .before .before .at-type .ensures)))
+
+same-length : tie.Need-same-length Inv-loop μ-loop
+same-length c = search needs
+
+returns : tie.Need-returns Inv-loop μ-loop
+returns c = types-end _ _ _ _ _ _ _ ((c .before .before .type-count .ensures)) ((c .before .loop .inv .2)) ((c .before .loop .inv .1)) ((c .loop-test .left))
+
+pub at-types-spec : {M : Type 1} → statement M
+at-types-spec =
+    tie.close
+    (tie.spec
+    Inv-loop
+    μ-loop
+    type-count-requires
+    loop-holds
+    at-type-requires
+    add-u
+    loop-less
+    loop-again
+    same-length
+    returns)

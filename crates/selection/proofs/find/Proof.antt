@@ -1,0 +1,58 @@
+-- `selection::find` meets its contract. The invariant: what the whole list gives, the members from i on give.
+use mathlib.Core.Path.{_≡_, sym, _∙_}
+use Prim.Native.Nat.{_+_, _-_, _≤_}
+use native.Mathlib.Omega.{arith}
+use Rattle.objects.specs.Rows.{membersFrom, tableOf}
+use Rattle.selection.specs.Results.{nameMeant}
+use Rattle.selection.specs.Finds.{firstFrom}
+use Rattle.selection.proofs.FindLaws.{find-start, find-here, find-next, find-end}
+use borrow.Author.Needs.{needs}
+use Rattle.selection.proofs.find.Statement.{statement}
+use Rattle.selection.proofs.find.Tie as tie
+
+abbrev Inv-loop : tie.InvT-loop
+Inv-loop text rows from count names q i₀ i =
+    (firstFrom (tableOf text rows) (nameMeant text rows names q) 0 (membersFrom text rows from count)
+    ≡ firstFrom (tableOf text rows) (nameMeant text rows names q) i (membersFrom text rows (from + i) (count - i))) × (i ≤ count)
+
+abbrev μ-loop : tie.MeasureT-loop
+μ-loop text rows from count names q i₀ i = count - i
+
+loop-holds : tie.Need-loop-holds Inv-loop μ-loop
+loop-holds c = (find-start _ _ _ _ _ _, omega arith)
+
+add-t10 : tie.Need-add-t10 Inv-loop μ-loop
+add-t10 c = omega (arith, (c .before .before .before .before .before .pre .2))
+
+same-id-requires : tie.Need-same-id-requires Inv-loop μ-loop
+same-id-requires c κs = ((c .before .before .before .before .before .pre .0) _ (c .loop-test .taken), (c .before .before .before .before .before .pre .1))
+
+returns : tie.Need-returns Inv-loop μ-loop
+returns c = find-here _ _ _ _ _ _ _ (c .before .before .loop-test .taken) (c .before .same-id .ensures) (c .if1 .taken) ∙ sym ((c .before .before .before .loop .inv .0))
+
+add-i : tie.Need-add-i Inv-loop μ-loop
+add-i c = search needs
+
+loop-less : tie.Need-loop-less Inv-loop μ-loop
+loop-less c = omega arith
+
+loop-again : tie.Need-loop-again Inv-loop μ-loop
+loop-again c = ((c .before .before .before .loop .inv .0) ∙ find-next _ _ _ _ _ _ _ (c .before .before .loop-test .taken) (c .before .same-id .ensures) (c .if1 .left), omega arith)
+
+returns-2 : tie.Need-returns-2 Inv-loop μ-loop
+returns-2 c = find-end _ _ _ _ _ _ _ (c .before .loop .inv .1) (c .loop-test .left) ∙ sym ((c .before .loop .inv .0))
+
+pub find-spec : {M : Type 1} → statement M
+find-spec =
+    tie.close
+    (tie.spec
+    Inv-loop
+    μ-loop
+    loop-holds
+    add-t10
+    same-id-requires
+    returns
+    add-i
+    loop-less
+    loop-again
+    returns-2)
