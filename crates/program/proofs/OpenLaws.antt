@@ -21,6 +21,16 @@ use Rattle.program.specs.declared.Opening.{Opening}
 use Rattle.program.specs.Due.{questionsAt, printedOne, due}
 use Rattle.program.specs.Parts.{partsMeant, openingMeant, Opens}
 
+-- the part of the input up to a place, as a slice from 0 on
+part-front : (s : Bytes) (end : ℕ) → take (end - 0) (drop 0 s) ≡ take end s
+part-front s end = let z : end - 0 ≡ end = omega arith in rw z
+
+pub library-part : (s : Bytes) (end : ℕ) (rows : Words) → Library (take end s) rows → Library (take (end - 0) (drop 0 s)) rows
+library-part s end rows l = subst (λ t. Library t rows) (sym (part-front s end)) l
+
+pub due-part : (s : Bytes) (end : ℕ) (rows : Words) (next : ℕ) → due (take end s) rows s next ≡ due (take (end - 0) (drop 0 s)) rows s next
+due-part s end rows next = ap (λ t. due t rows s next) (sym (part-front s end))
+
 -- what loading said
 loads-refused : (text : Bytes) (rows : Words) {r : Loading} {n line : ℕ} → Loads text r rows → r ≡ Loading.Refused n line → load text ≡ refused n line
 unfolding loadingMeant
@@ -49,11 +59,8 @@ module _ (s : Bytes) where
           record { says = parted Parts.Whole e ∙ ap (λ d. printedAll d (ascii "V" ∷ [])) (lib .loads) ∙ append-nil (printedOne s rows (ascii "V")); holds = lib }
 
     module _ (end next : ℕ) (a : end ≤ length s) (b : next ≤ length s) (e : inputOf (pieces s) ≡ partsMeant s (Parts.Until end next)) (rows : Words) {r : Loading} (l : Loads (take (end - 0) (drop 0 s)) r rows) where
-      table-is : take (end - 0) (drop 0 s) ≡ take end s
-      table-is = let z : end - 0 ≡ end = omega arith in rw z
-
       loads-table : Loads (take end s) r rows
-      loads-table = subst (λ t. Loads t r rows) table-is l
+      loads-table = subst (λ t. Loads t r rows) (part-front s end) l
 
       pub until-refused : {n line : ℕ} → r ≡ Loading.Refused n line → Opens s (Opening.Refused n line) rows
       unfolding openingMeant partsMeant

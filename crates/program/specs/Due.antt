@@ -21,3 +21,7 @@ printedOne text rows q = printed (outcomeOf (loaded (tableOf text rows)) q progr
 -- what is printed for all questions from a place on
 unfoldable pub due : Bytes → Words → Bytes → ℕ → Bytes
 due text rows input at = flat (printedOne text rows) (questionsAt input at)
+
+-- the line of a refusal has at most 7 bytes for the word, a tab and 20 digits for each number, and a newline
+abbrev pub refusedRoom : ℕ
+refusedRoom = 64

@@ -61,6 +61,17 @@ pub record Steps (text : Bytes) (rows : Words) (input : Bytes) (at : ℕ) (r : S
   pub says : due text rows input at ≡ stepMeant text rows input out r
   pub within : stepWithin input at out r
 
+-- bytes of all that is due: what stands before them, they, and what comes behind
+pub record Piece (whole bytes : Bytes) : Type 0 where
+  pub before : Bytes
+  pub behind : Bytes
+  pub parts : whole ≡ before ++ (bytes ++ behind)
+
+-- what is left of all that is due
+pub record Left (whole rest : Bytes) : Type 0 where
+  pub before : Bytes
+  pub parts : whole ≡ before ++ rest
+
 -- all that is due: a refusal, the answer to one V, or the answers to the questions behind `Q`
 unfoldable pub openingMeant : Bytes → Words → Opening → Bytes
 openingMeant input rows (Opening.Refused n line) = refusedBytes n line

@@ -38,7 +38,7 @@ fn open_until(input: &[u8], end: usize, next: usize, rows: &mut [u32]) -> Openin
 }
 
 // The rows are clear when it is called.
-pub fn open(input: &[u8], rows: &mut [u32]) -> Opening
+pub fn open_input(input: &[u8], rows: &mut [u32]) -> Opening
     requires { ⌜ (now rows ≡ replicate (length (now rows)) 0) × (allWords ≤ length (now rows)) ⌝ }
     ensures { λ r. ⌜ Opens (now (input .entry)) r (now (rows .exit)) ⌝ }
 {

@@ -1,10 +1,10 @@
--- `program::library::open` meets its contract.
+-- `program::library::open_input` meets its contract.
 use mathlib.Core.Path.{ap, subst, _∙_}
 use Rattle.program.specs.Parts.{partsMeant, partsWithin}
 use Rattle.program.proofs.OpenLaws.{opens-long}
 use borrow.Author.Needs.{needs}
-use Rattle.program.proofs.library.open.Statement.{statement}
-use Rattle.program.proofs.library.open.Tie as tie
+use Rattle.program.proofs.library.open_input.Statement.{statement}
+use Rattle.program.proofs.library.open_input.Tie as tie
 
 returns : tie.Need-returns
 returns c = opens-long (c .before .before .before .args .input .now) _ (c .if1 .taken)
@@ -38,8 +38,8 @@ same-length-2 c = search needs
 returns-3 : tie.Need-returns-3
 returns-3 c = (c .before .before .open-until .ensures)
 
-pub open-spec : {M : Type 1} → statement M
-open-spec =
+pub open-input-spec : {M : Type 1} → statement M
+open-input-spec =
     tie.close
     (tie.spec
     returns
