@@ -1,0 +1,4 @@
+pub mod InputLaws
+pub mod OpenLaws
+pub mod AskLaws
+pub mod Trace

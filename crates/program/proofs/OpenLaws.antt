@@ -1,0 +1,73 @@
+-- From the parts of the input and the loaded table to all that is due.
+use mathlib.Core.Path.{_≡_, refl, sym, ap, subst, _∙_}
+use mathlib.Core.Bool.{cond}
+use mathlib.Core.List.{List, [], _∷_, _++_, append-nil}
+use Prim.Native.Nat.{ℕ, _-_, _≤_, _<_}
+use native.Mathlib.Omega.{arith}
+use lib.ListN.{length, take, drop}
+use borrow.Author.Tests.{lt-ltb, le-ltb}
+use Rattle.objects.specs.Bounds.{maxText}
+use Rattle.objects.specs.Lists.{Bytes}
+use Rattle.objects.specs.Rows.{Words, tableOf}
+use Rattle.text.specs.Bytes.{ascii}
+use Rattle.text.specs.Lines.{pieces}
+use Rattle.rules.specs.Load.{Loaded, refused, loaded, load}
+use Rattle.rules.specs.Library.{Library}
+use Rattle.rules.specs.Typeask.{inputOf, refusedBytes, printedAll, answeredAll, typeask}
+use Rattle.table.specs.declared.Loading.{Loading}
+use Rattle.table.specs.Loading.{loadingMeant, Loads}
+use Rattle.program.specs.declared.Parts.{Parts}
+use Rattle.program.specs.declared.Opening.{Opening}
+use Rattle.program.specs.Due.{questionsAt, printedOne, due}
+use Rattle.program.specs.Parts.{partsMeant, openingMeant, Opens}
+
+-- the part of the input up to a place, as a slice from 0 on
+part-front : (s : Bytes) (end : ℕ) → take (end - 0) (drop 0 s) ≡ take end s
+part-front s end = let z : end - 0 ≡ end = omega arith in rw z
+
+pub library-part : (s : Bytes) (end : ℕ) (rows : Words) → Library (take end s) rows → Library (take (end - 0) (drop 0 s)) rows
+library-part s end rows l = subst (λ t. Library t rows) (sym (part-front s end)) l
+
+pub due-part : (s : Bytes) (end : ℕ) (rows : Words) (next : ℕ) → due (take end s) rows s next ≡ due (take (end - 0) (drop 0 s)) rows s next
+due-part s end rows next = ap (λ t. due t rows s next) (sym (part-front s end))
+
+-- what loading said
+loads-refused : (text : Bytes) (rows : Words) {r : Loading} {n line : ℕ} → Loads text r rows → r ≡ Loading.Refused n line → load text ≡ refused n line
+unfolding loadingMeant
+loads-refused text rows l q = sym (l .says) ∙ ap (loadingMeant text rows) q
+
+module _ (s : Bytes) where
+  -- "at most 32,768 bytes in all, otherwise it prints refusal 2"
+  pub opens-long : (rows : Words) → maxText < length s → Opens s (Opening.Refused 2 0) rows
+  unfolding openingMeant typeask
+  opens-long rows h = record { says = rw (lt-ltb maxText (length s) h); holds = tt }
+
+  module _ (short : length s ≤ maxText) where
+    parted : (i : Parts) → inputOf (pieces s) ≡ partsMeant s i → typeask s ≡ answeredAll (partsMeant s i)
+    unfolding typeask
+    parted i e = rw (le-ltb maxText (length s) short, e)
+
+    module _ (e : inputOf (pieces s) ≡ partsMeant s Parts.Whole) (rows : Words) {r : Loading} (l : Loads s r rows) where
+      pub whole-refused : {n line : ℕ} → r ≡ Loading.Refused n line → Opens s (Opening.Refused n line) rows
+      unfolding openingMeant partsMeant
+      whole-refused q = record { says = parted Parts.Whole e ∙ ap (λ d. printedAll d (ascii "V" ∷ [])) (loads-refused s rows l q); holds = tt }
+
+      pub whole-loaded : r ≡ Loading.Loaded → Opens s Opening.Whole rows
+      unfolding openingMeant partsMeant printedOne
+      whole-loaded q =
+          let lib = l .library q in
+          record { says = parted Parts.Whole e ∙ ap (λ d. printedAll d (ascii "V" ∷ [])) (lib .loads) ∙ append-nil (printedOne s rows (ascii "V")); holds = lib }
+
+    module _ (end next : ℕ) (a : end ≤ length s) (b : next ≤ length s) (e : inputOf (pieces s) ≡ partsMeant s (Parts.Until end next)) (rows : Words) {r : Loading} (l : Loads (take (end - 0) (drop 0 s)) r rows) where
+      loads-table : Loads (take end s) r rows
+      loads-table = subst (λ t. Loads t r rows) (part-front s end) l
+
+      pub until-refused : {n line : ℕ} → r ≡ Loading.Refused n line → Opens s (Opening.Refused n line) rows
+      unfolding openingMeant partsMeant
+      until-refused q = record { says = parted (Parts.Until end next) e ∙ ap (λ d. printedAll d (questionsAt s next)) (loads-refused (take end s) rows loads-table q); holds = tt }
+
+      pub until-loaded : r ≡ Loading.Loaded → Opens s (Opening.Until end next) rows
+      unfolding openingMeant partsMeant due printedOne
+      until-loaded q =
+          let lib = loads-table .library q in
+          record { says = parted (Parts.Until end next) e ∙ ap (λ d. printedAll d (questionsAt s next)) (lib .loads); holds = (a, b, lib) }

@@ -1,0 +1,54 @@
+-- `program::library::open_input` meets its contract.
+use mathlib.Core.Path.{ap, subst, _∙_}
+use Rattle.program.specs.Parts.{partsMeant, partsWithin}
+use Rattle.program.proofs.OpenLaws.{opens-long}
+use borrow.Author.Needs.{needs}
+use Rattle.program.proofs.library.open_input.Statement.{statement}
+use Rattle.program.proofs.library.open_input.Tie as tie
+
+returns : tie.Need-returns
+returns c = opens-long (c .before .before .before .args .input .now) _ (c .if1 .taken)
+
+split-requires : tie.Need-split-requires
+split-requires c κs = search needs
+
+enum-told : tie.Need-enum-told
+enum-told c = search needs
+
+open-whole-requires : tie.Need-open-whole-requires
+open-whole-requires c κs = ((c .before .before .before .before .before .before .before .pre .0), (c .before .before .before .before .before .before .before .pre .1), (c .before .before .before .before .if1 .left), (c .before .before .before .split .ensures .says) ∙ ap (partsMeant (c .before .before .before .before .before .before .before .args .input .now)) (c .before .enum-told .given .1))
+
+enum-known-end : tie.Need-enum-known-end
+enum-known-end c = search needs
+
+open-until-requires : tie.Need-open-until-requires
+open-until-requires c κs =
+    let w = subst (partsWithin (c .before .before .before .before .before .before .before .before .args .input .now)) (c .before .before .end .given .1) (c .before .before .before .before .split .ensures .within) in
+    ((c .before .before .before .before .before .before .before .before .pre .0), (c .before .before .before .before .before .before .before .before .pre .1), (c .before .before .before .before .before .if1 .left), (c .before .before .before .before .split .ensures .says) ∙ ap (partsMeant (c .before .before .before .before .before .before .before .before .args .input .now)) (c .before .before .end .given .1), w .0, w .1)
+
+same-length : tie.Need-same-length
+same-length c = search needs
+
+returns-2 : tie.Need-returns-2
+returns-2 c = (c .before .before .open-whole .ensures)
+
+same-length-2 : tie.Need-same-length-2
+same-length-2 c = search needs
+
+returns-3 : tie.Need-returns-3
+returns-3 c = (c .before .before .open-until .ensures)
+
+pub open-input-spec : {M : Type 1} → statement M
+open-input-spec =
+    tie.close
+    (tie.spec
+    returns
+    split-requires
+    enum-told
+    open-whole-requires
+    enum-known-end
+    open-until-requires
+    same-length
+    returns-2
+    same-length-2
+    returns-3)

@@ -1,0 +1,89 @@
+-- What the parts of the input mean, and what is said of them.
+use mathlib.Core.Path.{_≡_}
+use mathlib.Core.List.{List, [], _∷_, _++_}
+use Prim.Native.Nat.{ℕ, _≤_, _<_}
+use lib.ListN.{length, take}
+use Rattle.objects.specs.Lists.{Bytes}
+use Rattle.objects.specs.Rows.{Words}
+use Rattle.text.specs.Bytes.{ascii}
+use Rattle.text.specs.Lines.{pieces}
+use Rattle.text.specs.Cursors.{part}
+use Rattle.rules.specs.Library.{Library}
+use Rattle.rules.specs.Typeask.{Input, inputOf, refusedBytes, typeask}
+use Rattle.program.specs.declared.Parts.{Parts}
+use Rattle.program.specs.declared.Next.{Next}
+use Rattle.program.specs.declared.Opening.{Opening}
+use Rattle.program.specs.declared.Step.{Step}
+use Rattle.program.specs.Due.{questionsAt, printedOne, due}
+
+-- "table, a line `Q`, questions (without `Q`, one V)"
+unfoldable pub partsMeant : Bytes → Parts → Input
+partsMeant input Parts.Whole = record { table = input; questions = ascii "V" ∷ [] }
+partsMeant input (Parts.Until end next) = record { table = take end input; questions = questionsAt input next }
+
+-- the places lie within the input
+abbrev pub partsWithin : Bytes → Parts → Type 0
+partsWithin input Parts.Whole = Unit {0}
+partsWithin input (Parts.Until end next) = (end ≤ length input) × (next ≤ length input)
+
+pub record Splits (input : Bytes) (r : Parts) : Type 0 where
+  pub says : inputOf (pieces input) ≡ partsMeant input r
+  pub within : partsWithin input r
+
+-- no question, or one and those behind it
+unfoldable pub nextMeant : Bytes → ℕ → Next → List Bytes
+nextMeant input at Next.None = []
+nextMeant input at (Next.Is end next) = part input at end ∷ questionsAt input next
+
+abbrev pub nextWithin : Bytes → ℕ → Next → Type 0
+nextWithin input at Next.None = Unit {0}
+nextWithin input at (Next.Is end next) = (at ≤ end) × (end ≤ length input) × (at < next) × (next ≤ length input)
+
+pub record Follows (input : Bytes) (at : ℕ) (r : Next) : Type 0 where
+  pub says : questionsAt input at ≡ nextMeant input at r
+  pub within : nextWithin input at r
+
+-- the first n bytes of the buffer are the text
+pub record Shows (text out : Bytes) (n : ℕ) : Type 0 where
+  pub fits : n ≤ length out
+  pub shown : take n out ≡ text
+
+-- the end, or the answer to one question in front of the buffer and a place behind it
+unfoldable pub stepMeant : Bytes → Words → Bytes → Bytes → Step → Bytes
+stepMeant text rows input out Step.End = []
+stepMeant text rows input out (Step.Said next n) = take n out ++ due text rows input next
+
+abbrev pub stepWithin : Bytes → ℕ → Bytes → Step → Type 0
+stepWithin input at out Step.End = Unit {0}
+stepWithin input at out (Step.Said next n) = (at < next) × (next ≤ length input) × (n ≤ length out)
+
+pub record Steps (text : Bytes) (rows : Words) (input : Bytes) (at : ℕ) (r : Step) (out : Bytes) : Type 0 where
+  pub says : due text rows input at ≡ stepMeant text rows input out r
+  pub within : stepWithin input at out r
+
+-- bytes of all that is due: what stands before them, they, and what comes behind
+pub record Piece (whole bytes : Bytes) : Type 0 where
+  pub before : Bytes
+  pub behind : Bytes
+  pub parts : whole ≡ before ++ (bytes ++ behind)
+
+-- what is left of all that is due
+pub record Left (whole rest : Bytes) : Type 0 where
+  pub before : Bytes
+  pub parts : whole ≡ before ++ rest
+
+-- all that is due: a refusal, the answer to one V, or the answers to the questions behind `Q`
+unfoldable pub openingMeant : Bytes → Words → Opening → Bytes
+openingMeant input rows (Opening.Refused n line) = refusedBytes n line
+openingMeant input rows Opening.Whole = printedOne input rows (ascii "V")
+openingMeant input rows (Opening.Until end next) = due (take end input) rows input next
+
+-- where the table loaded, its rows may be asked
+abbrev pub openingHolds : Bytes → Words → Opening → Type 0
+openingHolds input rows (Opening.Refused n line) = Unit {0}
+openingHolds input rows Opening.Whole = Library input rows
+openingHolds input rows (Opening.Until end next) = (end ≤ length input) × (next ≤ length input) × Library (take end input) rows
+
+pub record Opens (input : Bytes) (r : Opening) (rows : Words) : Type 0 where
+  pub says : typeask input ≡ openingMeant input rows r
+  pub holds : openingHolds input rows r

@@ -1,0 +1,287 @@
+#!/usr/bin/env python3
+"""Makes the stdin and stdout of the programs typeask_run and typeask: inputs of typeask, and what it prints.
+
+    ask_sample.py VECTORS CRATES
+
+VECTORS has small, mixed and damaged (.in and .out): inputs of typeask with what it prints. Every k-th of each is taken. The edges of document 01 are
+added; what is due for them is said here, with the sentence of document 01 that decides it, and no program is asked. CRATES/typeask_run gets all of it, each
+input behind its length and each print behind its number; CRATES/typeask gets the example of document 01 alone.
+"""
+import sys
+
+HEAD = b'typetable\t1\n'
+INT = b'T\tbasic\t2'
+
+
+def cases(path):
+    data = open(path, 'rb').read()
+    if path.endswith('.in'):
+        data = data[data.index(b'\n') + 1:]
+    return data.split(b'---\n')[:-1]
+
+
+def sample(vectors):
+    chosen = []
+    for name, step in [('small', 5), ('mixed', 3), ('damaged', 12)]:
+        inputs, prints = cases(f'{vectors}/{name}.in'), cases(f'{vectors}/{name}.out')
+        assert len(inputs) == len(prints)
+        # no more than 32,769 bytes of an input are read
+        chosen += [(text[:32769], print_) for text, print_ in list(zip(inputs, prints))[::step]]
+    return chosen
+
+
+def lines(*ls):
+    return b''.join(l + b'\n' for l in ls)
+
+
+def table(*ls):
+    return HEAD + lines(*ls)
+
+
+def asked(text, *questions):
+    return text + b'Q\n' + lines(*questions)
+
+
+def tabs(text):
+    """A text of document 01: "Spaces below stand for tabs"."""
+    return text.strip().replace(' ', '\t').encode() + b'\n'
+
+
+EXAMPLE = tabs('''
+typetable 1
+P office/cat
+T basic 2
+T tuple
+T func 0 1 1
+T named 4
+M Close 0 2 1
+T struct
+F Len 0 0 0
+T pointer 3
+T struct
+F Block 0 5 1
+T named 6
+Q
+S 7 0 0 Close
+S 7 0 0 Len
+S 3 0 0 Close
+S 7 0 0 Open
+M 3
+M 5
+M 7
+C 2
+''')
+EXAMPLE_PRINT = tabs('''
+entry 0 1 0 0
+entry 1 1 0 0
+badreceiver
+notfound
+set 0
+set 1
+sel 0 1 0
+set 1
+sel 0 1 0 0
+no
+''')
+EXAMPLE_TABLE = EXAMPLE[:EXAMPLE.index(b'Q\n')]
+# its P, T, and F and M lines
+EXAMPLE_COUNTS = b'ok\t1\t8\t3\n'
+
+
+def refused(number, line):
+    return b'refused\t%d\t%d\n' % (number, line)
+
+
+def input_edges():
+    """Where the table ends and what a question is."""
+    wrong = refused(11, 0)
+    lines_before = EXAMPLE_TABLE.count(b'\n')
+    return [
+        (EXAMPLE, EXAMPLE_PRINT),
+        # "The last question may lack its newline"
+        (EXAMPLE[:-1], EXAMPLE_PRINT),
+        # "a last `Q` without one is table text": its last line has no newline, 4
+        (EXAMPLE_TABLE + b'Q', refused(4, lines_before + 1)),
+        # "without `Q`, one V"
+        (EXAMPLE_TABLE, EXAMPLE_COUNTS),
+        # `Q` is there, so no V; there are no questions and so no answers
+        (EXAMPLE_TABLE + b'Q\n', b''),
+        # the first line is not the header: 3, "also for empty text"; "once and alone for a refused table, even without questions"
+        (b'', refused(3, 1)),
+        (b'Q\n', refused(3, 1)),
+        (b'Q', refused(3, 1)),
+        (b'\n', refused(3, 1)),
+        (b'Q\nV\nV\n', refused(3, 1)),
+        (HEAD[:-1] + b'\r\n' + b'Q\nV\n', refused(3, 1)),
+        # the header alone is a table; without its newline it is no header
+        (HEAD, b'ok\t0\t0\t0\n'),
+        (HEAD[:-1], refused(3, 1)),
+        # an empty line is a question of wrong form, and the questions behind it are answered
+        (EXAMPLE_TABLE + b'Q\n\n', wrong),
+        (EXAMPLE_TABLE + b'Q\n\nV\n\n\nV', wrong + EXAMPLE_COUNTS + wrong + wrong + EXAMPLE_COUNTS),
+        # only the first line `Q` ends the table: a later one is a question of wrong form
+        (EXAMPLE_TABLE + b'Q\nQ\nV\nQ\nQ', wrong + EXAMPLE_COUNTS + wrong + wrong),
+        # a line that is not exactly `Q` is table text: 4
+        (EXAMPLE_TABLE + b'Q\r\nQ\nV\n', refused(4, lines_before + 1)),
+        (EXAMPLE_TABLE + b'Q\t\nQ\nV\n', refused(4, lines_before + 1)),
+        (EXAMPLE_TABLE + b'QQ\nQ\nV\n', refused(4, lines_before + 1)),
+        (EXAMPLE_TABLE + b'q\nQ\nV\n', refused(4, lines_before + 1)),
+        (EXAMPLE_TABLE + b'\nQ\nV\n', refused(4, lines_before + 1)),
+        # "at most 32,768 bytes in all, otherwise it prints refusal 2"; a question of more than 256 bytes is 11
+        (EXAMPLE + b'x' * (32768 - len(EXAMPLE)), EXAMPLE_PRINT + wrong),
+        (EXAMPLE + b'x' * (32769 - len(EXAMPLE)), refused(2, 0)),
+        (EXAMPLE_TABLE + b'Q\n' + b'\n' * 3000 + b'V', wrong * 3000 + EXAMPLE_COUNTS),
+        (b'x' * 32768, refused(3, 1)),
+        (b'x' * 32769, refused(2, 0)),
+        (b'\n' * 32769, refused(2, 0)),
+    ]
+
+
+def bound_edges():
+    """"255 and 256 members, 64- and 65-byte names, 256 and 257 types", and the bounds of packages, members and paths."""
+    fields = [b'F\tX%d\t-\t0\t0' % i for i in range(256)]
+    packages = [b'P\tp%d' % i for i in range(65)]
+    name = b'n' * 64
+    full = [INT]
+    for _ in range(4):
+        full += [b'T\tstruct'] + fields[:255]
+    full += [b'T\tstruct'] + fields[:4]
+    return [
+        # the field X254 is member 254, at place 254; X255 is not there
+        (asked(table(INT, b'T\tstruct', *fields[:255]), b'V', b'S\t1\t0\t-\tX254', b'S\t1\t0\t-\tX255'), b'ok\t0\t2\t255\nentry\t254\t0\t254\nnotfound\n'),
+        # 6: the "256th member of one type" stands on line 1 + 2 + 256
+        (asked(table(INT, b'T\tstruct', *fields[:256]), b'V', b'S\t1\t0\t-\tX254'), refused(6, 259)),
+        # "Names: 1 to 64": the name of 64 bytes is found; of 65 it is no name, in a question (11) and in the table (4)
+        (asked(table(INT, b'T\tstruct', b'F\t' + name + b'\t-\t0\t0'), b'S\t1\t0\t-\t' + name, b'S\t1\t0\t-\t' + name[1:], b'S\t1\t0\t-\t' + name + b'n', b'V'),
+         b'entry\t0\t0\t0\nnotfound\n' + refused(11, 0) + b'ok\t0\t2\t1\n'),
+        (asked(table(INT, b'T\tstruct', b'F\t' + name + b'n\t-\t0\t0'), b'V'), refused(4, 4)),
+        # types 0 to 255; 256 is a number that the table lacks (11); a 257th type is 6
+        (asked(table(*[INT] * 256), b'V', b'C\t255', b'C\t256', b'I\t0\t255', b'M\t255'), b'ok\t0\t256\t0\nyes\n' + refused(11, 0) + b'yes\nset\t0\n'),
+        (asked(table(*[INT] * 257), b'V', b'C\t255'), refused(6, 258)),
+        (asked(table(*packages[:64], INT), b'V', b'S\t0\t0\t63\tx', b'S\t0\t0\t64\tx'), b'ok\t64\t1\t0\nnotfound\n' + refused(11, 0)),
+        (asked(table(*packages[:65]), b'V'), refused(6, 66)),
+        # 4 * 255 + 4 members: the last is number 1,023, at place 3 of type 5
+        (asked(table(*full), b'V', b'S\t5\t1\t-\tX3'), b'ok\t0\t6\t1024\nentry\t1023\t0\t3\n'),
+        # the 1,025th member stands on line 1 + 1 + 5 + 1,025
+        (asked(table(*full, b'F\tX9\t-\t0\t0'), b'V'), refused(6, 1032)),
+        (asked(table(b'P\t' + b'p' * 128), b'V'), b'ok\t1\t0\t0\n'),
+        (asked(table(b'P\t' + b'p' * 129), b'V'), refused(4, 2)),
+    ]
+
+
+def set_of(count, depth, before):
+    """A table whose last type embeds, `depth` structs deep, a named type of `count` methods, behind a struct of `before` fields; the question M of it; and
+    the set that is due: each method with flag 0 (no pointer is removed), places 0 .. 0 and its own. The names ascend as they come, so the members do."""
+    fields = [b'F\tF%d\t-\t1\t0' % k for k in range(before)]
+    methods = [b'M\tM%03d\t-\t1\t0' % k for k in range(count)]
+    structs = []
+    for k in range(depth):
+        structs += [b'T\tstruct', b'F\tE\t-\t%d\t1' % (4 + k)]
+    text = table(b'T\ttuple', b'T\tfunc\t0\t0\t0', b'T\tstruct', *fields, b'T\tstruct', b'T\tnamed\t3', *methods, *structs)
+    due = b'set\t%d\n' % count + b''.join(b'sel\t%d\t0' % (before + k) + b'\t0' * depth + b'\t%d\n' % k for k in range(count))
+    return text, b'M\t%d' % (4 + depth), due
+
+
+def set_edges():
+    """"with a 16,384-byte answer buffer": a set that fills it is given; one that has a byte more is 13, and the questions behind it are answered."""
+    rows = []
+    for length in [16383, 16384, 16385, 16386]:
+        # 251 methods 26 structs deep and no field before: 16,354 bytes; each field before, up to 100, makes a member's number longer
+        before = next(b for b in range(100) if len(set_of(251, 26, b)[2]) == length)
+        text, question, due = set_of(251, 26, before)
+        counts = b'ok\t0\t31\t%d\n' % (before + 251 + 26)
+        rows.append((asked(text, question, b'V', question), (due + counts + due if length <= 16384 else refused(13, 0) + counts + refused(13, 0))))
+    text, question, due = set_of(255, 30, 0)
+    return rows + [(asked(text, question, b'M\t4', question), refused(13, 0) + set_of(255, 0, 0)[2] + refused(13, 0))]
+
+
+def refusal_edges():
+    """Each refusal of a table with its line, and of a question; the questions behind a refused one are answered."""
+    func = [b'T\ttuple', b'T\tfunc\t0\t0\t0']
+
+    def bad(number, line, *ls):
+        return asked(table(*ls), b'V', b'C\t0'), refused(number, line)
+
+    return [
+        # 4: letter, field count, value outside its range, no newline
+        bad(4, 2, b'X'),
+        bad(4, 2, b'T\tbasic'),
+        bad(4, 2, b'T\tbasic\t2\t3'),
+        bad(4, 2, b'T\tbasic\t28'),
+        bad(4, 2, b'T\tbasic\t02'),
+        bad(4, 3, INT, b'T\tslice\t10000'),
+        bad(4, 2, b'P\t_'),
+        (HEAD + INT, refused(4, 2)),
+        # 5: "P after T, F not under a struct, M not under a named type or interface"
+        bad(5, 3, INT, b'P\tp'),
+        bad(5, 3, INT, b'F\tX\t-\t0\t0'),
+        bad(5, 5, *func, b'T\tstruct', b'M\tX\t-\t1\t0'),
+        # "4 to 6 are tried in turn on each line": a 5 on line 3 comes before a 4 on line 4
+        bad(5, 3, INT, b'P\tp', b'X'),
+        # 7 over the whole text before 8
+        bad(7, 2, b'T\tslice\t9'),
+        bad(7, 4, INT, b'T\tstruct', b'F\tX\t0\t0\t0'),
+        bad(7, 4, b'T\ttuple', b'T\tslice\t0', b'T\tslice\t9'),
+        # 8: only func refers to a tuple; only a named type or interface may come later; a named type's u is not named
+        bad(8, 3, b'T\ttuple', b'T\tslice\t0'),
+        bad(8, 2, b'T\tslice\t1', INT),
+        bad(8, 4, INT, b'T\tnamed\t0', b'T\tnamed\t1'),
+        # 9: the later of two members of one identity; an interface's methods that do not ascend; a method that equals a field
+        bad(9, 5, INT, b'T\tstruct', b'F\tX\t-\t0\t0', b'F\tX\t-\t0\t0'),
+        bad(9, 6, *func, b'T\tiface', b'M\tB\t-\t1\t0', b'M\tA\t-\t1\t0'),
+        bad(9, 7, *func, b'T\tstruct', b'F\tX\t-\t1\t0', b'T\tnamed\t2', b'M\tX\t-\t1\t0'),
+        # 10: the T line of the least number on the cycle: struct 1 holds named 2, which is struct 1
+        bad(10, 3, INT, b'T\tstruct', b'F\tX\t-\t2\t0', b'T\tnamed\t1'),
+        # 11: letter, field count, values, numbers that the table lacks
+        (asked(table(INT), b'X', b'C', b'C\t0\t0', b'C\t00', b'C\t1', b'S\t0\t2\t-\tX', b'S\t0\t0\t0\tX', b'S\t0\t0\t-\t1X', b'N\t0\t1\t0', b'v', b' V', b'V\t', b'V'),
+         refused(11, 0) * 12 + b'ok\t0\t1\t0\n'),
+        (asked(table(INT), b'V' * 256, b'V' * 257, b'C\t0'), refused(11, 0) * 2 + b'yes\n'),
+        # 12: the second type is not itself of kind iface, also where it is a name of one; an interface without methods is satisfied
+        (asked(table(INT, b'T\tiface', b'T\tnamed\t1'), b'N\t0\t0\t0', b'N\t0\t2\t0', b'N\t0\t1\t0', b'N\t0\t3\t0'), refused(12, 0) * 2 + b'satisfied\n' + refused(11, 0)),
+    ]
+
+
+def more_edges():
+    """"More": what document 01 says of two ways of one length and of Byte, and one answer of each word of N."""
+    embeds = lambda *ts: [b'T\tstruct'] + [b'F\tE%d\t-\t%d\t1' % (t, t) for t in ts]
+    owns = [b'T\tstruct', b'F\tX\t-\t0\t0']
+    return [
+        # "D embeds A then B, both embed C with field X: `ambiguous 0 0 0`": C is 2, A 4, B 6, D 8
+        (asked(table(INT, *owns, b'T\tnamed\t1', *embeds(2), b'T\tnamed\t3', *embeds(2), b'T\tnamed\t5', *embeds(4, 6), b'T\tnamed\t7'), b'S\t8\t0\t-\tX'), b'ambiguous\t0\t0\t0\n'),
+        # "A and B each own X instead: `ambiguous 1 0`": A is 2, B 4, D 6
+        (asked(table(INT, *owns, b'T\tnamed\t1', *owns, b'T\tnamed\t3', *embeds(2, 4), b'T\tnamed\t5'), b'S\t6\t0\t-\tX'), b'ambiguous\t1\t0\n'),
+        # "Basic 26 and 8: `yes`"
+        (asked(table(b'T\tbasic\t26', b'T\tbasic\t8', INT), b'I\t0\t1', b'I\t0\t2'), b'yes\nno\n'),
+        # named type 4 has Close with the signature 1, named type 5 with 3; interface 6 wants it with 1: the methods are members 0, 1 and 2
+        (asked(table(b'T\ttuple', b'T\tfunc\t0\t0\t0', b'T\ttuple\t5', b'T\tfunc\t0\t0\t2', b'T\tnamed\t7', b'M\tClose\t-\t1\t0', b'T\tnamed\t7', b'M\tClose\t-\t3\t0', b'T\tiface', b'M\tClose\t-\t1\t0', b'T\tstruct'),
+               b'N\t4\t6\t0', b'N\t5\t6\t0', b'N\t7\t6\t0', b'N\t6\t6\t1'), b'satisfied\nmissing\t2\t1\nmissing\t2\t0\nsatisfied\n'),
+    ]
+
+
+def words(rows):
+    """How often each letter is asked and each word is answered."""
+    seen = {}
+    for text, print_ in rows:
+        if b'Q\n' in text:
+            for q in text[text.index(b'Q\n') + 2:].split(b'\n'):
+                if q[:1] in b'SMNICV' and q[:1]:
+                    seen[q[:1]] = seen.get(q[:1], 0) + 1
+        for l in print_.split(b'\n')[:-1]:
+            word = b' '.join(l.split(b'\t')[:2]) if l.startswith(b'refused') else l.split(b'\t')[0]
+            seen[word] = seen.get(word, 0) + 1
+    return ', '.join(f'{w.decode()} {n}' for w, n in sorted(seen.items()))
+
+
+def main():
+    vectors, crates = sys.argv[1:3]
+    rows = input_edges() + bound_edges() + set_edges() + refusal_edges() + more_edges() + sample(vectors)
+    with open(f'{crates}/typeask_run/stdin', 'wb') as inputs, open(f'{crates}/typeask_run/stdout', 'wb') as prints:
+        for k, (text, print_) in enumerate(rows):
+            inputs.write(b'%05d\n' % len(text) + text)
+            prints.write(b'== %d\n' % k + print_)
+    open(f'{crates}/typeask/stdin', 'wb').write(EXAMPLE)
+    open(f'{crates}/typeask/stdout', 'wb').write(EXAMPLE_PRINT)
+    print(len(rows), 'inputs;', words(rows))
+
+
+main()
