@@ -1,7 +1,7 @@
 -- From what the code gave back for one question to what is printed for it.
 use mathlib.Core.Path.{_≡_, refl, sym, ap, subst, _∙_}
-use mathlib.Core.List.{List, [], _∷_, _++_, append-assoc, append-nil}
-use Prim.Native.Nat.{ℕ, _+_, _-_, _≤_}
+use mathlib.Core.List.{[], _∷_, _++_, append-assoc, append-nil}
+use Prim.Native.Nat.{ℕ, _+_, _≤_}
 use native.Mathlib.Omega.{arith}
 use lib.ListN.{length, take, drop, length-append}
 use lib.Seq.{take-append-seam}
@@ -10,7 +10,6 @@ use Rattle.objects.specs.Lists.{Bytes, flat}
 use Rattle.objects.specs.Rows.{Words, tableOf}
 use Rattle.text.specs.Bytes.{ascii}
 use Rattle.text.specs.Cursors.{part}
-use Rattle.rules.specs.Load.{loaded}
 use Rattle.rules.specs.Question.{questionOf}
 use Rattle.rules.specs.Asked.{Outcome, refuse, say, answered, outcomeOf, written}
 use Rattle.rules.specs.Typeask.{refusedBytes, printed}

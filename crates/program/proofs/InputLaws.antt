@@ -22,7 +22,7 @@ use Rattle.rules.specs.Typeask.{Input, inputOf, putLine, questionsOf}
 use Rattle.program.specs.declared.Parts.{Parts}
 use Rattle.program.specs.declared.Next.{Next}
 use Rattle.program.specs.Due.{questionsAt}
-use Rattle.program.specs.Parts.{partsMeant, Splits, nextMeant, Follows}
+use Rattle.program.specs.Parts.{partsMeant, nextMeant}
 
 -- bytes in front of the table
 unfoldable pub front : Bytes → Input → Input

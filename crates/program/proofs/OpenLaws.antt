@@ -1,19 +1,18 @@
 -- From the parts of the input and the loaded table to all that is due.
 use mathlib.Core.Path.{_≡_, refl, sym, ap, subst, _∙_}
-use mathlib.Core.Bool.{cond}
-use mathlib.Core.List.{List, [], _∷_, _++_, append-nil}
+use mathlib.Core.List.{[], _∷_, append-nil}
 use Prim.Native.Nat.{ℕ, _-_, _≤_, _<_}
 use native.Mathlib.Omega.{arith}
 use lib.ListN.{length, take, drop}
 use borrow.Author.Tests.{lt-ltb, le-ltb}
 use Rattle.objects.specs.Bounds.{maxText}
 use Rattle.objects.specs.Lists.{Bytes}
-use Rattle.objects.specs.Rows.{Words, tableOf}
+use Rattle.objects.specs.Rows.{Words}
 use Rattle.text.specs.Bytes.{ascii}
 use Rattle.text.specs.Lines.{pieces}
 use Rattle.rules.specs.Load.{Loaded, refused, loaded, load}
 use Rattle.rules.specs.Library.{Library}
-use Rattle.rules.specs.Typeask.{inputOf, refusedBytes, printedAll, answeredAll, typeask}
+use Rattle.rules.specs.Typeask.{inputOf, printedAll, answeredAll, typeask}
 use Rattle.table.specs.declared.Loading.{Loading}
 use Rattle.table.specs.Loading.{loadingMeant, Loads}
 use Rattle.program.specs.declared.Parts.{Parts}

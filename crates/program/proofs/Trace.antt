@@ -1,6 +1,6 @@
 -- The contracts of the functions on slices, put together: what `run` writes is `typeask input`. A trace is a list of the calls of `answer_next` that
 -- `ask_from` makes, each with what its contract says, and the bytes that are written after them.
-use mathlib.Core.Path.{_≡_, refl, sym, ap, _∙_}
+use mathlib.Core.Path.{_≡_, sym, ap, _∙_}
 use mathlib.Core.List.{[], _++_}
 use Prim.Native.Nat.{ℕ}
 use lib.ListN.{take}
