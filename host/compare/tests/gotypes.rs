@@ -9,6 +9,7 @@ use compare::table::{Kind, Table};
 use std::io::Write;
 use std::path::{Path, PathBuf};
 use std::process::{Command, Stdio};
+use std::sync::OnceLock;
 use std::{env, thread};
 
 /// Go 1.19's command, if it is installed: `GO`, or where Debian's package golang-1.19-go puts it.
@@ -19,8 +20,13 @@ fn go() -> Option<String> {
     version.contains("go1.19").then_some(command)
 }
 
-/// The program over go/types, built.
-fn program(go: &str) -> PathBuf {
+/// The program over go/types, built once, if Go 1.19 is installed.
+fn program() -> Option<&'static Path> {
+    static BUILT: OnceLock<Option<PathBuf>> = OnceLock::new();
+    BUILT.get_or_init(|| go().map(|go| build(&go))).as_deref()
+}
+
+fn build(go: &str) -> PathBuf {
     let folder = Path::new(env!("CARGO_MANIFEST_DIR")).join("gotypes");
     let to = Path::new(env!("CARGO_TARGET_TMPDIR"));
     let built = to.join("gotypes");
@@ -178,11 +184,11 @@ fn ours() -> Option<Box<dyn Engine>> {
 }
 
 fn compare_all(cases: &[Case], what: &str) {
-    let (Some(go), Some(mut engine)) = (go(), ours()) else {
+    let (Some(program), Some(mut engine)) = (program(), ours()) else {
         println!("{what}: Go 1.19 or the answers to compare are not at hand: nothing compared");
         return;
     };
-    let theirs = go_answers(&program(&go), cases);
+    let theirs = go_answers(program, cases);
     assert_eq!(theirs.len(), cases.len());
     let mut count = Count::default();
     for (case, theirs) in cases.iter().zip(&theirs) {
@@ -236,4 +242,62 @@ fn random_tables() {
         }
     }
     compare_all(&cases, "random");
+}
+
+/// A difference at its smallest: table and question, our answer, and go/types'.
+struct Difference {
+    table: &'static str,
+    question: &'static str,
+    ours: &'static str,
+    theirs: &'static str,
+}
+
+/// The rows of docs/DIFFERENCES.md, "goscript and the Go spec", in order; blanks stand for tabs.
+const DIFFERENCES: [Difference; 4] = [
+    Difference {
+        table: "T basic 2\nT tuple\nT func 0 1 1\nT struct\nT named 3\nM X - 2 0\nT struct\nF X - 0 0\nF K - 4 1\n",
+        question: "M 5",
+        ours: "set 1\nsel 0 0 1 0\n",
+        theirs: "set 0\n",
+    },
+    Difference {
+        table: "T tuple\nT func 0 0 0\nT iface\nM X - 1 0\nT named 2\nT pointer 3\n",
+        question: "M 4",
+        ours: "set 1\nsel 0 1 0\n",
+        theirs: "set 0\n",
+    },
+    // The Go spec's words alone would allow a second pointer to be removed; go/types does not.
+    Difference {
+        table: "T basic 2\nT struct\nF X - 0 0\nT pointer 1\nT pointer 2\nT named 3\n",
+        question: "S 4 0 - X",
+        ours: "notfound\n",
+        theirs: "notfound\n",
+    },
+    Difference {
+        table: "T tuple\nT func 0 0 0\nT struct\nT named 2\nM X - 1 1\nT iface\nM X - 1 0\n",
+        question: "N 3 4 0",
+        ours: "missing 1 0\n",
+        theirs: "missing 1 1\n",
+    },
+];
+
+#[test]
+fn each_difference_at_its_smallest() {
+    for d in DIFFERENCES {
+        let tabbed = |text: &str| text.replace(' ', "\t");
+        let table = tabbed("typetable 1\n") + &tabbed(d.table);
+        for mut engine in [engine::library(), engine::goscript()]
+            .into_iter()
+            .flatten()
+        {
+            engine.load(&table).expect("it loads");
+            let answer = engine.ask(&tabbed(d.question));
+            assert_eq!(answer, Some(tabbed(d.ours)), "{table}{}", engine.name());
+        }
+        if let Some(program) = program() {
+            let case = (table, vec![tabbed(d.question)]);
+            let answers = go_answers(program, &[case]);
+            assert_eq!(answers, [[tabbed(d.theirs)]], "{}", d.question);
+        }
+    }
 }
