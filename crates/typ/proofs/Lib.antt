@@ -10,3 +10,4 @@ pub mod Passing
 pub mod Rank
 pub mod Cycle
 pub mod Top
+pub mod Early

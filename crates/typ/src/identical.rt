@@ -6,9 +6,11 @@ ghost use Prim.Native.Nat.{ℕ, _+_, _<_, _≤_};
 ghost use lib.ListN.{length, replicate};
 ghost use Rattle.objects.specs.Bounds.{markWords};
 ghost use Rattle.objects.specs.Rows.{typeCount, tableOf};
+ghost use Rattle.objects.specs.Types.{numberRead};
 ghost use Rattle.rules.specs.Library.{Library};
 ghost use Rattle.rules.specs.Identity.{identical};
 ghost use Rattle.typ.specs.Marks.{met};
+ghost use Rattle.typ.specs.Parts.{ownRead};
 ghost use Rattle.typ.specs.Compared.{pairs, Clean, Entered, Kin, Well, Compared, PartsCompared, State, Turn};
 use crate::marks::clear;
 use crate::marks::is_met;
@@ -167,6 +169,47 @@ fn settled(marks: &[u32]) -> bool
     true
 }
 
+// Types p and q differ by kind or own number, whatever their parts are.
+fn unlike(rows: &[u32], p: TypeKey, q: TypeKey) -> bool
+    ensures { λ r. ⌜ (r ≡ true → numberRead (now (rows .entry)) p ≡ numberRead (now (rows .entry)) q → ownRead (now (rows .entry)) p ≡ ownRead (now (rows .entry)) q → ⊥) ⌝ }
+{
+    if p.0 == q.0 {
+        return false;
+    }
+    let k = kind_number(rows, p);
+    let l = kind_number(rows, q);
+    if k != l {
+        return true;
+    }
+    let a = own_number(rows, p);
+    let b = own_number(rows, q);
+    a != b
+}
+
+// Types x and y, of one kind and one own number, are told apart by members that are not called alike or by parts that are unlike. This looks one level deep
+// and takes no marks, so that none need be cleared.
+fn apart(text: &[u8], rows: &[u32], x: TypeKey, y: TypeKey) -> bool
+    requires { ⌜ Library (now text) (now rows) ⌝ }
+    requires { ⌜ Kin (tableOf (now text) (now rows)) x y ⌝ }
+    ensures { λ r. ⌜ (r ≡ true → identical (tableOf (now (text .entry)) (now (rows .entry))) x y ≡ false) ⌝ }
+{
+    let n = part_count(rows, x);
+    let mut i: u32 = 0;
+    while i < n {
+        let named_alike = alike_at(text, rows, x, y, i);
+        if !named_alike {
+            return true;
+        }
+        let p = part_at(rows, x, i);
+        let q = part_at(rows, y, i);
+        if unlike(rows, p, q) {
+            return true;
+        }
+        i += 1;
+    }
+    false
+}
+
 // Types x and y are identical. What was put off is opened, round and round, until nothing is left.
 fn decide(text: &[u8], rows: &[u32], marks: &mut [u32], x: TypeKey, y: TypeKey) -> bool
     requires { ⌜ Library (now text) (now rows) ⌝ }
@@ -197,8 +240,8 @@ fn decide(text: &[u8], rows: &[u32], marks: &mut [u32], x: TypeKey, y: TypeKey) 
     true
 }
 
-// Types x and y are identical. The marks are 0 before and after. Types that differ at once, and one type with itself, leave them alone; so does a named
-// type, whose own number is its alone.
+// Types x and y are identical. The marks are 0 before and after. Types that differ at once or by their parts at once, and one type with itself, leave them
+// alone; so does a named type, whose own number is its alone.
 pub fn identical(text: &[u8], rows: &[u32], marks: &mut [u32], x: TypeKey, y: TypeKey) -> bool
     requires { ⌜ Library (now text) (now rows) ⌝ }
     requires { ⌜ (x .0 < typeCount (now rows)) × (y .0 < typeCount (now rows)) × (markWords ≤ length (now marks)) ⌝ }
@@ -213,6 +256,9 @@ pub fn identical(text: &[u8], rows: &[u32], marks: &mut [u32], x: TypeKey, y: Ty
         return false;
     }
     if own_number(rows, x) != own_number(rows, y) {
+        return false;
+    }
+    if apart(text, rows, x, y) {
         return false;
     }
     let r = decide(text, rows, marks, x, y);
