@@ -54,7 +54,7 @@ module _ (s : Bytes) where
       pub whole-loaded : r ≡ Loading.Loaded → Opens s Opening.Whole rows
       unfolding openingMeant partsMeant printedOne
       whole-loaded q =
-          let lib = l .library q in
+          let lib = l .holds q in
           record { says = parted Parts.Whole e ∙ ap (λ d. printedAll d (ascii "V" ∷ [])) (lib .loads) ∙ append-nil (printedOne s rows (ascii "V")); holds = lib }
 
     module _ (end next : ℕ) (a : end ≤ length s) (b : next ≤ length s) (e : inputOf (pieces s) ≡ partsMeant s (Parts.Until end next)) (rows : Words) {r : Loading} (l : Loads (take (end - 0) (drop 0 s)) r rows) where
@@ -68,5 +68,5 @@ module _ (s : Bytes) where
       pub until-loaded : r ≡ Loading.Loaded → Opens s (Opening.Until end next) rows
       unfolding openingMeant partsMeant due printedOne
       until-loaded q =
-          let lib = loads-table .library q in
+          let lib = loads-table .holds q in
           record { says = parted (Parts.Until end next) e ∙ ap (λ d. printedAll d (questionsAt s next)) (lib .loads); holds = (a, b, lib) }

@@ -21,4 +21,4 @@ pub record Passes (text : Bytes) (due : Loaded) (r : Loading) (rows : Words) : T
 -- The answer is the rules' own, and rows that loaded are a library.
 pub record Loads (text : Bytes) (r : Loading) (rows : Words) : Type 0 where
   pub says : loadingMeant text rows r ≡ load text
-  pub library : r ≡ Loading.Loaded → Library text rows
+  pub holds : r ≡ Loading.Loaded → Library text rows

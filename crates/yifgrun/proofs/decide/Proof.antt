@@ -22,7 +22,7 @@ slice-aggregate-answered : tie.Need-slice-aggregate-answered
 slice-aggregate-answered c = search needs
 
 answered-requires : tie.Need-answered-requires
-answered-requires c κs = ((c .before .before .before .before .before .before .load .ensures .library) (c .before .before .before .enum-told .given .1), ((c .before .before .before .before .before .before .before .before .before .before .before .before .pre .0), (c .before .before .before .before .before .before .before .before .before .before .before .before .pre .1)))
+answered-requires c κs = ((c .before .before .before .before .before .before .load .ensures .holds) (c .before .before .before .enum-told .given .1), ((c .before .before .before .before .before .before .before .before .before .before .before .before .pre .0), (c .before .before .before .before .before .before .before .before .before .before .before .before .pre .1)))
 
 returns : tie.Need-returns
 returns c = (table-refused _ _ _ _ (c .before .before .before .before .load .ensures) (c .before .n .given .1), refl)
