@@ -1,11 +1,11 @@
 -- From what the code gave back for one question to what is printed for it.
 use mathlib.Core.Path.{_≡_, refl, sym, ap, subst, _∙_}
 use mathlib.Core.List.{[], _∷_, _++_, append-assoc, append-nil}
-use Prim.Native.Nat.{ℕ, _+_, _≤_}
+use Prim.Native.Nat.{ℕ, _+_, _*_, _≤_, _<_}
 use native.Mathlib.Omega.{arith}
 use lib.ListN.{length, take, drop, length-append}
-use lib.Seq.{take-append-seam}
-use Rattle.objects.specs.Bounds.{programAnswer}
+use lib.Seq.{take-append-seam, length-take-le}
+use Rattle.objects.specs.Bounds.{maxText, programAnswer}
 use Rattle.objects.specs.Lists.{Bytes, flat}
 use Rattle.objects.specs.Rows.{Words, tableOf}
 use Rattle.text.specs.Bytes.{ascii}
@@ -22,7 +22,7 @@ use Rattle.answer.specs.Done.{doneOf, Does}
 use Rattle.program.specs.declared.Next.{Next}
 use Rattle.program.specs.declared.Step.{Step}
 use Rattle.program.specs.Due.{questionsAt, printedOne, due, refusedRoom}
-use Rattle.program.specs.Parts.{nextMeant, nextWithin, Follows, Shows, stepMeant, Steps, Piece, Left}
+use Rattle.program.specs.Parts.{nextMeant, nextWithin, Follows, Shows, stepMeant, stepWithin, Steps, Piece, Left}
 
 -- ---- the line of a refusal
 
@@ -130,3 +130,38 @@ module _ (whole text : Bytes) (rows : Words) (input : Bytes) (at : ℕ) {next n 
     before = l .before ++ take n out;
     parts = l .parts ∙ ap (λ d. l .before ++ d) said ∙ sym (append-assoc (l .before) (take n out) (due text rows input next));
   }
+
+-- ---- how many bytes are handed on
+
+-- all at once
+pub shows-length : {text out : Bytes} {n r : ℕ} → Shows text out n → r ≡ n → r ≡ length text
+shows-length {out = out} {n = n} s p = p ∙ sym (length-take-le n out (s .fits)) ∙ ap length (s .shown)
+
+pub none-yet : (n : ℕ) → 0 + n ≡ n
+none-yet n = omega arith
+
+-- answer by answer: those so far and those still due are all
+module _ (text : Bytes) (rows : Words) (input : Bytes) (at : ℕ) {r : Step} {out : Bytes} (s : Steps text rows input at r out) where
+  pub count-end : {total all : ℕ} → total + length (due text rows input at) ≡ all → r ≡ Step.End → total ≡ all
+  unfolding stepMeant
+  count-end e q =
+      let d : due text rows input at ≡ [] = s .says ∙ ap (stepMeant text rows input out) q in
+      omega (arith, e, ap length d)
+
+  module _ {next n : ℕ} (q : r ≡ Step.Said next n) {k : ℕ} (p : k ≡ n) where
+    inside : (at < next) × (next ≤ length input) × (n ≤ length out)
+    inside = subst (stepWithin input at out) q (s .within)
+
+    pub count-next : (total : ℕ) {all : ℕ} → total + length (due text rows input at) ≡ all → (total + k) + length (due text rows input next) ≡ all
+    unfolding stepMeant
+    count-next total e =
+        let d : due text rows input at ≡ take n out ++ due text rows input next = s .says ∙ ap (stepMeant text rows input out) q in
+        omega (arith, e, p, ap length d, length-append (take n out) (due text rows input next), length-take-le n out (inside .2))
+
+    -- each turn goes on by a byte of the input or more, and its answer fits the buffer
+    module _ (before : Bytes) (same : length out ≡ length before) (room : length before ≡ programAnswer) {total : ℕ} (few : total ≤ at * programAnswer) where
+      pub few-next : total + k ≤ next * programAnswer
+      few-next = omega (arith, p, same, room, few, inside .0, inside .2)
+
+      pub few-all : length input ≤ maxText → total + k ≤ maxText * programAnswer
+      few-all short = omega (arith, few-next, inside .1, short)

@@ -69,4 +69,4 @@ module _ (s : Bytes) where
       unfolding openingMeant partsMeant due printedOne
       until-loaded q =
           let lib = loads-table .holds q in
-          record { says = parted (Parts.Until end next) e ∙ ap (λ d. printedAll d (questionsAt s next)) (lib .loads); holds = (a, b, lib) }
+          record { says = parted (Parts.Until end next) e ∙ ap (λ d. printedAll d (questionsAt s next)) (lib .loads); holds = (a, b, lib, short) }

@@ -3,6 +3,7 @@ use mathlib.Core.Path.{_≡_}
 use mathlib.Core.List.{List, [], _∷_, _++_}
 use Prim.Native.Nat.{ℕ, _≤_, _<_}
 use lib.ListN.{length, take}
+use Rattle.objects.specs.Bounds.{maxText}
 use Rattle.objects.specs.Lists.{Bytes}
 use Rattle.objects.specs.Rows.{Words}
 use Rattle.text.specs.Bytes.{ascii}
@@ -78,11 +79,11 @@ openingMeant input rows (Opening.Refused n line) = refusedBytes n line
 openingMeant input rows Opening.Whole = printedOne input rows (ascii "V")
 openingMeant input rows (Opening.Until end next) = due (take end input) rows input next
 
--- where the table loaded, its rows may be asked
+-- where the table loaded, its rows may be asked; an input with questions is not too long
 abbrev pub openingHolds : Bytes → Words → Opening → Type 0
 openingHolds input rows (Opening.Refused n line) = Unit {0}
 openingHolds input rows Opening.Whole = Library input rows
-openingHolds input rows (Opening.Until end next) = (end ≤ length input) × (next ≤ length input) × Library (take end input) rows
+openingHolds input rows (Opening.Until end next) = (end ≤ length input) × (next ≤ length input) × Library (take end input) rows × (length input ≤ maxText)
 
 pub record Opens (input : Bytes) (r : Opening) (rows : Words) : Type 0 where
   pub says : typeask input ≡ openingMeant input rows r

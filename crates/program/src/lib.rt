@@ -1,5 +1,9 @@
 // The program typeask between reading and writing. The input is parted into table and questions (input), the table is loaded once (library), and
 // the questions are answered one after the other (asking).
+ghost use mathlib.Core.Path.{_≡_};
+ghost use lib.ListN.{length};
+ghost use Rattle.rules.specs.Typeask.{typeask};
+
 pub mod asking;
 pub mod input;
 pub mod library;
@@ -35,14 +39,17 @@ pub enum Step {
     Said(usize, usize),
 }
 
-// Prints all that is due for the input, `typeask input`. No contract can say what was written. These say together that it is this:
+// Prints all that is due for the input, `typeask input`, and answers how many bytes it handed to io::write_all: as many as are due. No contract can say
+// what was written, nor does the number say that no write failed. These say together that what is handed on is `typeask input`:
 // - `open_input`: `typeask input` is the line of a refusal, the answer to one V, or what is due from a place on (Opens);
 // - `put_refused` and `print_one`: the front of the buffer is that line, or that answer (Shows); it is written once, and nothing else is;
 // - `answer_next`: what is due from a place on is the front of the buffer and what is due from the next place on, or nothing (Steps); each front is
 //   written once, in order, until nothing is due;
 // - `show`, the one function that writes: what it writes is a piece of `typeask input` (Piece).
 // proofs/Trace.antt puts them together.
-pub fn run(input: &[u8]) {
+pub fn run(input: &[u8]) -> usize
+    ensures { λ r. ⌜ r ≡ length (typeask (now (input .entry))) ⌝ }
+{
     let mut rows = [0u32; 26_760];
     match open_input(input, &mut rows) {
         Opening::Refused(n, line) => refuse(input, n, line),

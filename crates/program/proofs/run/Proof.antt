@@ -1,6 +1,7 @@
--- `program::run` hands on what is due: the line of a refusal, the answer to one V, or the answers to the questions behind `Q`.
-use mathlib.Core.Path.{refl, ap, subst, _∙_}
+-- `program::run` hands on what is due: the line of a refusal, the answer to one V, or the answers to the questions behind `Q`. Each way answers its length.
+use mathlib.Core.Path.{refl, sym, ap, subst, _∙_}
 use native.Mathlib.Omega.{arith}
+use lib.ListN.{length}
 use Rattle.program.specs.Parts.{openingMeant, openingHolds}
 use Rattle.program.proofs.OpenLaws.{library-part, due-part}
 use borrow.Author.Needs.{needs}
@@ -54,16 +55,20 @@ ask-all-requires c κs = let w = subst (openingHolds (c .before .before .before 
   library-part (c .before .before .before .before .before .before .before .before .before .args .input .now) (c .before .before .before .end .given .0 .0) _ (w .2),
   w .1,
   (c .before .before .before .before .before .before .open-input .ensures .says) ∙ ap (openingMeant (c .before .before .before .before .before .before .before .before .before .args .input .now) _) (c .before .before .before .end .given .1) ∙ due-part (c .before .before .before .before .before .before .before .before .before .args .input .now) (c .before .before .before .end .given .0 .0) _ _,
+  w .3,
 )
 
 returns : tie.Need-returns
-returns c = search needs
+unfolding openingMeant
+returns c = (c .refuse .ensures) ∙ sym (ap length (c .before .before .before .before .before .open-input .ensures .says ∙ ap (openingMeant (c .before .before .before .before .before .before .before .before .args .input .now) _) (c .before .before .n .given .1)))
 
 returns-2 : tie.Need-returns-2
-returns-2 c = search needs
+unfolding openingMeant
+returns-2 c = (c .ask-once .ensures) ∙ sym (ap length (c .before .before .before .before .before .open-input .ensures .says ∙ ap (openingMeant (c .before .before .before .before .before .before .before .before .args .input .now) _) (c .before .before .enum-told .given .1)))
 
 returns-3 : tie.Need-returns-3
-returns-3 c = search needs
+unfolding openingMeant
+returns-3 c = (c .ask-all .ensures) ∙ sym (ap length (c .before .before .before .before .before .before .before .open-input .ensures .says ∙ ap (openingMeant (c .before .before .before .before .before .before .before .before .before .before .args .input .now) _) (c .before .before .before .before .end .given .1) ∙ due-part (c .before .before .before .before .before .before .before .before .before .before .args .input .now) (c .before .before .before .before .end .given .0 .0) _ _))
 
 pub run-spec : {M : Type 1} → statement M
 run-spec =

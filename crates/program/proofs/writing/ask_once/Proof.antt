@@ -1,7 +1,7 @@
--- `program::writing::ask_once` writes the answer that is due.
+-- `program::writing::ask_once` writes the answer that is due, and answers its length.
 use mathlib.Core.Path.{refl}
 use native.Mathlib.Omega.{arith}
-use Rattle.program.proofs.AskLaws.{piece-all}
+use Rattle.program.proofs.AskLaws.{piece-all, shows-length}
 use borrow.Author.Needs.{needs}
 use Rattle.program.proofs.writing.ask_once.Statement.{statement}
 use Rattle.program.proofs.writing.ask_once.Tie as tie
@@ -25,7 +25,7 @@ show-requires : tie.Need-show-requires
 show-requires c κs = ((c .before .before .before .print-one .ensures .0 .fits), piece-all (c .before .before .before .before .before .before .before .before .before .pre .1) (c .before .before .before .print-one .ensures .0))
 
 returns : tie.Need-returns
-returns c = search needs
+returns c = shows-length (c .before .before .before .before .print-one .ensures .0) (c .show .ensures)
 
 pub ask-once-spec : {M : Type 1} → statement M
 ask-once-spec =

@@ -1,6 +1,6 @@
--- `program::writing::refuse` writes the line that is due.
+-- `program::writing::refuse` writes the line that is due, and answers its length.
 use native.Mathlib.Omega.{arith}
-use Rattle.program.proofs.AskLaws.{piece-all}
+use Rattle.program.proofs.AskLaws.{piece-all, shows-length}
 use borrow.Author.Needs.{needs}
 use Rattle.program.proofs.writing.refuse.Statement.{statement}
 use Rattle.program.proofs.writing.refuse.Tie as tie
@@ -18,7 +18,7 @@ show-requires : tie.Need-show-requires
 show-requires c κs = ((c .before .before .put-refused .ensures .fits), piece-all (c .before .before .before .before .before .pre) (c .before .before .put-refused .ensures))
 
 returns : tie.Need-returns
-returns c = search needs
+returns c = shows-length (c .before .before .before .put-refused .ensures) (c .show .ensures)
 
 pub refuse-spec : {M : Type 1} → statement M
 refuse-spec =

@@ -1,4 +1,4 @@
--- `program::writing::show` is safe.
+-- `program::writing::show` meets its contract.
 use native.Mathlib.Omega.{arith}
 use borrow.Author.Needs.{needs}
 use Rattle.program.proofs.writing.show.Statement.{statement}
