@@ -14,7 +14,7 @@ use Rattle.objects.specs.Rows.{Words, wordAt}
 use Rattle.objects.specs.Types.{numberRead, underRead, namedRead, pointerRead, totalRead}
 use Rattle.objects.proofs.ListLaws.{cases}
 use Rattle.objects.proofs.Stores.{word-put, word-kept}
-use Rattle.method_levels.specs.Levels.{upToTwo, firstWord, placesTo}
+use Rattle.method_levels.specs.Levels.{upToTwo, firstWord, placesTo, Between, FirstFrom}
 use Rattle.method_levels.specs.Entering.{fieldTotal, barredRead, flagRead, nextPut, rowPut, firstPut, Clear}
 use Rattle.method_levels.proofs.CountLaws.{two-less, two-more}
 
@@ -94,14 +94,27 @@ clear-more next i l h j k =
     (λ e. let z = eqb-true j i e in rw z (word-put next i 0 l))
     (λ e. let ne = eqb-false j i e in word-kept next i 0 j ne ∙ h j (omega arith))
 
-pub clear-on : (next : Words) (i : ℕ) → Clear next i → {k : ℕ} → k ≡ wordAt next i → k ≡ 0 → Clear next (i + 1)
-clear-on next i h p z j l =
-    cases (eqb j i)
-    (λ e. let q = eqb-true j i e in rw q (sym p ∙ z))
-    (λ e. let ne = eqb-false j i e in h j (omega arith))
-
 pub clear-all : (next : Words) (n i : ℕ) → n ≤ i → Clear next i → Clear next n
 clear-all next n i l h j k = h j (omega arith)
+
+-- ---- the first type from one on
+
+module _ (level : Words) (from u : ℕ) (b : Between level from u) where
+  pub between-on : {k : ℕ} → k ≡ wordAt level u → k ≡ 0 → Between level from (u + 1)
+  between-on p z j h l =
+      cases (eqb j u)
+      (λ e. let q = eqb-true j u e in rw q (sym p ∙ z))
+      (λ e. let ne = eqb-false j u e in b j h (omega arith))
+
+  pub first-found : (n : ℕ) → from ≤ u → u < n → {k : ℕ} → k ≡ wordAt level u → (k ≡ 0 → ⊥) → FirstFrom level from n u
+  first-found n h l p z = record { from-on = h; before-end = omega arith; between = b; has = λ _ e. z (p ∙ e) }
+
+  pub first-none : (n : ℕ) → from ≤ u → u ≤ n → n ≤ u → FirstFrom level from n u
+  first-none n h l g = record { from-on = h; before-end = l; between = b; has = λ k _. absurd (omega arith) }
+
+-- a level that has no type before n
+pub none-clear : (next : Words) (n r : ℕ) → FirstFrom next 0 n r → ltb r n ≡ false → Clear next n
+none-clear next n r f e j l = let g = ltb-false r n e in f .between j (omega arith) (omega arith)
 
 -- ---- places
 

@@ -60,3 +60,16 @@ pub record OnLevel (T : Table) (t : TypeKey) (d : ℕ) (now first : Words) : Typ
   pub led : (u : TypeKey) → any (sameType u) (reaches T (levelAt T t d)) ≡ true → any (sameType (typeKey (firstWord first u 0))) (reaches T (levelAt T t d)) ≡ true
   -- the one walk to a type on the level that reaches it first; what is given stands at the end of such a walk
   pub alone : (e : ℕ) (w : Walk) → e ≤ d → standing (w .at) (levelAt T t e .walks) ≡ w ∷ [] → any (sameType (w .at)) (levelAt T t e .reached) ≡ false → Came first e w
+
+-- ---- the types of a level
+
+-- the level has none of the types from `from` on, before r
+abbrev pub Between : Words → (from r : ℕ) → Type 0
+Between now from r = (j : ℕ) → from ≤ j → j < r → wordAt now j ≡ 0
+
+-- r is the first type from `from` on that the level has, n if it has none before n
+pub record FirstFrom (now : Words) (from n r : ℕ) : Type 0 where
+  pub from-on : from ≤ r
+  pub before-end : r ≤ n
+  pub between : Between now from r
+  pub has : r < n → wordAt now r ≡ 0 → ⊥

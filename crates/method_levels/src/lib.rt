@@ -12,7 +12,7 @@ ghost use Rattle.objects.specs.Table.{bit};
 ghost use Rattle.objects.specs.Rows.{typeCount, tableOf};
 ghost use Rattle.rules.specs.Library.{Library};
 ghost use Rattle.rules.specs.Ways.{fieldPlaces};
-ghost use Rattle.method_levels.specs.Levels.{levelAt, upToTwo, firstWord, placesTo, OnLevel};
+ghost use Rattle.method_levels.specs.Levels.{levelAt, upToTwo, firstWord, placesTo, OnLevel, FirstFrom};
 ghost use Rattle.method_levels.specs.Entering.{fieldTotal, barredRead, flagRead, fieldAt, nextPut, rowPut, firstPut, Clear, Enters};
 use objects::ObjKey;
 use objects::TypeKey;
@@ -212,19 +212,6 @@ fn clear(next: &mut [u32], n: u32)
     }
 }
 
-fn any_entered(next: &[u32], n: u32) -> bool
-    ensures { λ r. ⌜ (r ≡ false → Clear (now (next .entry)) n) ⌝ }
-{
-    let mut i: u32 = 0;
-    while i < n {
-        if word(next, i as usize) != 0 {
-            return true;
-        }
-        i += 1;
-    }
-    false
-}
-
 fn bit_of(b: bool) -> u32
     ensures { λ r. ⌜ r ≡ bit b ⌝ }
 {
@@ -242,6 +229,21 @@ pub fn first_level(text: &[u8], rows: &[u32], t: TypeKey, level: &mut [u32], fir
     put_row(first, v, v.0, 0, flag, 1);
 }
 
+// The first type from this one on that the level has, n if there is none. A level of few types costs little more than these reads.
+pub fn next_reached(level: &[u32], from: u32, n: u32) -> u32
+    requires { ⌜ (from ≤ n) × (n ≤ length (now level)) ⌝ }
+    ensures { λ r. ⌜ FirstFrom (now (level .entry)) from n r ⌝ }
+{
+    let mut u = from;
+    while u < n {
+        if level[u as usize] != 0 {
+            return u;
+        }
+        u += 1;
+    }
+    u
+}
+
 // The level after one more step. Answers whether it has a walk.
 pub fn below(
     text: &[u8],
@@ -257,7 +259,7 @@ pub fn below(
 {
     let n = type_count(rows);
     clear(next, n);
-    let mut u: u32 = 0;
+    let mut u = next_reached(level, 0, n);
     while u < n {
         pass_type(
             text,
@@ -268,7 +270,7 @@ pub fn below(
             next,
             first,
         );
-        u += 1;
+        u = next_reached(level, u + 1, n);
     }
-    any_entered(next, n)
+    next_reached(next, 0, n) < n
 }

@@ -1,5 +1,5 @@
 -- The ways through the code of one hit, as laws on what it reads.
-use mathlib.Core.Path.{_≡_, refl, sym, _∙_}
+use mathlib.Core.Path.{_≡_, refl, sym, _∙_, subst}
 use mathlib.Core.Bool.{Bool, true, false, not}
 use mathlib.Core.List.{[], _∷_}
 use Prim.Native.Nat.{ℕ, zero, suc, _+_, _*_, _-_, _≤_, _<_}
@@ -16,7 +16,7 @@ use Rattle.objects.proofs.ListLaws.{cases}
 use Rattle.objects.specs.Rows.{Words, wordAt, typeWord, typeCount, memberCountOf}
 use Rattle.objects.specs.Laid.{Laid, endOf}
 use Rattle.objects.specs.Types.{numberOf, ifaceRead, numberRead, underRead, namedRead, firstRead, totalRead, methodRead, ptrRead}
-use Rattle.method_levels.specs.Levels.{firstWord}
+use Rattle.method_levels.specs.Levels.{firstWord, Between, FirstFrom}
 use Rattle.method_set.specs.Sets.{selWord}
 use Rattle.method_set.specs.Hits.{standsAfter, isSettled, flagAt, rowAfter, hit, named, members, membersIf, owned, atType, atTypes}
 
@@ -170,6 +170,22 @@ module _ (rows level first index sels : Words) (stamp : ℕ) where
       → after ≡ atTypes rows level first stamp index (n + 1) sels
   unfolding atTypes
   types-next n b a = let s : n + 1 ≡ suc n = omega arith in rw (s, ← b, a)
+
+  -- types that the level does not have hit nothing
+  types-past : {after : Words} (g k : ℕ) → Between level k (k + g) → after ≡ atTypes rows level first stamp index k sels → after ≡ atTypes rows level first stamp index (k + g) sels
+  types-past {after} zero k b a = let z : k ≡ k + 0 = omega arith in subst (λ i. after ≡ atTypes rows level first stamp index i sels) z a
+  types-past {after} (suc g) k b a =
+      let z : k + g + 1 ≡ k + suc g = omega arith in
+      let w : wordAt level (k + g) ≡ 0 = b (k + g) (omega arith) (omega arith) in
+      let s : after ≡ atTypes rows level first stamp index (k + g) sels = types-past g k (λ j h n. b j h (omega arith)) a in
+      subst (λ i. after ≡ atTypes rows level first stamp index i sels) z
+      (types-next (k + g) s (type-none rows level first index after stamp (record { 0 = k + g }) 0 (sym w) refl))
+
+  pub types-to : {k n r : ℕ} {after : Words} → FirstFrom level k n r → after ≡ atTypes rows level first stamp index k sels → after ≡ atTypes rows level first stamp index r sels
+  types-to {k} {n} {r} {after} f a =
+      let l = f .from-on in
+      let z : k + (r - k) ≡ r = omega (arith, l) in
+      subst (λ i. after ≡ atTypes rows level first stamp index i sels) z (types-past (r - k) k (λ j h m. f .between j h (omega (arith, l, m))) a)
 
   pub types-end : (n : ℕ) {i m : ℕ} {after : Words} → m ≡ n → after ≡ atTypes rows level first stamp index i sels → i ≤ m → m ≤ i → after ≡ atTypes rows level first stamp index n sels
   types-end n {i} e a l g = let s : i ≡ n = omega (arith, e) in rw (← s) a

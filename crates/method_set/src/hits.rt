@@ -3,13 +3,14 @@ ghost use mathlib.Core.Path.{_≡_};
 ghost use mathlib.Core.Bool.{true};
 ghost use Prim.Native.Nat.{_+_, _*_, _≤_, _<_};
 ghost use lib.ListN.{length};
-ghost use Rattle.objects.specs.Bounds.{selRow, selWords};
+ghost use Rattle.objects.specs.Bounds.{maxTypes, selRow, selWords};
 ghost use Rattle.objects.specs.Rows.{wordAt, typeCount, memberCountOf};
 ghost use Rattle.objects.specs.Types.{underRead, firstRead, totalRead};
 ghost use Rattle.objects.specs.Laid.{Laid};
 ghost use Rattle.method_set.specs.Hits.{standsAfter, isSettled, flagAt, hit, named, members, membersIf, owned, atType, atTypes, Small, Under};
 use crate::words::put_row;
 use crate::words::sel_word;
+use method_levels::next_reached;
 use objects::ObjKey;
 use objects::TypeKey;
 use objects::rows::first_member;
@@ -234,13 +235,13 @@ pub fn at_types(
     index: &[u32],
     sels: &mut [u32],
 )
-    requires { ⌜ Laid (now rows) × Small (now rows) (now index) × Under (now rows) × (selWords ≤ length (now sels)) ⌝ }
+    requires { ⌜ Laid (now rows) × Small (now rows) (now index) × Under (now rows) × (maxTypes ≤ length (now level)) × (selWords ≤ length (now sels)) ⌝ }
     ensures { λ _. ⌜ now (sels .exit) ≡ atTypes (now (rows .entry)) (now (level .entry)) (now (first .entry)) stamp (now (index .entry)) (typeCount (now (rows .entry))) (now (sels .entry)) ⌝ }
 {
     let n = type_count(rows);
-    let mut u: u32 = 0;
+    let mut u = next_reached(level, 0, n);
     while u < n {
         at_type(rows, level, first, stamp, index, TypeKey(u), sels);
-        u += 1;
+        u = next_reached(level, u + 1, n);
     }
 }

@@ -11,19 +11,17 @@ ghost use Rattle.method_levels.specs.Levels.{levelAt, OnLevel};
 ghost use Rattle.method_set.specs.Hits.{Small, Copied};
 ghost use Rattle.method_set.specs.Standings.{Settled};
 use crate::hits::at_types;
-use crate::words::put;
 use method_levels::below;
 use objects::TypeKey;
 use objects::rows::type_count;
-use objects::rows::word;
 
 fn copy(words: &[u32], n: u32, to: &mut [u32])
-    requires { ⌜ n ≤ length (now to) ⌝ }
+    requires { ⌜ (n ≤ length (now words)) × (n ≤ length (now to)) ⌝ }
     ensures { λ _. ⌜ Copied (now (words .entry)) n (now (to .exit)) ⌝ }
 {
     let mut i: u32 = 0;
     while i < n {
-        put(to, i as usize, word(words, i as usize));
+        to[i as usize] = words[i as usize];
         i += 1;
     }
 }

@@ -13,7 +13,7 @@ type-count-requires : tie.Need-type-count-requires
 type-count-requires c κs = search needs
 
 copy-requires : tie.Need-copy-requires
-copy-requires c κs = omega (arith, (c .before .type-count .ensures), (c .before .before .before .before .before .before .before .before .before .before .before .before .before .before .before .before .pre .0 .laid .types), (c .before .before .before .before .before .before .before .before .before .before .before .before .before .before .before .before .pre .4))
+copy-requires c κs = (omega (arith, (c .before .type-count .ensures), (c .before .before .before .before .before .before .before .before .before .before .before .before .before .before .before .before .pre .0 .laid .types), (c .before .before .before .before .before .before .before .before .before .before .before .before .before .before .before .before .pre .5)), omega (arith, (c .before .type-count .ensures), (c .before .before .before .before .before .before .before .before .before .before .before .before .before .before .before .before .pre .0 .laid .types), (c .before .before .before .before .before .before .before .before .before .before .before .before .before .before .before .before .pre .4)))
 
 same-length : tie.Need-same-length
 same-length c = search needs

@@ -1,7 +1,8 @@
-use mathlib.Core.Path.{_≡_}
+use mathlib.Core.Path.{_≡_, refl}
 use Prim.Native.Nat.{_-_, _≤_}
 use native.Mathlib.Omega.{arith}
-use lib.ListN.{length}
+use lib.ListN.{length, length-set}
+use Rattle.objects.specs.Rows.{wordAt}
 use Rattle.method_set.specs.Hits.{Copied}
 use Rattle.method_set.proofs.DoingLaws.{copy-none, copy-more, copy-end}
 use borrow.Author.Needs.{needs}
@@ -17,17 +18,23 @@ abbrev μ-loop : tie.MeasureT-loop
 loop-holds : tie.Need-loop-holds Inv-loop μ-loop
 loop-holds c = (search needs, omega arith, copy-none _ _)
 
-cast-put : tie.Need-cast-put Inv-loop μ-loop
-cast-put c = search needs
+cast-to : tie.Need-cast-to Inv-loop μ-loop
+cast-to c = search needs
 
-cast-word : tie.Need-cast-word Inv-loop μ-loop
-cast-word c = search needs
+mul-to : tie.Need-mul-to Inv-loop μ-loop
+mul-to c = search needs
 
-word-requires : tie.Need-word-requires Inv-loop μ-loop
-word-requires c κs = search needs
+shared-slice-read-to : tie.Need-shared-slice-read-to Inv-loop μ-loop
+shared-slice-read-to c = search needs
 
-put-requires : tie.Need-put-requires Inv-loop μ-loop
-put-requires c κs = omega (arith, (c .before .before .before .loop .inv .0), (c .before .before .before .before .before .before .pre), (c .before .before .loop-test .taken))
+cast-to-2 : tie.Need-cast-to-2 Inv-loop μ-loop
+cast-to-2 c = search needs
+
+mul-to-2 : tie.Need-mul-to-2 Inv-loop μ-loop
+mul-to-2 c = search needs
+
+slice-write-to : tie.Need-slice-write-to Inv-loop μ-loop
+slice-write-to c = search needs
 
 add-i : tie.Need-add-i Inv-loop μ-loop
 add-i c = search needs
@@ -36,7 +43,8 @@ loop-less : tie.Need-loop-less Inv-loop μ-loop
 loop-less c = search needs
 
 loop-again : tie.Need-loop-again Inv-loop μ-loop
-loop-again c = (search needs, omega arith, copy-more _ _ _ _ _ (omega (arith, (c .before .before .before .before .before .before .loop .inv .0), (c .before .before .before .before .before .before .before .before .before .pre), (c .before .before .before .before .before .loop-test .taken))) ((c .before .before .before .word .ensures)) ((c .before .before .put .ensures)) ((c .before .before .before .before .before .before .loop .inv .2)))
+unfolding wordAt
+loop-again c = (simp length-set (c .before .before .loop .inv .0), omega arith, copy-more (c .before .before .before .args .words .now) _ _ _ _ (omega (arith, (c .before .before .loop .inv .0), (c .before .before .before .pre .1), (c .before .loop-test .taken))) refl refl (c .before .before .loop .inv .2))
 
 same-length : tie.Need-same-length Inv-loop μ-loop
 same-length c = search needs
@@ -51,10 +59,12 @@ copy-spec =
     Inv-loop
     μ-loop
     loop-holds
-    cast-put
-    cast-word
-    word-requires
-    put-requires
+    cast-to
+    mul-to
+    shared-slice-read-to
+    cast-to-2
+    mul-to-2
+    slice-write-to
     add-i
     loop-less
     loop-again

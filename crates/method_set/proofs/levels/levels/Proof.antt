@@ -23,7 +23,7 @@ add-at-types : tie.Need-add-at-types Inv-loop μ-loop
 add-at-types c = search needs
 
 at-types-requires : tie.Need-at-types-requires Inv-loop μ-loop
-at-types-requires c κs = ((c .before .before .before .before .before .before .before .before .before .before .before .before .before .pre .0 .laid), (c .before .before .before .before .before .before .before .before .before .before .before .before .before .pre .2), under-table _ _ ((c .before .before .before .before .before .before .before .before .before .before .before .before .before .pre .0)), omega (arith, (c .before .before .before .before .before .before .before .before .before .before .before .before .before .pre .7), (c .before .before .before .before .loop .inv .2)))
+at-types-requires c κs = ((c .before .before .before .before .before .before .before .before .before .before .before .before .before .pre .0 .laid), (c .before .before .before .before .before .before .before .before .before .before .before .before .before .pre .2), under-table _ _ ((c .before .before .before .before .before .before .before .before .before .before .before .before .before .pre .0)), omega (arith, (c .before .before .before .before .before .before .before .before .before .before .before .before .before .pre .4), (c .before .before .before .before .loop .inv .0)), omega (arith, (c .before .before .before .before .before .before .before .before .before .before .before .before .before .pre .7), (c .before .before .before .before .loop .inv .2)))
 
 advance-requires : tie.Need-advance-requires Inv-loop μ-loop
 advance-requires c κs = ((c .before .before .before .before .before .before .before .before .before .before .before .before .before .before .before .before .before .before .before .pre .0), (c .before .before .before .before .before .before .before .before .before .before .before .before .before .before .before .before .before .before .before .pre .1), omega (arith, (c .before .before .before .before .before .before .before .before .before .before .before .type-count .ensures), (c .before .before .before .before .before .before .before .before .before .loop-test .taken)), (c .before .before .before .before .before .before .before .before .before .before .loop .inv .5 .on), omega (arith, (c .before .before .before .before .before .before .before .before .before .before .before .before .before .before .before .before .before .before .before .pre .4), (c .before .before .before .before .before .before .before .before .before .before .loop .inv .0)), omega (arith, (c .before .before .before .before .before .before .before .before .before .before .before .before .before .before .before .before .before .before .before .pre .5), (c .before .before .before .before .before .before .before .before .before .before .loop .inv .1)), omega (arith, (c .before .before .before .before .before .before .before .before .before .before .before .before .before .before .before .before .before .before .before .pre .6), (c .before .before .before .before .before .before .before .before .before .before .loop .inv .3)))
