@@ -7,6 +7,7 @@ use native.Mathlib.Omega.{arith}
 use lib.Dec.{eqb, ltb}
 use lib.ListN.{length, set, length-append}
 use lib.Seq.{sets, set-comm}
+use lib.Bits.{bitOr, or-add-and, and-le-l, and-le-r}
 use borrow.Author.Tests.{ne-eqb, eqb-true, eqb-false, ltb-true, ltb-false}
 use Rattle.objects.specs.declared.TypeKey.{TypeKey}
 use Rattle.objects.specs.Table.{typeKey}
@@ -98,6 +99,38 @@ pub clear-all : (next : Words) (n i : ℕ) → n ≤ i → Clear next i → Clea
 clear-all next n i l h j k = h j (omega arith)
 
 -- ---- the first type from one on
+
+or-none : (a b : ℕ) → bitOr a b ≡ 0 → (a ≡ 0) × (b ≡ 0)
+or-none a b z =
+    let s = or-add-and a b in
+    let l = and-le-l a b in
+    let r = and-le-r a b in
+    (omega (arith, s, z, l, r), omega (arith, s, z, l, r))
+
+pub four-none : (level : Words) (u : ℕ) (a b c d : ℕ) → a ≡ wordAt level u → b ≡ wordAt level (u + 1) → c ≡ wordAt level (u + 2) → d ≡ wordAt level (u + 3)
+    → bitOr (bitOr (bitOr a b) c) d ≡ 0 → Between level u (u + 4)
+four-none level u a b c d ea eb ec ed z j h l =
+    let x = or-none (bitOr (bitOr a b) c) d z in
+    let y = or-none (bitOr a b) c (x .0) in
+    let w = or-none a b (y .0) in
+    cases (eqb j u)
+    (λ e. let q = eqb-true j u e in rw q (sym ea ∙ w .0))
+    (λ e0. cases (eqb j (u + 1))
+    (λ e. let q = eqb-true j (u + 1) e in rw q (sym eb ∙ w .1))
+    (λ e1. cases (eqb j (u + 2))
+    (λ e. let q = eqb-true j (u + 2) e in rw q (sym ec ∙ y .1))
+    (λ e2.
+    let n0 = eqb-false j u e0 in
+    let n1 = eqb-false j (u + 1) e1 in
+    let n2 = eqb-false j (u + 2) e2 in
+    let q : j ≡ u + 3 = omega arith in
+    rw q (sym ed ∙ x .1))))
+
+pub between-more : (level : Words) (from u v : ℕ) → Between level from u → Between level u v → Between level from v
+between-more level from u v a b j h l =
+    cases (ltb j u)
+    (λ e. let k = ltb-true j u e in a j h k)
+    (λ e. let k = ltb-false j u e in b j k l)
 
 module _ (level : Words) (from u : ℕ) (b : Between level from u) where
   pub between-on : {k : ℕ} → k ≡ wordAt level u → k ≡ 0 → Between level from (u + 1)

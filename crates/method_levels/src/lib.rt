@@ -12,7 +12,7 @@ ghost use Rattle.objects.specs.Table.{bit};
 ghost use Rattle.objects.specs.Rows.{typeCount, tableOf};
 ghost use Rattle.rules.specs.Library.{Library};
 ghost use Rattle.rules.specs.Ways.{fieldPlaces};
-ghost use Rattle.method_levels.specs.Levels.{levelAt, upToTwo, firstWord, placesTo, OnLevel, FirstFrom};
+ghost use Rattle.method_levels.specs.Levels.{levelAt, upToTwo, firstWord, placesTo, OnLevel, Between, FirstFrom};
 ghost use Rattle.method_levels.specs.Entering.{fieldTotal, barredRead, flagRead, fieldAt, nextPut, rowPut, firstPut, Clear, Enters};
 use objects::ObjKey;
 use objects::TypeKey;
@@ -229,12 +229,35 @@ pub fn first_level(text: &[u8], rows: &[u32], t: TypeKey, level: &mut [u32], fir
     put_row(first, v, v.0, 0, flag, 1);
 }
 
+// Nothing but 0 in the four words from u on is 0 here too.
+fn four(level: &[u32], u: usize) -> u32
+    requires { ⌜ u + 4 ≤ length (now level) ⌝ }
+    ensures { λ r. ⌜ (r ≡ 0 → Between (now (level .entry)) u (u + 4)) ⌝ }
+{
+    level[u] | level[u + 1] | level[u + 2] | level[u + 3]
+}
+
+// Passes over types, four at a time, as long as the level has none of the four.
+fn past_fours(level: &[u32], from: u32, n: u32) -> u32
+    requires { ⌜ (from ≤ n) × (n ≤ length (now level)) ⌝ }
+    ensures { λ r. ⌜ (from ≤ r) × (r ≤ n) × Between (now (level .entry)) from r ⌝ }
+{
+    let mut u = from;
+    while 4 <= n - u {
+        if four(level, u as usize) != 0 {
+            return u;
+        }
+        u += 4;
+    }
+    u
+}
+
 // The first type from this one on that the level has, n if there is none. A level of few types costs little more than these reads.
 pub fn next_reached(level: &[u32], from: u32, n: u32) -> u32
     requires { ⌜ (from ≤ n) × (n ≤ length (now level)) ⌝ }
     ensures { λ r. ⌜ FirstFrom (now (level .entry)) from n r ⌝ }
 {
-    let mut u = from;
+    let mut u = past_fours(level, from, n);
     while u < n {
         if level[u as usize] != 0 {
             return u;

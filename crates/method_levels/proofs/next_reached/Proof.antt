@@ -15,8 +15,11 @@ Inv-loop level from n u₀ u = (from ≤ u) × (u ≤ n) × Between level from u
 abbrev μ-loop : tie.MeasureT-loop
 μ-loop level from n u₀ u = n - u
 
+past-fours-requires : tie.Need-past-fours-requires Inv-loop μ-loop
+past-fours-requires c κs = search needs
+
 loop-holds : tie.Need-loop-holds Inv-loop μ-loop
-loop-holds c = (omega arith, (c .pre .0), λ j h l. absurd (omega arith))
+loop-holds c = (c .past-fours .ensures)
 
 cast-if1 : tie.Need-cast-if1 Inv-loop μ-loop
 cast-if1 c = search needs
@@ -25,7 +28,7 @@ mul-if1 : tie.Need-mul-if1 Inv-loop μ-loop
 mul-if1 c = search needs
 
 shared-slice-read-if1 : tie.Need-shared-slice-read-if1 Inv-loop μ-loop
-shared-slice-read-if1 c = omega (arith, (c .before .before .before .pre .1), (c .before .loop-test .taken))
+shared-slice-read-if1 c = omega (arith, (c .before .before .before .before .before .pre .1), (c .before .loop-test .taken))
 
 returns : tie.Need-returns Inv-loop μ-loop
 unfolding wordAt
@@ -39,7 +42,7 @@ loop-less c = search needs
 
 loop-again : tie.Need-loop-again Inv-loop μ-loop
 unfolding wordAt
-loop-again c = (omega arith, omega arith, between-on (c .before .before .before .before .args .level .now) _ _ (c .before .before .before .loop .inv .2) refl (c .if1 .left))
+loop-again c = (omega arith, omega arith, between-on (c .before .before .before .before .before .before .args .level .now) _ _ (c .before .before .before .loop .inv .2) refl (c .if1 .left))
 
 returns-2 : tie.Need-returns-2 Inv-loop μ-loop
 returns-2 c = first-none _ _ _ (c .before .loop .inv .2) _ (c .before .loop .inv .0) (c .before .loop .inv .1) (c .loop-test .left)
@@ -50,6 +53,7 @@ next-reached-spec =
     (tie.spec
     Inv-loop
     μ-loop
+    past-fours-requires
     loop-holds
     cast-if1
     mul-if1
