@@ -229,7 +229,7 @@ pub fn first_level(text: &[u8], rows: &[u32], t: TypeKey, level: &mut [u32], fir
     put_row(first, v, v.0, 0, flag, 1);
 }
 
-// Nothing but 0 in the four words from u on is 0 here too.
+// 0 only if the four words from u on are 0.
 fn four(level: &[u32], u: usize) -> u32
     requires { ⌜ u + 4 ≤ length (now level) ⌝ }
     ensures { λ r. ⌜ (r ≡ 0 → Between (now (level .entry)) u (u + 4)) ⌝ }
