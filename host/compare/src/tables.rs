@@ -9,6 +9,8 @@ pub struct Case {
     pub name: String,
     pub table: String,
     pub questions: Vec<String>,
+    /// Whether goscript answers too: not where it would take years, or more stack than there is.
+    pub for_goscript: bool,
 }
 
 impl Case {
@@ -17,6 +19,14 @@ impl Case {
             name: name.into(),
             table: table.to_string(),
             questions,
+            for_goscript: true,
+        }
+    }
+
+    fn without_goscript(self) -> Case {
+        Case {
+            for_goscript: false,
+            ..self
         }
     }
 }
@@ -27,7 +37,9 @@ pub fn cases() -> Vec<Case> {
     for levels in [16, TOWER] {
         cases.extend(towers(levels));
     }
+    cases.extend(towers(85).map(Case::without_goscript));
     cases.push(rings());
+    cases.push(nested_pairs().without_goscript());
     cases.extend(chain());
     cases.extend(lattice());
     cases.extend(wide());
@@ -137,6 +149,37 @@ fn rings() -> Case {
     let (one, other) = (ring(42), ring(43));
     let question = format!("I\t{one}\t{other}");
     Case::new("rings of 42 and 43 interfaces, I", &table, vec![question])
+}
+
+/// 207 interfaces of two methods, whose funcs take one of 24 tuples of 250 interfaces: 38,256 pairs of interfaces are met
+/// within one another.
+fn nested_pairs() -> Case {
+    const TUPLES: usize = 24;
+    let ifaces = 256 - 2 * TUPLES - 1;
+    let mut state = 88_172_645_463_325_252_u64 ^ 24_252_324;
+    let mut below = |end: usize| {
+        state ^= state << 13;
+        state ^= state >> 7;
+        state ^= state << 17;
+        (state % end as u64) as usize
+    };
+    let mut table = Table::default();
+    for _ in 0..ifaces {
+        let funcs = ["A", "B"].map(|name| method(name, ifaces + 1 + TUPLES + below(TUPLES)));
+        table.put(Kind::Iface, funcs);
+    }
+    let none = table.put(Kind::Tuple(Vec::new()), []);
+    for _ in 0..TUPLES {
+        table.put(Kind::Tuple((0..250).map(|_| below(ifaces)).collect()), []);
+    }
+    for tuple in 0..TUPLES {
+        table.put(Kind::Func(false, ifaces + 1 + tuple, none), []);
+    }
+    Case::new(
+        "38,256 nested pairs of interfaces, I",
+        &table,
+        vec!["I\t0\t1".to_owned()],
+    )
 }
 
 /// 255 structs, each embedded in the next, with a field in the first.

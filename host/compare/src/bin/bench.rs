@@ -37,6 +37,9 @@ fn main() {
         });
         let mut first = None;
         for engine in &mut engines {
+            if engine.name() == "goscript" && !case.for_goscript {
+                continue;
+            }
             let times = times(engine.as_mut(), &case);
             print_row(
                 engine.name(),
