@@ -4,6 +4,7 @@
 set -eu
 cd "$(dirname "$0")/.."
 if [ -z "${YIFGRUN_ARCHIVE:-}" ]; then
+    rt check yifgrun
     rt staticlib yifgrun
 fi
 for package in host host/compare; do

@@ -76,7 +76,7 @@ fn every_question_on_small_tables() {
     ));
 }
 
-/// Every answer of goscript to the hard tables, but those that it takes seconds for.
+/// Every answer of goscript to the hard tables, but those that it takes seconds for, or does not come to.
 #[test]
 fn hard_tables() {
     let (Some(mut goscript), Some(mut library)) = (engine::goscript(), engine::library()) else {
@@ -84,7 +84,7 @@ fn hard_tables() {
         return;
     };
     for case in cases() {
-        if case.name.starts_with("two towers of 24") {
+        if !case.for_goscript || case.name.starts_with("two towers of 24") {
             continue;
         }
         let engines = (goscript.as_mut(), library.as_mut());
