@@ -1,4 +1,4 @@
-// The program typeask between reading and writing. The input is parted into table and questions (input), the table is loaded once (library), and
+// The program typeask between reading and writing. The input is parted into table and questions (input), the table is loaded once (tables), and
 // the questions are answered one after the other (asking).
 ghost use mathlib.Core.Path.{_≡_};
 ghost use lib.ListN.{length};
@@ -6,10 +6,10 @@ ghost use Rattle.rules.specs.Typeask.{typeask};
 
 pub mod asking;
 pub mod input;
-pub mod library;
+pub mod tables;
 pub mod writing;
 
-use crate::library::open_input;
+use crate::tables::open_input;
 use crate::writing::ask_all;
 use crate::writing::ask_once;
 use crate::writing::refuse;

@@ -1,8 +1,8 @@
--- `program::library::open_whole` meets its contract.
+-- `program::tables::open_whole` meets its contract.
 use Rattle.program.proofs.OpenLaws.{whole-refused, whole-loaded}
 use borrow.Author.Needs.{needs}
-use Rattle.program.proofs.library.open_whole.Statement.{statement}
-use Rattle.program.proofs.library.open_whole.Tie as tie
+use Rattle.program.proofs.tables.open_whole.Statement.{statement}
+use Rattle.program.proofs.tables.open_whole.Tie as tie
 
 load-requires : tie.Need-load-requires
 load-requires c κs = ((c .before .before .before .pre .0), (c .before .before .before .pre .1))

@@ -1,10 +1,10 @@
--- `program::library::open_input` meets its contract.
+-- `program::tables::open_input` meets its contract.
 use mathlib.Core.Path.{ap, subst, _∙_}
 use Rattle.program.specs.Parts.{partsMeant, partsWithin}
 use Rattle.program.proofs.OpenLaws.{opens-long}
 use borrow.Author.Needs.{needs}
-use Rattle.program.proofs.library.open_input.Statement.{statement}
-use Rattle.program.proofs.library.open_input.Tie as tie
+use Rattle.program.proofs.tables.open_input.Statement.{statement}
+use Rattle.program.proofs.tables.open_input.Tie as tie
 
 returns : tie.Need-returns
 returns c = opens-long (c .before .before .before .args .input .now) _ (c .if1 .taken)

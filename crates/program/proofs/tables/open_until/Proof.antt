@@ -1,9 +1,9 @@
--- `program::library::open_until` meets its contract.
+-- `program::tables::open_until` meets its contract.
 use native.Mathlib.Omega.{arith}
 use Rattle.program.proofs.OpenLaws.{until-refused, until-loaded}
 use borrow.Author.Needs.{needs}
-use Rattle.program.proofs.library.open_until.Statement.{statement}
-use Rattle.program.proofs.library.open_until.Tie as tie
+use Rattle.program.proofs.tables.open_until.Statement.{statement}
+use Rattle.program.proofs.tables.open_until.Tie as tie
 
 sub-load : tie.Need-sub-load
 sub-load c = omega arith
