@@ -33,10 +33,10 @@ use Rattle.selection.specs.declared.Missing.{Missing}
 use Rattle.selection.specs.declared.Selection.{Selection}
 use Rattle.selection.specs.Results.{nameMeant, resultMeant, missingMeant, Selects}
 use Rattle.method_set.specs.Sets.{selAt, selNumbers, SetHeld}
-use Rattle.answer.specs.declared.Done.{Done}
-use Rattle.answer.specs.Done.{Does, due}
-use Rattle.answer.specs.SetLines.{selLine, selLines, setLines}
-use Rattle.answer.proofs.Saying.{does-refuse, does-as, fitted-as}
+use Rattle.reply.specs.declared.Done.{Done}
+use Rattle.reply.specs.Done.{Does, due}
+use Rattle.reply.specs.SetLines.{selLine, selLines, setLines}
+use Rattle.reply.proofs.Saying.{does-refuse, does-as, fitted-as}
 
 -- ---- a set that is held as words
 

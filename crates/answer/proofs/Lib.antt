@@ -1,4 +1,1 @@
-pub mod Saying
-pub mod Members
-pub mod Setting
 pub mod Answering

@@ -1,7 +1,5 @@
 // The answer to a question on loaded rows: refusals 11 to 13, or the lines of the answer in front of the buffer.
 pub mod asks; // the questions, letter by letter
-pub mod lines; // answers of one line
-pub mod sets; // the lines of a method set
 
 ghost use mathlib.Core.Path.{_≡_};
 ghost use Prim.Native.Nat.{_≤_};
@@ -11,7 +9,7 @@ ghost use Rattle.objects.specs.Rows.{tableOf};
 ghost use Rattle.rules.specs.Asked.{answered};
 ghost use Rattle.rules.specs.Library.{Library};
 ghost use Rattle.rules.specs.Question.{questionOf};
-ghost use Rattle.answer.specs.Done.{Does};
+ghost use Rattle.reply.specs.Done.{Does};
 use crate::asks::ask_c;
 use crate::asks::ask_i;
 use crate::asks::ask_m;
@@ -21,13 +19,8 @@ use crate::asks::ask_v;
 use question::Ask;
 use question::question;
 use question::wrong_second;
+use reply::Done;
 use selection::Name;
-
-// A refusal and its line, or the length of the answer that stands in front of the buffer.
-pub enum Done {
-    Refused(u32, u32),
-    Said(usize),
-}
 
 // 11, 12, 13. The marks are clear when it is called, and when it returns.
 pub fn answered(

@@ -17,12 +17,13 @@ use Rattle.print.specs.Written.{numberLine, Wrote}
 use Rattle.print.proofs.Lines.{refused-line}
 use Rattle.print.proofs.LineLaws.{line-length, end-short}
 use Rattle.print.proofs.WrittenLaws.{written-front}
-use Rattle.answer.specs.declared.Done.{Done}
-use Rattle.answer.specs.Done.{doneOf, Does}
-use Rattle.program.specs.declared.Next.{Next}
+use Rattle.reply.specs.declared.Done.{Done}
+use Rattle.reply.specs.Done.{doneOf, Does}
+use Rattle.input.specs.declared.Next.{Next}
+use Rattle.input.specs.Parts.{questionsAt, nextMeant, nextWithin, Follows}
 use Rattle.program.specs.declared.Step.{Step}
-use Rattle.program.specs.Due.{questionsAt, printedOne, due, refusedRoom}
-use Rattle.program.specs.Parts.{nextMeant, nextWithin, Follows, Shows, stepMeant, stepWithin, Steps, Piece, Left}
+use Rattle.program.specs.Due.{printedOne, due, refusedRoom}
+use Rattle.program.specs.Steps.{Shows, stepMeant, stepWithin, Steps, Piece, Left}
 
 -- ---- the line of a refusal
 

@@ -1,4 +1,3 @@
-pub mod InputLaws
 pub mod OpenLaws
 pub mod AskLaws
 pub mod Trace

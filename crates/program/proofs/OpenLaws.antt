@@ -15,10 +15,11 @@ use Rattle.rules.specs.Library.{Library}
 use Rattle.rules.specs.Typeask.{inputOf, printedAll, answeredAll, typeask}
 use Rattle.table.specs.declared.Loading.{Loading}
 use Rattle.table.specs.Loading.{loadingMeant, Loads}
-use Rattle.program.specs.declared.Parts.{Parts}
+use Rattle.input.specs.declared.Parts.{Parts}
+use Rattle.input.specs.Parts.{questionsAt, partsMeant}
 use Rattle.program.specs.declared.Opening.{Opening}
-use Rattle.program.specs.Due.{questionsAt, printedOne, due}
-use Rattle.program.specs.Parts.{partsMeant, openingMeant, Opens}
+use Rattle.program.specs.Due.{printedOne, due}
+use Rattle.program.specs.Steps.{openingMeant, Opens}
 
 -- the part of the input up to a place, as a slice from 0 on
 part-front : (s : Bytes) (end : ℕ) → take (end - 0) (drop 0 s) ≡ take end s

@@ -11,7 +11,7 @@ use Rattle.rules.specs.Typeask.{refusedBytes, typeask}
 use Rattle.program.specs.declared.Opening.{Opening}
 use Rattle.program.specs.declared.Step.{Step}
 use Rattle.program.specs.Due.{printedOne, due}
-use Rattle.program.specs.Parts.{Shows, stepMeant, Steps, openingMeant, Opens}
+use Rattle.program.specs.Steps.{Shows, stepMeant, Steps, openingMeant, Opens}
 
 -- the calls from a place on, and all that is written
 pub data Trace (text : Bytes) (rows : Words) (input : Bytes) : ℕ → Bytes → Type 0 where

@@ -1,18 +1,12 @@
 -- What is still to be printed, and what the program prints for one question.
-use mathlib.Core.List.{List}
 use Prim.Native.Nat.{ℕ}
-use lib.ListN.{drop}
 use Rattle.objects.specs.Bounds.{programAnswer}
 use Rattle.objects.specs.Lists.{Bytes, flat}
 use Rattle.objects.specs.Rows.{Words, tableOf}
-use Rattle.text.specs.Lines.{pieces}
 use Rattle.rules.specs.Load.{loaded}
 use Rattle.rules.specs.Asked.{outcomeOf}
-use Rattle.rules.specs.Typeask.{questionsOf, printed}
-
--- the questions of the input from a place on
-unfoldable pub questionsAt : Bytes → ℕ → List Bytes
-questionsAt input at = questionsOf (pieces (drop at input))
+use Rattle.rules.specs.Typeask.{printed}
+use Rattle.input.specs.Parts.{questionsAt}
 
 -- what is printed for one question on the table that the rows hold
 unfoldable pub printedOne : Bytes → Words → Bytes → Bytes

@@ -6,13 +6,13 @@ ghost use Rattle.objects.specs.Bounds.{programAnswer, markWords};
 ghost use Rattle.rules.specs.Library.{Library};
 ghost use Rattle.rules.specs.Typeask.{refusedBytes};
 ghost use Rattle.program.specs.Due.{printedOne, refusedRoom};
-ghost use Rattle.program.specs.Parts.{Shows, Steps};
-use crate::Next;
+ghost use Rattle.program.specs.Steps.{Shows, Steps};
 use crate::Step;
-use crate::input::next_question;
-use answer::Done;
 use answer::answered;
+use input::Next;
+use input::next_question;
 use print::put_line;
+use reply::Done;
 
 pub fn put_refused(n: u32, line: u32, out: &mut [u8]) -> usize
     requires { ⌜ refusedRoom ≤ length (now out) ⌝ }

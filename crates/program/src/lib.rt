@@ -1,11 +1,10 @@
-// The program typeask between reading and writing. The input is parted into table and questions (input), the table is loaded once (tables), and
+// The program typeask between reading and writing. The input is parted into table and questions by the crate input, the table is loaded once (tables), and
 // the questions are answered one after the other (asking).
 ghost use mathlib.Core.Path.{_≡_};
 ghost use lib.ListN.{length};
 ghost use Rattle.rules.specs.Typeask.{typeask};
 
 pub mod asking;
-pub mod input;
 pub mod tables;
 pub mod writing;
 
@@ -13,18 +12,6 @@ use crate::tables::open_input;
 use crate::writing::ask_all;
 use crate::writing::ask_once;
 use crate::writing::refuse;
-
-// The input: all of it is the table, or the table ends at a place and the questions begin at another.
-pub enum Parts {
-    Whole,
-    Until(usize, usize),
-}
-
-// The next question: none is left, or it ends at a place and the questions behind it begin at another.
-pub enum Next {
-    None,
-    Is(usize, usize),
-}
 
 // A refusal and its line, or a loaded table: all of the input, or up to a place, with the questions from another on.
 pub enum Opening {

@@ -5,11 +5,12 @@ ghost use lib.ListN.{length, replicate};
 ghost use Rattle.objects.specs.Bounds.{maxText, allWords};
 ghost use Rattle.text.specs.Lines.{pieces};
 ghost use Rattle.rules.specs.Typeask.{inputOf};
-ghost use Rattle.program.specs.Parts.{partsMeant, Opens};
-ghost use Rattle.program.specs.declared.Parts.{Parts};
+ghost use Rattle.input.specs.Parts.{partsMeant};
+ghost use Rattle.input.specs.declared.Parts.{Parts};
+ghost use Rattle.program.specs.Steps.{Opens};
 use crate::Opening;
-use crate::Parts;
-use crate::input::split;
+use input::Parts;
+use input::split;
 use lines::reading::MAX_TEXT;
 use table::Loading;
 

@@ -8,7 +8,7 @@ ghost use Rattle.text.specs.Bytes.{ascii};
 ghost use Rattle.rules.specs.Library.{Library};
 ghost use Rattle.rules.specs.Typeask.{refusedBytes, typeask};
 ghost use Rattle.program.specs.Due.{printedOne, due};
-ghost use Rattle.program.specs.Parts.{Piece, Left};
+ghost use Rattle.program.specs.Steps.{Piece, Left};
 use crate::Step;
 use crate::asking::answer_next;
 use crate::asking::print_one;

@@ -13,9 +13,9 @@ use Rattle.rules.specs.Question.{questionOf}
 use Rattle.rules.specs.Asked.{Outcome, refuse, say, answered, outcomeOf, outcome, numberOf, written, asked}
 use Rattle.table.specs.declared.Loading.{Loading}
 use Rattle.table.specs.Loading.{loadingMeant, Loads}
-use Rattle.answer.specs.declared.Done.{Done}
-use Rattle.answer.specs.Done.{doneOf, Does}
-use Rattle.answer.proofs.Saying.{does-refuse, does-as}
+use Rattle.reply.specs.declared.Done.{Done}
+use Rattle.reply.specs.Done.{doneOf, Does}
+use Rattle.reply.proofs.Saying.{does-refuse, does-as}
 use Rattle.yifgrun.specs.Gives.{Gives, numberRead, Fits}
 
 -- ---- refused by the loader, or asked

@@ -5,7 +5,7 @@ use Prim.Native.Nat.{ℕ, _<_, _^_}
 use lib.IntN.{ℤ, pos}
 use Rattle.objects.specs.Lists.{Bytes}
 use Rattle.rules.specs.Asked.{Asked, refusal}
-use Rattle.answer.specs.declared.Done.{Done}
+use Rattle.reply.specs.declared.Done.{Done}
 
 pub record Gives (a : Asked) (r : ℤ) (buffer : Bytes) (words : List ℕ) : Type 0 where
   pub number : r ≡ a .number

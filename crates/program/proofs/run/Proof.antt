@@ -2,7 +2,7 @@
 use mathlib.Core.Path.{refl, sym, ap, subst, _∙_}
 use native.Mathlib.Omega.{arith}
 use lib.ListN.{length}
-use Rattle.program.specs.Parts.{openingMeant, openingHolds}
+use Rattle.program.specs.Steps.{openingMeant, openingHolds}
 use Rattle.program.proofs.OpenLaws.{library-part, due-part}
 use borrow.Author.Needs.{needs}
 use Rattle.program.proofs.run.Statement.{statement}

@@ -1,6 +1,6 @@
 -- `program::tables::open_input` meets its contract.
 use mathlib.Core.Path.{ap, subst, _∙_}
-use Rattle.program.specs.Parts.{partsMeant, partsWithin}
+use Rattle.input.specs.Parts.{partsMeant, partsWithin}
 use Rattle.program.proofs.OpenLaws.{opens-long}
 use borrow.Author.Needs.{needs}
 use Rattle.program.proofs.tables.open_input.Statement.{statement}

@@ -8,7 +8,7 @@ use lib.ListN.{length}
 use Rattle.objects.specs.Bounds.{programAnswer}
 use Rattle.rules.specs.Typeask.{typeask}
 use Rattle.program.specs.Due.{due}
-use Rattle.program.specs.Parts.{stepWithin, Left}
+use Rattle.program.specs.Steps.{stepWithin, Left}
 use Rattle.program.proofs.AskLaws.{left-piece, left-next, none-yet, count-end, count-next, few-next, few-all}
 use borrow.Author.Needs.{needs}
 use Rattle.program.proofs.writing.ask_from.Statement.{statement}

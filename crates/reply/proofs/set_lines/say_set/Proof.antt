@@ -1,0 +1,78 @@
+-- `say_set` meets its contract: refused by 13 before anything is written, or all lines.
+use native.Mathlib.Omega.{arith}
+use mathlib.Core.List.{[], _∷_}
+use Rattle.text.specs.Bytes.{ascii}
+use Rattle.print.proofs.LineLaws.{line-short}
+use Rattle.reply.proofs.Setting.{set-refused, set-said}
+use borrow.Author.Needs.{needs}
+use Rattle.reply.proofs.set_lines.say_set.Statement.{statement}
+use Rattle.reply.proofs.set_lines.say_set.Tie as tie
+
+cast-count : tie.Need-cast-count
+cast-count c = omega arith
+
+array-write-count : tie.Need-array-write-count
+array-write-count c = search needs
+
+slice-aggregate-line-length : tie.Need-slice-aggregate-line-length
+slice-aggregate-line-length c = search needs
+
+slice-aggregate-line-length-2 : tie.Need-slice-aggregate-line-length-2
+slice-aggregate-line-length-2 c = search needs
+
+line-length-requires : tie.Need-line-length-requires
+line-length-requires c κs = search needs
+
+slice-aggregate-total-length : tie.Need-slice-aggregate-total-length
+slice-aggregate-total-length c = search needs
+
+total-length-requires : tie.Need-total-length-requires
+total-length-requires c κs = (((c .before .before .before .before .before .before .before .before .pre .0 .0), (c .before .before .before .before .before .before .before .before .pre .0 .1), omega arith), (c .before .before .before .before .before .before .before .before .pre .1))
+
+add-if1 : tie.Need-add-if1
+add-if1 c = omega (arith, (c .before .before .before .line-length .ensures), (c .before .total-length .ensures .1), line-short (ascii "set") ((c .before .before .before .before .before .before .before .before .before .before .args .n) ∷ []) 1 (omega arith) (omega arith))
+
+returns : tie.Need-returns
+returns c = set-refused _ _ (c .before .before .before .before .before .before .before .before .before .before .before .args .given .now) (c .before .before .before .before .before .before .before .before .before .before .before .args .n) _ (c .before .before .before .before .before .before .before .before .before .before .before .pre .0 .1) (c .before .before .before .before .line-length .ensures) (c .before .before .total-length .ensures .0) (c .if1 .taken)
+
+slice-aggregate-put-line : tie.Need-slice-aggregate-put-line
+slice-aggregate-put-line c = search needs
+
+slice-aggregate-put-line-2 : tie.Need-slice-aggregate-put-line-2
+slice-aggregate-put-line-2 c = search needs
+
+put-line-requires : tie.Need-put-line-requires
+put-line-requires c κs = (omega arith, omega (arith, (c .before .before .before .before .before .before .before .line-length .ensures), (c .before .before .before .if1 .left)))
+
+slice-aggregate-put-lines : tie.Need-slice-aggregate-put-lines
+slice-aggregate-put-lines c = search needs
+
+put-lines-requires : tie.Need-put-lines-requires
+put-lines-requires c κs = (((c .before .before .before .before .before .before .before .before .before .before .before .before .before .before .before .before .before .before .before .pre .0 .0), (c .before .before .before .before .before .before .before .before .before .before .before .before .before .before .before .before .before .before .before .pre .0 .1), omega arith), ((c .before .before .before .before .before .before .before .before .before .before .before .before .before .before .before .before .before .before .before .pre .1), omega (arith, (c .before .before .before .before .before .before .before .before .before .before .before .before .line-length .ensures), (c .before .before .before .before .before .before .before .before .before .before .total-length .ensures .0), (c .before .before .before .before .before .before .before .before .if1 .left), (c .before .before .before .before .put-line .ensures .past), (c .before .before .before .before .put-line .kept .0))))
+
+same-length : tie.Need-same-length
+same-length c = search needs
+
+returns-2 : tie.Need-returns-2
+returns-2 c = set-said _ _ (c .before .before .before .before .before .before .before .before .before .before .before .before .before .before .before .before .before .before .before .before .before .before .before .args .given .now) (c .before .before .before .before .before .before .before .before .before .before .before .before .before .before .before .before .before .before .before .before .before .before .before .args .n) _ (c .before .before .before .before .before .before .before .before .before .before .before .before .before .before .before .before .before .before .before .before .before .before .before .pre .0 .1) (c .before .before .before .before .before .before .before .before .before .before .before .before .before .before .before .before .line-length .ensures) (c .before .before .before .before .before .before .before .before .before .before .before .before .before .before .total-length .ensures .0) (c .before .before .before .before .before .before .before .before .before .before .before .before .if1 .left) (c .before .before .before .before .before .before .before .before .put-line .ensures) (c .before .before .before .put-lines .ensures)
+
+pub say-set-spec : {M : Type 1} → statement M
+say-set-spec =
+    tie.close
+    (tie.spec
+    cast-count
+    array-write-count
+    slice-aggregate-line-length
+    slice-aggregate-line-length-2
+    line-length-requires
+    slice-aggregate-total-length
+    total-length-requires
+    add-if1
+    returns
+    slice-aggregate-put-line
+    slice-aggregate-put-line-2
+    put-line-requires
+    slice-aggregate-put-lines
+    put-lines-requires
+    same-length
+    returns-2)

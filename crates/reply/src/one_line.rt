@@ -1,0 +1,117 @@
+// Answers of one line: a word and numbers, refused by 13 if the buffer is too short.
+ghost use mathlib.Core.Path.{_≡_};
+ghost use mathlib.Core.List.{[]};
+ghost use Prim.Native.Nat.{_+_, _≤_};
+ghost use lib.ListN.{length, take, drop};
+ghost use Rattle.objects.specs.Bounds.{maxPlaces};
+ghost use Rattle.objects.specs.Lists.{Bytes};
+ghost use Rattle.objects.specs.Rows.{Words, packageCount, typeCount, memberCountOf};
+ghost use Rattle.objects.specs.Table.{bit};
+ghost use Rattle.print.specs.Written.{maxWord, maxFields, numberLine};
+ghost use Rattle.rules.specs.Answer.{selected, lackAnswer, says, counts, answerBytes};
+ghost use Rattle.rules.specs.Asked.{fitted};
+ghost use Rattle.selection.specs.Results.{keyOf, resultMeant, missingMeant};
+ghost use Rattle.reply.specs.Done.{Does};
+use crate::Done;
+use objects::rows::member_count;
+use objects::rows::package_count;
+use objects::rows::type_count;
+use print::line_length;
+use print::put_line;
+use selection::Entity;
+use selection::LookupResult;
+use selection::Missing;
+use selection::Selection;
+
+// The word and the first n numbers.
+pub fn say(answer: &mut [u8], word: &[u8], ns: &[u32], n: usize) -> Done
+    requires { ⌜ (length (now word) ≤ maxWord) × (n ≤ maxFields) × (n ≤ length (now ns)) ⌝ }
+    ensures { λ r. ⌜ Does (fitted (length (now (answer .entry))) (numberLine (now (word .entry)) (take n (now (ns .entry))))) r (now (answer .entry)) (now (answer .exit)) ⌝ }
+{
+    let size = line_length(word, ns, n);
+    if answer.len() < size {
+        return Done::Refused(13, 0);
+    }
+    let end = put_line(answer, 0, word, ns, n);
+    Done::Said(end)
+}
+
+// The word alone.
+fn say_word(answer: &mut [u8], word: &[u8]) -> Done
+    requires { ⌜ length (now word) ≤ maxWord ⌝ }
+    ensures { λ r. ⌜ Does (fitted (length (now (answer .entry))) (numberLine (now (word .entry)) [])) r (now (answer .entry)) (now (answer .exit)) ⌝ }
+{
+    let none = [0u32; 1];
+    say(answer, word, &none, 0)
+}
+
+// I and C.
+pub fn say_truth(answer: &mut [u8], b: bool) -> Done
+    ensures { λ r. ⌜ Does (fitted (length (now (answer .entry))) (answerBytes (says b))) r (now (answer .entry)) (now (answer .exit)) ⌝ }
+{
+    if b {
+        return say_word(answer, b"yes");
+    }
+    say_word(answer, b"no")
+}
+
+// V.
+pub fn say_counts(answer: &mut [u8], rows: &[u32]) -> Done
+    ensures { λ r. ⌜ Does (fitted (length (now (answer .entry))) (answerBytes (counts (packageCount (now (rows .entry))) (typeCount (now (rows .entry))) (memberCountOf (now (rows .entry)))))) r (now (answer .entry)) (now (answer .exit)) ⌝ }
+{
+    let mut numbers = [0u32; 3];
+    numbers[0] = package_count(rows);
+    numbers[1] = type_count(rows);
+    numbers[2] = member_count(rows);
+    say(answer, b"ok", &numbers, 3)
+}
+
+// The number of a member, whatever it is.
+fn number_of(e: Entity) -> u32
+    ensures { λ r. ⌜ r ≡ keyOf e .0 ⌝ }
+{
+    match e {
+        Entity::Method(m) => m.0,
+        Entity::Field(m) => m.0,
+    }
+}
+
+fn flag_number(b: bool) -> u32
+    ensures { λ r. ⌜ r ≡ bit b ⌝ }
+{
+    if b { 1 } else { 0 }
+}
+
+// S. The places stand behind two words that are free for the member and the flag.
+pub fn say_selected(answer: &mut [u8], s: Selection, numbers: &mut [u32]) -> Done
+    requires { ⌜ (s .count ≤ maxPlaces) × (maxPlaces + 2 ≤ length (now numbers)) ⌝ }
+    ensures { λ r. ⌜ ((text : Bytes) (rows : Words) → Does (fitted (length (now (answer .entry))) (answerBytes (selected (resultMeant text rows (s .result) (take (s .count) (drop 2 (now (numbers .entry)))))))) r (now (answer .entry)) (now (answer .exit))) ⌝ }
+{
+    let count = s.count;
+    let result = s.result;
+    match result {
+        LookupResult::Entry(e, flag) => {
+            numbers[0] = number_of(e);
+            numbers[1] = flag_number(flag);
+            say(answer, b"entry", numbers, count + 2)
+        }
+        LookupResult::Ambiguous => say(answer, b"ambiguous", &numbers[2..], count),
+        LookupResult::BadMethodReceiver => say_word(answer, b"badreceiver"),
+        LookupResult::NotFound => say_word(answer, b"notfound"),
+    }
+}
+
+// N.
+pub fn say_missing(answer: &mut [u8], m: Missing) -> Done
+    ensures { λ r. ⌜ ((text : Bytes) (rows : Words) → Does (fitted (length (now (answer .entry))) (answerBytes (lackAnswer (missingMeant text rows m)))) r (now (answer .entry)) (now (answer .exit))) ⌝ }
+{
+    match m {
+        Missing::Satisfied => say_word(answer, b"satisfied"),
+        Missing::Lacks(k, w) => {
+            let mut numbers = [0u32; 2];
+            numbers[0] = k.0;
+            numbers[1] = flag_number(w);
+            say(answer, b"missing", &numbers, 2)
+        }
+    }
+}
