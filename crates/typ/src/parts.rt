@@ -2,6 +2,7 @@
 // place are called alike.
 ghost use mathlib.Core.Path.{_≡_};
 ghost use mathlib.Core.Bool.{true};
+ghost use mathlib.Core.Logic.{_⊎_};
 ghost use Prim.Native.Nat.{_+_, _<_};
 ghost use Rattle.objects.specs.Rows.{tableOf, memberAt};
 ghost use Rattle.objects.specs.Types.{firstRead};
@@ -24,6 +25,7 @@ use objects::rows::kind_number;
 use objects::rows::member_type;
 use objects::rows::member_word;
 use objects::rows::type_of;
+use objects::rows::type_word;
 use text::compare::same_part;
 
 // ---- a type
@@ -79,8 +81,8 @@ pub fn part_count(rows: &[u32], t: TypeKey) -> u32
     }
 }
 
-// The i-th of them.
-pub fn part_at(rows: &[u32], t: TypeKey, i: u32) -> TypeKey
+// The i-th of them, whatever the kind is.
+fn part_of(rows: &[u32], t: TypeKey, i: u32) -> TypeKey
     requires { ⌜ firstRead (now rows) t + i < 65_536 ⌝ }
     ensures { λ r. ⌜ r ≡ partAt (now (rows .entry)) t i ⌝ }
 {
@@ -98,6 +100,37 @@ pub fn part_at(rows: &[u32], t: TypeKey, i: u32) -> TypeKey
         Type::Iface(first, _) => member_type(rows, ObjKey(first + i)),
         Type::Named(_, _, _) => TypeKey(0),
     }
+}
+
+// Struct and iface: a part is a member's type.
+fn has_members(kind: u32) -> bool
+    ensures { λ r. ⌜ (r ≡ true → (kind ≡ 8) ⊎ (kind ≡ 9)) ⌝ }
+{
+    if kind == 8 {
+        return true;
+    }
+    kind == 9
+}
+
+// The i-th of them. The kinds of several parts, of which there are the most parts to read, come first, and only the words are read that one takes.
+pub fn part_at(rows: &[u32], t: TypeKey, i: u32) -> TypeKey
+    requires { ⌜ firstRead (now rows) t + i < 65_536 ⌝ }
+    ensures { λ r. ⌜ r ≡ partAt (now (rows .entry)) t i ⌝ }
+{
+    let k = type_word(rows, t, 0);
+    if has_members(k) {
+        return member_type(rows, ObjKey(first_member(rows, t) + i));
+    }
+    if k == 6 {
+        return element(rows, first_member(rows, t) + i);
+    }
+    if k != 7 {
+        return part_of(rows, t, i);
+    }
+    if i == 0 {
+        return TypeKey(type_word(rows, t, 2));
+    }
+    TypeKey(type_word(rows, t, 3))
 }
 
 // ---- members
