@@ -1,16 +1,18 @@
 -- What is read off a type's row (specs/Parts.antt) is what the rules say of the table that the rows hold: its own number and its parts.
 use mathlib.Core.Path.{_≡_, refl, sym, ap, _∙_}
+use mathlib.Core.Bool.{Bool, true}
 use mathlib.Core.List.{map, append-nil}
 use mathlib.Core.Logic.{_⊎_, inl, inr}
 use Prim.Native.Nat.{ℕ, suc, _+_, _-_, _<_, _≤_}
 use native.Mathlib.Omega.{arith}
+use lib.Dec.{ltb}
 use borrow.Author.Tests.{ne-eqb}
 use Rattle.objects.specs.declared.TypeKey.{TypeKey}
 use Rattle.objects.specs.declared.«Type».{«Type»}
 use Rattle.objects.specs.Lists.{Bytes, upTo}
 use Rattle.objects.specs.Table.{Member, typeKey, objKey, kindAt}
 use Rattle.objects.specs.Rows.{Words, typeCount, typeWord, from, elementAt, memberAt, elementsFrom, membersFrom, tableOf}
-use Rattle.objects.specs.Types.{kindMeant, typeRead, firstRead, totalRead, memberTypeRead}
+use Rattle.objects.specs.Types.{kindMeant, typeRead, numberRead, firstRead, totalRead, memberTypeRead}
 use Rattle.objects.specs.Laid.{Laid}
 use Rattle.objects.proofs.ListLaws.{map-map}
 use Rattle.objects.proofs.Reading.{is-tuple, is-func, is-struct, is-iface}
@@ -19,7 +21,7 @@ use Rattle.rules.specs.Identity.{realType, ownNumber, parts}
 use Rattle.rules.specs.Library.{Library}
 use Rattle.rules.specs.Sound.{Sound}
 use Rattle.rules.proofs.Sounds.{loads-sound}
-use Rattle.typ.specs.Parts.{ownIn, countIn, partIn, ownRead, partCount, partAt}
+use Rattle.typ.specs.Parts.{ownIn, countIn, partIn, ownRead, partCount, partAt, alikeAt}
 use Rattle.typ.proofs.Spans.{SpanIs, span-is, span-small}
 
 module _ (text : Bytes) (rows : Words) where
@@ -133,6 +135,11 @@ module _ (rows : Words) (t : TypeKey) {k : ℕ} (k-is : k ≡ typeWord rows t 0)
   pub results-part : (i w : ℕ) → k ≡ 7 → (i ≡ 0 → ⊥) → w ≡ typeWord rows t 3 → typeKey w ≡ partAt rows t i
   unfolding partIn
   results-part i w q n e = part-second rows t (is-func rows t k-is refl refl refl refl e q) refl i n
+
+-- what is called nothing is called alike
+pub alike-nameless : (text : Bytes) (rows : Words) (x y : TypeKey) (i : ℕ) (b : Bool) → b ≡ ltb (numberRead rows x) 8 → b ≡ true → true ≡ alikeAt text rows x y i
+unfolding alikeAt
+alike-nameless text rows x y i b e q = rw (← e, q)
 
 -- "Byte is Uint8, Rune is Int32"
 pub real-byte : (k : ℕ) → k ≡ 26 → 8 ≡ realType k

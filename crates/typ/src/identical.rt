@@ -16,6 +16,8 @@ use crate::marks::clear;
 use crate::marks::is_met;
 use crate::marks::set_met;
 use crate::parts::alike_at;
+use crate::parts::alike_in;
+use crate::parts::nameless;
 use crate::parts::own_number;
 use crate::parts::part_at;
 use crate::parts::part_count;
@@ -119,9 +121,10 @@ fn identical_impl_o(
     ensures { λ r. ⌜ PartsCompared (tableOf (now (text .entry)) (now (rows .entry))) (now (marks .entry)) (now (marks .exit)) x y r ⌝ }
 {
     let n = part_count(rows, x);
+    let plain = nameless(rows, x);
     let mut i: u32 = 0;
     while i < n {
-        if !alike_at(text, rows, x, y, i) {
+        if !alike_in(text, rows, x, y, i, plain) {
             return false;
         }
         let p = part_at(rows, x, i);

@@ -5,7 +5,8 @@ ghost use mathlib.Core.Bool.{true};
 ghost use mathlib.Core.Logic.{_⊎_};
 ghost use Prim.Native.Nat.{_+_, _<_};
 ghost use Rattle.objects.specs.Rows.{tableOf, memberAt};
-ghost use Rattle.objects.specs.Types.{firstRead};
+ghost use lib.Dec.{ltb};
+ghost use Rattle.objects.specs.Types.{numberRead, firstRead};
 ghost use Rattle.objects.specs.Table.{dirNumber, hasPackage};
 ghost use Rattle.rules.specs.Identity.{alikeMember};
 ghost use Rattle.rules.specs.Library.{Library};
@@ -176,4 +177,24 @@ pub fn alike_at(text: &[u8], rows: &[u32], x: TypeKey, y: TypeKey, i: u32) -> bo
     let m = ObjKey(first_member(rows, x) + i);
     let n = ObjKey(first_member(rows, y) + i);
     alike(text, rows, m, n)
+}
+
+// Below struct: a type whose parts are not called anything.
+pub fn nameless(rows: &[u32], t: TypeKey) -> bool
+    ensures { λ r. ⌜ r ≡ ltb (numberRead (now (rows .entry)) t) 8 ⌝ }
+{
+    kind_number(rows, t) < 8
+}
+
+// The same as alike_at, for a loop over i: x is known to be nameless or not.
+pub fn alike_in(text: &[u8], rows: &[u32], x: TypeKey, y: TypeKey, i: u32, plain: bool) -> bool
+    requires { ⌜ Library (now text) (now rows) ⌝ }
+    requires { ⌜ Kin (tableOf (now text) (now rows)) x y × (i < partCount (now rows) x) ⌝ }
+    requires { ⌜ plain ≡ ltb (numberRead (now rows) x) 8 ⌝ }
+    ensures { λ r. ⌜ r ≡ alikeAt (now (text .entry)) (now (rows .entry)) x y i ⌝ }
+{
+    if plain {
+        return true;
+    }
+    alike_at(text, rows, x, y, i)
 }
