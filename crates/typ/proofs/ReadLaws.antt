@@ -119,6 +119,15 @@ module _ (rows : Words) (t : TypeKey) {ty con : «Type»} (e : ty ≡ typeRead r
 
 -- what a reader gives of a row whose kind it has read
 module _ (rows : Words) (t : TypeKey) {k : ℕ} (k-is : k ≡ typeWord rows t 0) where
+  pub member-own : {r : ℕ} → (k ≡ 8) ⊎ (k ≡ 9) → r ≡ totalRead rows t → r ≡ ownRead rows t
+  unfolding ownIn totalRead
+  member-own (inl q) e = own-as rows t (is-struct rows t k-is refl refl refl e q) refl
+  member-own (inr q) e = own-as rows t (is-iface rows t k-is refl refl refl e q) refl
+
+  pub element-own : {r : ℕ} → k ≡ 6 → r ≡ totalRead rows t → r ≡ ownRead rows t
+  unfolding ownIn totalRead
+  element-own q e = own-as rows t (is-tuple rows t k-is refl refl refl e q) refl
+
   pub member-part : (i first : ℕ) {r : TypeKey} → (k ≡ 8) ⊎ (k ≡ 9) → first ≡ firstRead rows t → r ≡ memberTypeRead rows (objKey (first + i)) → r ≡ partAt rows t i
   unfolding partIn firstRead
   member-part i first (inl q) f e = e ∙ part-as rows t (is-struct rows t k-is refl refl f refl q) refl i

@@ -23,6 +23,7 @@ use objects::rows::first_member;
 use objects::rows::is_embedded;
 use objects::rows::is_method;
 use objects::rows::kind_number;
+use objects::rows::member_total;
 use objects::rows::member_type;
 use objects::rows::member_word;
 use objects::rows::type_of;
@@ -42,8 +43,18 @@ pub fn dir_number(d: Dir) -> u32
     }
 }
 
-// The number that belongs to a type beside its kind, its parts and its members.
-pub fn own_number(rows: &[u32], t: TypeKey) -> u32
+// Struct and iface: a part is a member's type.
+fn has_members(kind: u32) -> bool
+    ensures { λ r. ⌜ (r ≡ true → (kind ≡ 8) ⊎ (kind ≡ 9)) ⌝ }
+{
+    if kind == 8 {
+        return true;
+    }
+    kind == 9
+}
+
+// The number that belongs to a type beside its kind, its parts and its members, whatever the kind is.
+fn own_of(rows: &[u32], t: TypeKey) -> u32
     ensures { λ r. ⌜ r ≡ ownRead (now (rows .entry)) t ⌝ }
 {
     let ty = type_of(rows, t);
@@ -60,6 +71,20 @@ pub fn own_number(rows: &[u32], t: TypeKey) -> u32
         Type::Iface(_, n) => n,
         Type::Named(_, _, _) => t.0,
     }
+}
+
+// The same. Of struct, iface and tuple it is how many members or elements there are, which is read at once.
+pub fn own_number(rows: &[u32], t: TypeKey) -> u32
+    ensures { λ r. ⌜ r ≡ ownRead (now (rows .entry)) t ⌝ }
+{
+    let k = type_word(rows, t, 0);
+    if has_members(k) {
+        return member_total(rows, t);
+    }
+    if k == 6 {
+        return member_total(rows, t);
+    }
+    own_of(rows, t)
 }
 
 // How many types it is made of.
@@ -101,16 +126,6 @@ fn part_of(rows: &[u32], t: TypeKey, i: u32) -> TypeKey
         Type::Iface(first, _) => member_type(rows, ObjKey(first + i)),
         Type::Named(_, _, _) => TypeKey(0),
     }
-}
-
-// Struct and iface: a part is a member's type.
-fn has_members(kind: u32) -> bool
-    ensures { λ r. ⌜ (r ≡ true → (kind ≡ 8) ⊎ (kind ≡ 9)) ⌝ }
-{
-    if kind == 8 {
-        return true;
-    }
-    kind == 9
 }
 
 // The i-th of them. The kinds of several parts, of which there are the most parts to read, come first, and only the words are read that one takes.
