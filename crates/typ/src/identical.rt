@@ -21,8 +21,11 @@ use crate::parts::nameless;
 use crate::parts::own_number;
 use crate::parts::part_at;
 use crate::parts::part_count;
+use crate::parts::part_in;
 use objects::TypeKey;
+use objects::rows::first_member;
 use objects::rows::kind_number;
+use objects::rows::type_word;
 
 // 256 types: so many pairs, a bit each for those that were met, and as many for those that were opened.
 const TYPES: usize = 256;
@@ -122,13 +125,17 @@ fn identical_impl_o(
 {
     let n = part_count(rows, x);
     let plain = nameless(rows, x);
+    let j = type_word(rows, x, 0);
+    let k = type_word(rows, y, 0);
+    let first = first_member(rows, x);
+    let second = first_member(rows, y);
     let mut i: u32 = 0;
     while i < n {
         if !alike_in(text, rows, x, y, i, plain) {
             return false;
         }
-        let p = part_at(rows, x, i);
-        let q = part_at(rows, y, i);
+        let p = part_in(rows, x, j, first, i);
+        let q = part_in(rows, y, k, second, i);
         if !identical_impl(text, rows, marks, p, q, deep) {
             return false;
         }

@@ -4,7 +4,7 @@ ghost use mathlib.Core.Path.{_≡_};
 ghost use mathlib.Core.Bool.{true};
 ghost use mathlib.Core.Logic.{_⊎_};
 ghost use Prim.Native.Nat.{_+_, _<_};
-ghost use Rattle.objects.specs.Rows.{tableOf, memberAt};
+ghost use Rattle.objects.specs.Rows.{typeWord, tableOf, memberAt};
 ghost use lib.Dec.{ltb};
 ghost use Rattle.objects.specs.Types.{numberRead, firstRead};
 ghost use Rattle.objects.specs.Table.{dirNumber, hasPackage};
@@ -147,6 +147,21 @@ pub fn part_at(rows: &[u32], t: TypeKey, i: u32) -> TypeKey
         return TypeKey(type_word(rows, t, 2));
     }
     TypeKey(type_word(rows, t, 3))
+}
+
+// The i-th of them, for a loop over i: the kind and the first member or element are known.
+pub fn part_in(rows: &[u32], t: TypeKey, k: u32, first: u32, i: u32) -> TypeKey
+    requires { ⌜ (k ≡ typeWord (now rows) t 0) × (first ≡ firstRead (now rows) t) ⌝ }
+    requires { ⌜ firstRead (now rows) t + i < 65_536 ⌝ }
+    ensures { λ r. ⌜ r ≡ partAt (now (rows .entry)) t i ⌝ }
+{
+    if has_members(k) {
+        return member_type(rows, ObjKey(first + i));
+    }
+    if k == 6 {
+        return element(rows, first + i);
+    }
+    part_at(rows, t, i)
 }
 
 // ---- members
