@@ -1,23 +1,27 @@
 -- What is read off a type's row (specs/Parts.antt) is what the rules say of the table that the rows hold: its own number and its parts.
 use mathlib.Core.Path.{_≡_, refl, sym, ap, _∙_}
+use mathlib.Core.Bool.{Bool, true}
 use mathlib.Core.List.{map, append-nil}
+use mathlib.Core.Logic.{_⊎_, inl, inr}
 use Prim.Native.Nat.{ℕ, suc, _+_, _-_, _<_, _≤_}
 use native.Mathlib.Omega.{arith}
+use lib.Dec.{ltb}
 use borrow.Author.Tests.{ne-eqb}
 use Rattle.objects.specs.declared.TypeKey.{TypeKey}
 use Rattle.objects.specs.declared.«Type».{«Type»}
 use Rattle.objects.specs.Lists.{Bytes, upTo}
-use Rattle.objects.specs.Table.{Member, objKey, kindAt}
-use Rattle.objects.specs.Rows.{Words, typeCount, from, elementAt, memberAt, elementsFrom, membersFrom, tableOf}
-use Rattle.objects.specs.Types.{kindMeant, typeRead, firstRead, totalRead, memberTypeRead}
+use Rattle.objects.specs.Table.{Member, typeKey, objKey, kindAt}
+use Rattle.objects.specs.Rows.{Words, typeCount, typeWord, from, elementAt, memberAt, elementsFrom, membersFrom, tableOf}
+use Rattle.objects.specs.Types.{kindMeant, typeRead, numberRead, firstRead, totalRead, memberTypeRead}
 use Rattle.objects.specs.Laid.{Laid}
 use Rattle.objects.proofs.ListLaws.{map-map}
+use Rattle.objects.proofs.Reading.{is-tuple, is-func, is-struct, is-iface}
 use Rattle.objects.proofs.RowLaws.{type-meant, kind-read, members-length, elements-length}
 use Rattle.rules.specs.Identity.{realType, ownNumber, parts}
 use Rattle.rules.specs.Library.{Library}
 use Rattle.rules.specs.Sound.{Sound}
 use Rattle.rules.proofs.Sounds.{loads-sound}
-use Rattle.typ.specs.Parts.{ownIn, countIn, partIn, ownRead, partCount, partAt}
+use Rattle.typ.specs.Parts.{ownIn, countIn, partIn, ownRead, partCount, partAt, alikeAt}
 use Rattle.typ.proofs.Spans.{SpanIs, span-is, span-small}
 
 module _ (text : Bytes) (rows : Words) where
@@ -112,6 +116,39 @@ module _ (rows : Words) (t : TypeKey) {ty con : «Type»} (e : ty ≡ typeRead r
 
   pub span-as : SpanIs (firstRead rows t) (totalRead rows t) con
   span-as = rw (sym f ∙ e) (span-is rows t)
+
+-- what a reader gives of a row whose kind it has read
+module _ (rows : Words) (t : TypeKey) {k : ℕ} (k-is : k ≡ typeWord rows t 0) where
+  pub member-own : {r : ℕ} → (k ≡ 8) ⊎ (k ≡ 9) → r ≡ totalRead rows t → r ≡ ownRead rows t
+  unfolding ownIn totalRead
+  member-own (inl q) e = own-as rows t (is-struct rows t k-is refl refl refl e q) refl
+  member-own (inr q) e = own-as rows t (is-iface rows t k-is refl refl refl e q) refl
+
+  pub element-own : {r : ℕ} → k ≡ 6 → r ≡ totalRead rows t → r ≡ ownRead rows t
+  unfolding ownIn totalRead
+  element-own q e = own-as rows t (is-tuple rows t k-is refl refl refl e q) refl
+
+  pub member-part : (i first : ℕ) {r : TypeKey} → (k ≡ 8) ⊎ (k ≡ 9) → first ≡ firstRead rows t → r ≡ memberTypeRead rows (objKey (first + i)) → r ≡ partAt rows t i
+  unfolding partIn firstRead
+  member-part i first (inl q) f e = e ∙ part-as rows t (is-struct rows t k-is refl refl f refl q) refl i
+  member-part i first (inr q) f e = e ∙ part-as rows t (is-iface rows t k-is refl refl f refl q) refl i
+
+  pub element-part : (i first : ℕ) {r : TypeKey} → k ≡ 6 → first ≡ firstRead rows t → r ≡ elementAt rows (first + i) → r ≡ partAt rows t i
+  unfolding partIn firstRead
+  element-part i first q f e = e ∙ part-as rows t (is-tuple rows t k-is refl refl f refl q) refl i
+
+  pub params-part : (i w : ℕ) → k ≡ 7 → i ≡ 0 → w ≡ typeWord rows t 2 → typeKey w ≡ partAt rows t i
+  unfolding partIn
+  params-part i w q z e = part-first rows t (is-func rows t k-is refl e refl refl refl q) refl i z
+
+  pub results-part : (i w : ℕ) → k ≡ 7 → (i ≡ 0 → ⊥) → w ≡ typeWord rows t 3 → typeKey w ≡ partAt rows t i
+  unfolding partIn
+  results-part i w q n e = part-second rows t (is-func rows t k-is refl refl refl refl e q) refl i n
+
+-- what is called nothing is called alike
+pub alike-nameless : (text : Bytes) (rows : Words) (x y : TypeKey) (i : ℕ) (b : Bool) → b ≡ ltb (numberRead rows x) 8 → b ≡ true → true ≡ alikeAt text rows x y i
+unfolding alikeAt
+alike-nameless text rows x y i b e q = rw (← e, q)
 
 -- "Byte is Uint8, Rune is Int32"
 pub real-byte : (k : ℕ) → k ≡ 26 → 8 ≡ realType k

@@ -7,6 +7,7 @@ use Prim.Native.Nat.{ℕ, zero, suc, _+_, _-_, _*_, _/_, _%_, _<_, _≤_}
 use native.Mathlib.Omega.{arith}
 use lib.Dec.{eqb}
 use lib.ListN.{length, getD}
+use borrow.Author.Count.{below-more}
 use borrow.Author.Tests.{eqb-true, eqb-false, not-true, not-false}
 use Rattle.objects.specs.declared.TypeKey.{TypeKey}
 use Rattle.objects.specs.Bounds.{maxTypes, markWords}
@@ -20,7 +21,7 @@ use Rattle.rules.specs.Sound.{Sound}
 use Rattle.rules.proofs.StepLaws.{same-zero}
 use Rattle.rules.proofs.IdentityLaws.{identical-steps, identical-self}
 use Rattle.typ.specs.Marks.{met, meet, unmet}
-use Rattle.typ.specs.Compared.{pairs, pair, opened, Clean, Grown, Kin, Apart, Well, AllMet, NewMet, Leads, Compared, PartsCompared, State, Turn}
+use Rattle.typ.specs.Compared.{pairs, pairWords, pair, opened, Clean, WordClean, AllClean, Grown, Kin, Apart, Well, AllMet, NewMet, Leads, Compared, PartsCompared, State, Turn}
 use Rattle.typ.proofs.Bits.{met-other, unmet-falls}
 use Rattle.typ.proofs.Marked.{grown-meet, all-less, pair-one}
 
@@ -45,14 +46,14 @@ module _ (T : Table) (x y : TypeKey) where
   }
 
   module _ (l : List ℕ) (p : ℕ) (s : State T l x y) (hp : p < pairs) where
-    skip : Clean l p → Turn T l l x y p 1
+    skip : Clean l p → Turn T (Clean l p) l l x y 1
     skip c = record { small = omega arith; if-0 = λ z. absurd (omega arith); if-1 = λ _. (refl, c); if-2 = λ z. absurd (omega arith) }
 
-    pub skip-unmet : (r : Bool) → r ≡ met l p → not r ≡ true → Turn T l l x y p 1
+    pub skip-unmet : (r : Bool) → r ≡ met l p → not r ≡ true → Turn T (Clean l p) l l x y 1
     unfolding Clean
     skip-unmet r e h = skip (λ m. clash m (sym e ∙ not-true r h))
 
-    pub skip-opened : (r : Bool) → r ≡ met l (pairs + p) → r ≡ true → Turn T l l x y p 1
+    pub skip-opened : (r : Bool) → r ≡ met l (pairs + p) → r ≡ true → Turn T (Clean l p) l l x y 1
     unfolding Clean
     skip-opened r e h = skip (λ _. sym e ∙ h)
 
@@ -118,10 +119,10 @@ module _ (T : Table) (x y : TypeKey) where
             this : (n : ℕ) (a b : TypeKey) → b .0 < maxTypes → sameIn T (suc n) (first p) (second p) ≡ true → opened a b ≡ pairs + p → sameIn T (suc n) a b ≡ true
             this n a b hb k z = let r = pair-one a b (first p) (second p) hb (omega arith) (omega arith) in rw (r .0, r .1) k
 
-        pub open-same : u ≡ true → Turn T l l′ x y p 2
+        pub open-same : u ≡ true → Turn T (Clean l p) l l′ x y 2
         open-same q = record { small = omega arith; if-0 = λ z. absurd (omega arith); if-1 = λ z. absurd (omega arith); if-2 = λ _. (falls, state q) }
 
-        pub open-differ : u ≡ false → Turn T l l′ x y p 0
+        pub open-differ : u ≡ false → Turn T (Clean l p) l l′ x y 0
         open-differ q = record {
           small = omega arith;
           if-0 = λ _. s .leads (first p) (second p) (omega arith) (omega arith) is-met (went .differ-if q);
@@ -137,54 +138,104 @@ module _ (T : Table) (x y : TypeKey) where
   pub differed : Sound T → Apart T x y → false ≡ identical T x y
   differed s d = sym (false-of (identical T x y) (λ e. clash (identical-steps T s x y .0 e (d .0)) (d .1)))
 
-  all-met : (l : List ℕ) → State T l x y → ((p : ℕ) → p < pairs → Clean l p) → (n : ℕ) → AllMet T n l
+  all-met : (l : List ℕ) → State T l x y → AllClean l → (n : ℕ) → AllMet T n l
   unfolding AllMet Clean
   all-met l s c zero a b ha hb m = same-zero T a b
   all-met l s c (suc n) a b ha hb m = s .same-if n (all-met l s c n) .1 a b ha hb (c (pair a b) (omega arith) m)
 
-  pub agreed : Sound T → (l : List ℕ) → State T l x y → ((p : ℕ) → p < pairs → Clean l p) → true ≡ identical T x y
+  pub agreed : Sound T → (l : List ℕ) → State T l x y → AllClean l → true ≡ identical T x y
   agreed h l s c = sym (identical-steps T h x y .1 (λ n. s .same-if n (all-met l s c n) .0))
 
 -- ---- no pair is put off
 
--- the words of the pairs that were met are those of the pairs that were opened
-pub halves-clean : (l : List ℕ) (i : ℕ) → 2048 ≤ i → ((k : ℕ) → k < i → getD l k 0 ≡ getD l (2048 + k) 0) → (p : ℕ) → p < pairs → Clean l p
-unfolding Clean met
-halves-clean l i h e p hp m =
-    let a : (pairs + p) / 32 ≡ 2048 + p / 32 = omega arith in
-    let b : (pairs + p) % 32 ≡ p % 32 = omega arith in
-    rw (a, b, ← e (p / 32) (omega arith)) m
+-- the bits of the pairs of word w that were met are those of the pairs that were opened
+pub halves-clean : (l : List ℕ) (w : ℕ) → w < pairWords → getD l w 0 ≡ getD l (2048 + w) 0 → WordClean l w
+unfolding WordClean Clean met
+halves-clean l w h e k hk m =
+    let a : (pairs + (32 * w + k)) / 32 ≡ 2048 + w = omega arith in
+    let b : (pairs + (32 * w + k)) % 32 ≡ k = omega arith in
+    let d : (32 * w + k) / 32 ≡ w = omega arith in
+    let f : (32 * w + k) % 32 ≡ k = omega arith in
+    rw (a, b, ← e) (rw (d, f) at m)
 
--- the pairs that the last rounds have shown not to be put off: all but `left` from p on
-unfoldable pub Round : List ℕ → ℕ → ℕ → Type 0
-Round l p left = (q : ℕ) → q < pairs → left ≤ (q + pairs - p) % pairs → Clean l q
+-- pair k of word w is not put off
+abbrev pub PairClean : ℕ → List ℕ → ℕ → Type 0
+PairClean w l k = Clean l (32 * w + k)
 
-pub round-none : (l : List ℕ) (p : ℕ) → Round l p pairs
-unfolding Round
-round-none l p q hq h = absurd (omega arith)
+pub pairs-clean : (l : List ℕ) (w i : ℕ) → 32 ≤ i → ((k : ℕ) → k < i → PairClean w l k) → WordClean l w
+unfolding WordClean
+pairs-clean l w i h e k hk = e k (omega arith)
 
-round-one : (l : List ℕ) (p left : ℕ) → p < pairs → 0 < left → Clean l p → Round l p left → Round l ((p + 1) % pairs) (left - 1)
-unfolding Round
-round-one l p left hp hl c g q hq h = cases (eqb q p) (λ e. let z : q ≡ p = eqb-true q p e in rw z c) (λ e. let z = eqb-false q p e in g q hq (omega arith))
+pub words-clean : (l : List ℕ) (i : ℕ) → pairWords ≤ i → ((w : ℕ) → w < i → WordClean l w) → AllClean l
+unfolding WordClean
+words-clean l i h e p hp = let z : 32 * (p / 32) + p % 32 ≡ p = omega arith in rw z at (e (p / 32) (omega arith) (p % 32) (omega arith))
 
-pub round-all : (l : List ℕ) (p left : ℕ) → left ≤ 0 → Round l p left → (q : ℕ) → q < pairs → Clean l q
-unfolding Round
-round-all l p left h g q hq = g q hq (omega arith)
+-- the words looked at are clean as long as none is counted
+pub clean-more : (l : List ℕ) (w off off′ : ℕ) → w < pairWords → (off ≡ 0 → (v : ℕ) → v < w → WordClean l v) → (off′ ≡ off + 1) ⊎ ((getD l w 0 ≡ getD l (2048 + w) 0) × (off′ ≡ off))
+    → off′ ≡ 0 → (v : ℕ) → v < w + 1 → WordClean l v
+clean-more l w off off′ h c (inl e) z = absurd (omega arith)
+clean-more l w off off′ h c (inr e) z = below-more (λ (v : ℕ). WordClean l v) w (c (sym (e .1) ∙ z)) (halves-clean l w h (e .0))
 
-pub record Turned (T : Table) (l l′ : List ℕ) (x y : TypeKey) (p left left′ : ℕ) : Type 0 where
-  pub state : State T l′ x y
-  pub round : Round l′ ((p + 1) % pairs) left′
-  pub small : left′ ≤ pairs
-  pub less : 65_537 * unmet l′ + left′ < 65_537 * unmet l + left
+-- ---- pairs, and words of them, are seen to in turn
 
-pub turned : (T : Table) (l l′ : List ℕ) (x y : TypeKey) (p left left′ r : ℕ) → State T l x y → Round l p left → p < pairs → left ≤ pairs → 0 < left → Turn T l l′ x y p r → (r ≡ 0 → ⊥)
-    → ((r ≡ 1) × (left′ ≡ left - 1)) ⊎ ((r ≡ 1 → ⊥) × (left′ ≡ pairs)) → Turned T l l′ x y p left left′
-turned T l l′ x y p left left′ r s g hp hl h0 o n (inl e) =
-    let k = o .if-1 (e .0) in
-    rw (k .0, e .1) (record { state = s; round = round-one l p left hp h0 (k .1) g; small = omega arith; less = omega arith })
-turned T l l′ x y p left left′ r s g hp hl h0 o n (inr e) =
-    let k = o .if-2 (two (o .small) n (e .0)) in
-    rw (e .1) (record { state = k .1; round = round-none l′ ((p + 1) % pairs); small = omega arith; less = omega (arith, k .0) })
-  where
-    two : r ≤ 2 → (r ≡ 0 → ⊥) → (r ≡ 1 → ⊥) → r ≡ 2
-    two a b c = omega arith
+is-one : (r : ℕ) → r ≤ 2 → (r ≡ 0 → ⊥) → (r ≡ 2 → ⊥) → r ≡ 1
+is-one r a b c = omega arith
+
+is-two : (r : ℕ) → r ≤ 2 → (r ≡ 0 → ⊥) → (r ≡ 1 → ⊥) → r ≡ 2
+is-two r a b c = omega arith
+
+module _ (T : Table) (x y : TypeKey) where
+  pub turn-differ : (C : Type 0) (l l′ : List ℕ) → Apart T x y → Turn T C l l′ x y 0
+  turn-differ C l l′ d = record { small = omega arith; if-0 = λ _. d; if-1 = λ z. absurd (omega arith); if-2 = λ z. absurd (omega arith) }
+
+  pub turn-clean : (C : Type 0) (l : List ℕ) → C → Turn T C l l x y 1
+  turn-clean C l c = record { small = omega arith; if-0 = λ z. absurd (omega arith); if-1 = λ _. (refl, c); if-2 = λ z. absurd (omega arith) }
+
+  pub turn-as : (C D : Type 0) (l l′ : List ℕ) (r : ℕ) → (C → D) → Turn T C l l′ x y r → Turn T D l l′ x y r
+  turn-as C D l l′ r f t = record { small = t .small; if-0 = t .if-0; if-1 = λ e. (t .if-1 e .0, f (t .if-1 e .1)); if-2 = t .if-2 }
+
+  turn-opened : (C : Type 0) (l l′ : List ℕ) → unmet l′ < unmet l → State T l′ x y → Turn T C l l′ x y 2
+  turn-opened C l l′ h s = record { small = omega arith; if-0 = λ z. absurd (omega arith); if-1 = λ z. absurd (omega arith); if-2 = λ _. (h, s) }
+
+  -- the first i have been seen to, f as for a turn: each is P if it was not put off
+  pub record Turns (P : List ℕ → ℕ → Type 0) (l l′ : List ℕ) (i f : ℕ) : Type 0 where
+    pub state : State T l′ x y
+    pub some : f ≡ 0 → ⊥
+    pub turn : Turn T ((k : ℕ) → k < i → P l k) l l′ x y f
+
+  pub turns-none : (P : List ℕ → ℕ → Type 0) (l : List ℕ) → State T l x y → Turns P l l 0 1
+  turns-none P l s = record { state = s; some = λ z. absurd (omega arith); turn = turn-clean _ l (λ k h. absurd (omega arith)) }
+
+  module _ (P : List ℕ → ℕ → Type 0) (l m : List ℕ) (i f : ℕ) (t : Turns P l m i f) where
+    fewer : unmet m ≤ unmet l
+    fewer =
+        cases (eqb f 1)
+        (λ e. rw (t .turn .if-1 (eqb-true f 1 e) .0) (omega arith))
+        (λ e. omega (arith, t .turn .if-2 (is-two f (t .turn .small) (t .some) (eqb-false f 1 e)) .0))
+
+    pub turns-more : (l′ : List ℕ) (r f′ : ℕ) → Turn T (P m i) m l′ x y r → (r ≡ 0 → ⊥) → ((r ≡ 2) × (f′ ≡ 2)) ⊎ ((r ≡ 2 → ⊥) × (f′ ≡ f)) → Turns P l l′ (i + 1) f′
+    turns-more l′ r f′ u n (inl e) =
+        let o = u .if-2 (e .0) in
+        rw (e .1) (record { state = o .1; some = λ z. absurd (omega arith); turn = turn-opened _ l l′ (omega (arith, fewer, o .0)) (o .1) })
+    turns-more l′ r f′ u n (inr e) =
+        let o = u .if-1 (is-one r (u .small) n (e .0)) in
+        rw (e .1, o .0) (record {
+          state = t .state;
+          some = t .some;
+          turn = record {
+            small = t .turn .small;
+            if-0 = t .turn .if-0;
+            if-1 = λ z. let k = t .turn .if-1 z in (k .0, below-more (λ (j : ℕ). P l j) i (k .1) (rw (k .0) at (o .1)));
+            if-2 = t .turn .if-2;
+          };
+        })
+
+  -- the answer of the last round
+  pub answered : Sound T → (l l′ : List ℕ) (r : ℕ) → State T l x y → Turn T (AllClean l) l l′ x y r → (r ≡ 2 → ⊥) → eqb r 1 ≡ identical T x y
+  answered h l l′ r s t n =
+      cases (eqb r 1)
+      (λ e. e ∙ agreed T x y h l s (t .if-1 (eqb-true r 1 e) .1))
+      (λ e. e ∙ differed T x y h (t .if-0 (none (t .small) (eqb-false r 1 e) n)))
+    where
+      none : r ≤ 2 → (r ≡ 1 → ⊥) → (r ≡ 2 → ⊥) → r ≡ 0
+      none a b c = omega arith

@@ -1,11 +1,11 @@
 -- Lists of zeros, and no mark in them.
-use mathlib.Core.Path.{_≡_, refl, sym, ap, _∙_}
+use mathlib.Core.Path.{_≡_, refl, sym, ap, _∙_, subst}
 use mathlib.Core.Bool.{false}
-use mathlib.Core.List.{List}
+use mathlib.Core.List.{List, _∷_}
 use Prim.Native.Nat.{ℕ, zero, suc, _+_, _/_, _<_, _≤_}
 use native.Mathlib.Omega.{arith}
 use native.Mathlib.Nat.{zero-div}
-use lib.ListN.{length, getD, set, replicate, length-replicate, getD-replicate}
+use lib.ListN.{length, getD, set, take, replicate, length-replicate, getD-replicate}
 use lib.Seq.{getD-set-same, getD-set-other, ext-getD}
 use borrow.Author.Count.{below-more}
 use Rattle.typ.specs.Marks.{bitAt, met}
@@ -22,6 +22,15 @@ pub getD-zeros : (n k : ℕ) → _≡_ {A = ℕ} (getD (replicate n 0) k 0) 0
 getD-zeros zero k = refl
 getD-zeros (suc n) zero = refl
 getD-zeros (suc n) (suc k) = getD-zeros n k
+
+take-zeros : (n m : ℕ) → _≡_ {A = List ℕ} (take n (replicate m 0)) (replicate (length {A = ℕ} (take n (replicate m 0))) 0)
+take-zeros zero m = refl
+take-zeros (suc n) zero = refl
+take-zeros (suc n) (suc m) = ap (λ (l : List ℕ). 0 ∷ l) (take-zeros n m)
+
+-- what is lent of a list of zeros is one
+pub zero-front : (n : ℕ) (l : List ℕ) → l ≡ replicate (length l) 0 → take n l ≡ replicate (length (take n l)) 0
+zero-front n l e = subst (λ (m : List ℕ). take n m ≡ replicate (length (take n m)) 0) (sym e) (take-zeros n (length l))
 
 pub none-met : (l : List ℕ) → l ≡ replicate (length l) 0 → (p : ℕ) → met l p ≡ false
 unfolding met bitAt

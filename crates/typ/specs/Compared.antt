@@ -16,6 +16,10 @@ use Rattle.typ.specs.Marks.{met, meet, unmet}
 abbrev pub pairs : ℕ
 pairs = 65_536
 
+-- and words of their bits
+abbrev pub pairWords : ℕ
+pairWords = 2_048
+
 -- the mark of a pair that is met, and of one that is opened
 abbrev pub pair : TypeKey → TypeKey → ℕ
 pair x y = maxTypes * x .0 + y .0
@@ -36,6 +40,13 @@ pub record Entered (l l′ : List ℕ) (p : ℕ) (r : Bool) : Type 0 where
 -- the pair numbered p is not put off
 unfoldable pub Clean : List ℕ → ℕ → Type 0
 Clean l p = met l p ≡ true → met l (pairs + p) ≡ true
+
+-- none of the 32 pairs of word w is; no pair at all is
+unfoldable pub WordClean : List ℕ → ℕ → Type 0
+WordClean l w = (k : ℕ) → k < 32 → Clean l (32 * w + k)
+
+abbrev pub AllClean : List ℕ → Type 0
+AllClean l = (p : ℕ) → p < pairs → Clean l p
 
 module _ (T : Table) where
   -- types of one kind and one own number
@@ -86,9 +97,9 @@ module _ (T : Table) where
     pub same-if : (n : ℕ) → AllMet n l → (sameIn T n x y ≡ true) × ((a b : TypeKey) → a .0 < maxTypes → b .0 < maxTypes → met l (opened a b) ≡ true → sameIn T (suc n) a b ≡ true)
     pub leads : (a b : TypeKey) → a .0 < maxTypes → b .0 < maxTypes → met l (pair a b) ≡ true → Apart a b → Apart x y
 
-  -- the pair numbered p has been seen to: 0 where its types differ, and so x and y; 1 where it was not put off; 2 where it was, and has been opened
-  pub record Turn (l l′ : List ℕ) (x y : TypeKey) (p r : ℕ) : Type 0 where
+  -- pairs have been seen to: 0 where the types of one differ, and so x and y; 1 where none was put off, which is C; 2 where one was, and has been opened
+  pub record Turn (C : Type 0) (l l′ : List ℕ) (x y : TypeKey) (r : ℕ) : Type 0 where
     pub small : r ≤ 2
     pub if-0 : r ≡ 0 → Apart x y
-    pub if-1 : r ≡ 1 → (l′ ≡ l) × Clean l p
+    pub if-1 : r ≡ 1 → (l′ ≡ l) × C
     pub if-2 : r ≡ 2 → (unmet l′ < unmet l) × State l′ x y

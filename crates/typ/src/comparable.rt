@@ -16,6 +16,9 @@ use objects::TypeKey;
 use objects::rows::member_type;
 use objects::rows::type_of;
 
+// A word for each type that there may be.
+const TYPES: usize = 256;
+
 // Comparable if all is that it contains by value.
 pub fn may_compare(rows: &[u32], t: TypeKey) -> bool
     ensures { λ r. ⌜ r ≡ mayCompare (now (rows .entry)) t ⌝ }
@@ -105,8 +108,8 @@ fn comparable_impl(text: &[u8], rows: &[u32], met: &mut [u32], t: TypeKey) -> bo
     true
 }
 
-// Type t is comparable. The words lent are 0 before and after.
-pub fn comparable(text: &[u8], rows: &[u32], met: &mut [u32], t: TypeKey) -> bool
+// Type t is comparable. Every word lent is cleared.
+fn judge(text: &[u8], rows: &[u32], met: &mut [u32], t: TypeKey) -> bool
     requires { ⌜ Library (now text) (now rows) ⌝ }
     requires { ⌜ (t .0 < typeCount (now rows)) × (maxTypes ≤ length (now met)) ⌝ }
     requires { ⌜ now met ≡ replicate (length (now met)) 0 ⌝ }
@@ -116,4 +119,15 @@ pub fn comparable(text: &[u8], rows: &[u32], met: &mut [u32], t: TypeKey) -> boo
     let r = comparable_impl(text, rows, met, t);
     clear(met);
     r
+}
+
+// Type t is comparable. The words lent are 0 before and after; a word for each type is all that is used of them, and cleared.
+pub fn comparable(text: &[u8], rows: &[u32], met: &mut [u32], t: TypeKey) -> bool
+    requires { ⌜ Library (now text) (now rows) ⌝ }
+    requires { ⌜ (t .0 < typeCount (now rows)) × (maxTypes ≤ length (now met)) ⌝ }
+    requires { ⌜ now met ≡ replicate (length (now met)) 0 ⌝ }
+    ensures { λ r. ⌜ r ≡ comparable (tableOf (now (text .entry)) (now (rows .entry))) t ⌝ }
+    ensures { λ _. ⌜ now (met .exit) ≡ now (met .entry) ⌝ }
+{
+    judge(text, rows, &mut met[0..TYPES], t)
 }

@@ -11,16 +11,21 @@ ghost use Rattle.rules.specs.Library.{Library};
 ghost use Rattle.rules.specs.Identity.{identical};
 ghost use Rattle.typ.specs.Marks.{met};
 ghost use Rattle.typ.specs.Parts.{ownRead};
-ghost use Rattle.typ.specs.Compared.{pairs, Clean, Entered, Kin, Well, Compared, PartsCompared, State, Turn};
+ghost use Rattle.typ.specs.Compared.{pairs, pairWords, Clean, WordClean, AllClean, Entered, Kin, Well, Compared, PartsCompared, State, Turn};
 use crate::marks::clear;
 use crate::marks::is_met;
 use crate::marks::set_met;
 use crate::parts::alike_at;
+use crate::parts::alike_in;
+use crate::parts::nameless;
 use crate::parts::own_number;
 use crate::parts::part_at;
 use crate::parts::part_count;
+use crate::parts::part_in;
 use objects::TypeKey;
+use objects::rows::first_member;
 use objects::rows::kind_number;
+use objects::rows::type_word;
 
 // 256 types: so many pairs, a bit each for those that were met, and as many for those that were opened.
 const TYPES: usize = 256;
@@ -28,6 +33,9 @@ const TYPES: usize = 256;
 const PAIRS: usize = 65_536;
 
 const PAIR_WORDS: usize = 2_048;
+
+// Pairs to a word.
+const BITS: usize = 32;
 
 // So many levels may be nested before pairs are put off. Below the last such pair lie only arrays, slices, pointers and channels, whose numbers fall:
 // 1,256 levels at most. docs/ENTRY.md has what stack they take.
@@ -116,13 +124,18 @@ fn identical_impl_o(
     ensures { λ r. ⌜ PartsCompared (tableOf (now (text .entry)) (now (rows .entry))) (now (marks .entry)) (now (marks .exit)) x y r ⌝ }
 {
     let n = part_count(rows, x);
+    let plain = nameless(rows, x);
+    let j = type_word(rows, x, 0);
+    let k = type_word(rows, y, 0);
+    let first = first_member(rows, x);
+    let second = first_member(rows, y);
     let mut i: u32 = 0;
     while i < n {
-        if !alike_at(text, rows, x, y, i) {
+        if !alike_in(text, rows, x, y, i, plain) {
             return false;
         }
-        let p = part_at(rows, x, i);
-        let q = part_at(rows, y, i);
+        let p = part_in(rows, x, j, first, i);
+        let q = part_in(rows, y, k, second, i);
         if !identical_impl(text, rows, marks, p, q, deep) {
             return false;
         }
@@ -136,7 +149,7 @@ fn open_at(text: &[u8], rows: &[u32], marks: &mut [u32], x: TypeKey, y: TypeKey,
     requires { ⌜ Library (now text) (now rows) ⌝ }
     requires { ⌜ (p < pairs) × (markWords ≤ length (now marks)) ⌝ }
     requires { ⌜ State (tableOf (now text) (now rows)) (now marks) x y ⌝ }
-    ensures { λ r. ⌜ Turn (tableOf (now (text .entry)) (now (rows .entry))) (now (marks .entry)) (now (marks .exit)) x y p r ⌝ }
+    ensures { λ r. ⌜ Turn (tableOf (now (text .entry)) (now (rows .entry))) (Clean (now (marks .entry)) p) (now (marks .entry)) (now (marks .exit)) x y r ⌝ }
 {
     if !is_met(marks, p) {
         return 1;
@@ -154,19 +167,77 @@ fn open_at(text: &[u8], rows: &[u32], marks: &mut [u32], x: TypeKey, y: TypeKey,
     }
 }
 
-// Whether no pair is put off: the bits of those met are the bits of those opened.
-fn settled(marks: &[u32]) -> bool
-    requires { ⌜ markWords ≤ length (now marks) ⌝ }
-    ensures { λ r. ⌜ (r ≡ true → (p : ℕ) → p < pairs → Clean (now (marks .entry)) p) ⌝ }
+// The pairs of word w are opened that were put off: 1 where none was, 2 where one was, and 0 where the types of one differ, and so x and y.
+fn open_pairs(text: &[u8], rows: &[u32], marks: &mut [u32], x: TypeKey, y: TypeKey, w: usize) -> u32
+    requires { ⌜ Library (now text) (now rows) ⌝ }
+    requires { ⌜ (w < pairWords) × (markWords ≤ length (now marks)) ⌝ }
+    requires { ⌜ State (tableOf (now text) (now rows)) (now marks) x y ⌝ }
+    ensures { λ r. ⌜ Turn (tableOf (now (text .entry)) (now (rows .entry))) (WordClean (now (marks .entry)) w) (now (marks .entry)) (now (marks .exit)) x y r ⌝ }
 {
+    let mut found: u32 = 1;
     let mut i: usize = 0;
-    while i < PAIR_WORDS {
-        if marks[i] != marks[PAIR_WORDS + i] {
-            return false;
+    while i < BITS {
+        let r = open_at(text, rows, marks, x, y, BITS * w + i);
+        if r == 0 {
+            return 0;
+        }
+        if r == 2 {
+            found = 2;
         }
         i += 1;
     }
-    true
+    found
+}
+
+// The same, where a look at the word has it that a pair may be put off: the bits of those met are not the bits of those opened.
+fn open_word(text: &[u8], rows: &[u32], marks: &mut [u32], x: TypeKey, y: TypeKey, w: usize) -> u32
+    requires { ⌜ Library (now text) (now rows) ⌝ }
+    requires { ⌜ (w < pairWords) × (markWords ≤ length (now marks)) ⌝ }
+    requires { ⌜ State (tableOf (now text) (now rows)) (now marks) x y ⌝ }
+    ensures { λ r. ⌜ Turn (tableOf (now (text .entry)) (now (rows .entry))) (WordClean (now (marks .entry)) w) (now (marks .entry)) (now (marks .exit)) x y r ⌝ }
+{
+    if marks[w] == marks[PAIR_WORDS + w] {
+        return 1;
+    }
+    open_pairs(text, rows, marks, x, y, w)
+}
+
+// The words are seen to in turn. A pair that is opened may put off pairs of words before it, which are left to the next round.
+fn open_round(text: &[u8], rows: &[u32], marks: &mut [u32], x: TypeKey, y: TypeKey) -> u32
+    requires { ⌜ Library (now text) (now rows) ⌝ }
+    requires { ⌜ markWords ≤ length (now marks) ⌝ }
+    requires { ⌜ State (tableOf (now text) (now rows)) (now marks) x y ⌝ }
+    ensures { λ r. ⌜ Turn (tableOf (now (text .entry)) (now (rows .entry))) (AllClean (now (marks .entry))) (now (marks .entry)) (now (marks .exit)) x y r ⌝ }
+{
+    let mut found: u32 = 1;
+    let mut w: usize = 0;
+    while w < PAIR_WORDS {
+        let r = open_word(text, rows, marks, x, y, w);
+        if r == 0 {
+            return 0;
+        }
+        if r == 2 {
+            found = 2;
+        }
+        w += 1;
+    }
+    found
+}
+
+// Whether no pair is put off: the bits of those met are the bits of those opened. Every word is looked at, so that several can be at a time.
+fn settled(marks: &[u32]) -> bool
+    requires { ⌜ markWords ≤ length (now marks) ⌝ }
+    ensures { λ r. ⌜ (r ≡ true → AllClean (now (marks .entry))) ⌝ }
+{
+    let mut off: u32 = 0;
+    let mut w: usize = 0;
+    while w < PAIR_WORDS {
+        if marks[w] != marks[PAIR_WORDS + w] {
+            off += 1;
+        }
+        w += 1;
+    }
+    off == 0
 }
 
 // Types p and q differ by kind or own number, whatever their parts are.
@@ -220,22 +291,11 @@ fn decide(text: &[u8], rows: &[u32], marks: &mut [u32], x: TypeKey, y: TypeKey) 
     if !identical_impl(text, rows, marks, x, y, DEEP) {
         return false;
     }
-    if settled(marks) {
-        return true;
-    }
-    let mut p: usize = 0;
-    let mut left: usize = PAIRS;
-    while left > 0 {
-        let r = open_at(text, rows, marks, x, y, p);
-        if r == 0 {
-            return false;
+    while !settled(marks) {
+        let r = open_round(text, rows, marks, x, y);
+        if r != 2 {
+            return r == 1;
         }
-        if r == 1 {
-            left -= 1;
-        } else {
-            left = PAIRS;
-        }
-        p = (p + 1) % PAIRS;
     }
     true
 }

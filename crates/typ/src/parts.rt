@@ -2,9 +2,11 @@
 // place are called alike.
 ghost use mathlib.Core.Path.{_≡_};
 ghost use mathlib.Core.Bool.{true};
+ghost use mathlib.Core.Logic.{_⊎_};
 ghost use Prim.Native.Nat.{_+_, _<_};
-ghost use Rattle.objects.specs.Rows.{tableOf, memberAt};
-ghost use Rattle.objects.specs.Types.{firstRead};
+ghost use Rattle.objects.specs.Rows.{typeWord, tableOf, memberAt};
+ghost use lib.Dec.{ltb};
+ghost use Rattle.objects.specs.Types.{numberRead, firstRead};
 ghost use Rattle.objects.specs.Table.{dirNumber, hasPackage};
 ghost use Rattle.rules.specs.Identity.{alikeMember};
 ghost use Rattle.rules.specs.Library.{Library};
@@ -21,9 +23,11 @@ use objects::rows::first_member;
 use objects::rows::is_embedded;
 use objects::rows::is_method;
 use objects::rows::kind_number;
+use objects::rows::member_total;
 use objects::rows::member_type;
 use objects::rows::member_word;
 use objects::rows::type_of;
+use objects::rows::type_word;
 use text::compare::same_part;
 
 // ---- a type
@@ -39,8 +43,18 @@ pub fn dir_number(d: Dir) -> u32
     }
 }
 
-// The number that belongs to a type beside its kind, its parts and its members.
-pub fn own_number(rows: &[u32], t: TypeKey) -> u32
+// Struct and iface: a part is a member's type.
+fn has_members(kind: u32) -> bool
+    ensures { λ r. ⌜ (r ≡ true → (kind ≡ 8) ⊎ (kind ≡ 9)) ⌝ }
+{
+    if kind == 8 {
+        return true;
+    }
+    kind == 9
+}
+
+// The number that belongs to a type beside its kind, its parts and its members, whatever the kind is.
+fn own_of(rows: &[u32], t: TypeKey) -> u32
     ensures { λ r. ⌜ r ≡ ownRead (now (rows .entry)) t ⌝ }
 {
     let ty = type_of(rows, t);
@@ -57,6 +71,20 @@ pub fn own_number(rows: &[u32], t: TypeKey) -> u32
         Type::Iface(_, n) => n,
         Type::Named(_, _, _) => t.0,
     }
+}
+
+// The same. Of struct, iface and tuple it is how many members or elements there are, which is read at once.
+pub fn own_number(rows: &[u32], t: TypeKey) -> u32
+    ensures { λ r. ⌜ r ≡ ownRead (now (rows .entry)) t ⌝ }
+{
+    let k = type_word(rows, t, 0);
+    if has_members(k) {
+        return member_total(rows, t);
+    }
+    if k == 6 {
+        return member_total(rows, t);
+    }
+    own_of(rows, t)
 }
 
 // How many types it is made of.
@@ -79,8 +107,8 @@ pub fn part_count(rows: &[u32], t: TypeKey) -> u32
     }
 }
 
-// The i-th of them.
-pub fn part_at(rows: &[u32], t: TypeKey, i: u32) -> TypeKey
+// The i-th of them, whatever the kind is.
+fn part_of(rows: &[u32], t: TypeKey, i: u32) -> TypeKey
     requires { ⌜ firstRead (now rows) t + i < 65_536 ⌝ }
     ensures { λ r. ⌜ r ≡ partAt (now (rows .entry)) t i ⌝ }
 {
@@ -98,6 +126,42 @@ pub fn part_at(rows: &[u32], t: TypeKey, i: u32) -> TypeKey
         Type::Iface(first, _) => member_type(rows, ObjKey(first + i)),
         Type::Named(_, _, _) => TypeKey(0),
     }
+}
+
+// The i-th of them. The kinds of several parts, of which there are the most parts to read, come first, and only the words are read that one takes.
+pub fn part_at(rows: &[u32], t: TypeKey, i: u32) -> TypeKey
+    requires { ⌜ firstRead (now rows) t + i < 65_536 ⌝ }
+    ensures { λ r. ⌜ r ≡ partAt (now (rows .entry)) t i ⌝ }
+{
+    let k = type_word(rows, t, 0);
+    if has_members(k) {
+        return member_type(rows, ObjKey(first_member(rows, t) + i));
+    }
+    if k == 6 {
+        return element(rows, first_member(rows, t) + i);
+    }
+    if k != 7 {
+        return part_of(rows, t, i);
+    }
+    if i == 0 {
+        return TypeKey(type_word(rows, t, 2));
+    }
+    TypeKey(type_word(rows, t, 3))
+}
+
+// The i-th of them, for a loop over i: the kind and the first member or element are known.
+pub fn part_in(rows: &[u32], t: TypeKey, k: u32, first: u32, i: u32) -> TypeKey
+    requires { ⌜ (k ≡ typeWord (now rows) t 0) × (first ≡ firstRead (now rows) t) ⌝ }
+    requires { ⌜ firstRead (now rows) t + i < 65_536 ⌝ }
+    ensures { λ r. ⌜ r ≡ partAt (now (rows .entry)) t i ⌝ }
+{
+    if has_members(k) {
+        return member_type(rows, ObjKey(first + i));
+    }
+    if k == 6 {
+        return element(rows, first + i);
+    }
+    part_at(rows, t, i)
 }
 
 // ---- members
@@ -143,4 +207,24 @@ pub fn alike_at(text: &[u8], rows: &[u32], x: TypeKey, y: TypeKey, i: u32) -> bo
     let m = ObjKey(first_member(rows, x) + i);
     let n = ObjKey(first_member(rows, y) + i);
     alike(text, rows, m, n)
+}
+
+// Below struct: a type whose parts are not called anything.
+pub fn nameless(rows: &[u32], t: TypeKey) -> bool
+    ensures { λ r. ⌜ r ≡ ltb (numberRead (now (rows .entry)) t) 8 ⌝ }
+{
+    kind_number(rows, t) < 8
+}
+
+// The same as alike_at, for a loop over i: x is known to be nameless or not.
+pub fn alike_in(text: &[u8], rows: &[u32], x: TypeKey, y: TypeKey, i: u32, plain: bool) -> bool
+    requires { ⌜ Library (now text) (now rows) ⌝ }
+    requires { ⌜ Kin (tableOf (now text) (now rows)) x y × (i < partCount (now rows) x) ⌝ }
+    requires { ⌜ plain ≡ ltb (numberRead (now rows) x) 8 ⌝ }
+    ensures { λ r. ⌜ r ≡ alikeAt (now (text .entry)) (now (rows .entry)) x y i ⌝ }
+{
+    if plain {
+        return true;
+    }
+    alike_at(text, rows, x, y, i)
 }

@@ -1,28 +1,33 @@
 use borrow.Author.Needs.{needs}
-use mathlib.Core.Path.{sym, ap, _∙_}
+use mathlib.Core.Path.{ap, _∙_}
+use mathlib.Core.List.{List, _++_}
 use Prim.Native.Nat.{ℕ}
-use lib.ListN.{replicate}
-use Rattle.typ.proofs.ContentLaws.{none-comparable}
+use native.Mathlib.Omega.{arith}
+use lib.ListN.{drop, take-append-drop}
+use lib.Seq.{length-take-le}
+use Rattle.typ.proofs.Zero.{zero-front}
 use Rattle.typ.proofs.comparable.comparable.Statement.{statement}
 use Rattle.typ.proofs.comparable.comparable.Tie as tie
 
-comparable-impl-requires : tie.Need-comparable-impl-requires
-comparable-impl-requires c κs = (search needs, ((search needs, search needs), none-comparable _ _ _ (c .before .before .before .before .pre .1 .1)))
+sub-judge : tie.Need-sub-judge
+sub-judge c = search needs
 
-clear-requires : tie.Need-clear-requires
-clear-requires c κs = search needs
+part-judge-start : tie.Need-part-judge-start
+part-judge-start c = search needs
+
+part-judge-end : tie.Need-part-judge-end
+part-judge-end c = search needs
+
+judge-requires : tie.Need-judge-requires
+judge-requires c κs = (search needs, ((search needs, omega (arith, length-take-le 256 (c .before .before .before .before .args .met .now) (c .before .before .before .before .pre .1 .0 .1))), zero-front 256 _ (c .before .before .before .before .pre .1 .1)))
 
 same-length : tie.Need-same-length
 same-length c = search needs
 
 returns : tie.Need-returns
-returns c = (c .before .before .before .before .before .before .comparable-impl .ensures .judged, c .before .before .clear .ensures ∙ ap (λ (n : ℕ). replicate n 0) (c .before .before .before .before .before .before .comparable-impl .kept .1 .1 .0) ∙ sym (c .before .before .before .before .before .before .before .before .before .before .before .pre .1 .1))
+returns c = (c .before .before .judge .ensures .0, ap (λ (l : List ℕ). l ++ drop 256 (c .before .before .before .before .before .before .before .args .met .now)) (c .before .before .judge .ensures .1) ∙ take-append-drop 256 _)
 
 pub comparable-spec : {M : Type 1} → statement M
 comparable-spec =
     tie.close
-    (tie.spec
-    comparable-impl-requires
-    clear-requires
-    same-length
-    returns)
+    (tie.spec sub-judge part-judge-start part-judge-end judge-requires same-length returns)

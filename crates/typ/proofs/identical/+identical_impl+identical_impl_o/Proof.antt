@@ -20,9 +20,12 @@ use Rattle.typ.proofs.identical.enter.Reads as enter-reads
 use Rattle.typ.proofs.identical.less.Reads as less-reads
 use Rattle.typ.proofs.identical.several.Reads as several-reads
 use Rattle.objects.proofs.rows.kind_number.Reads as kind-number-reads
-use Rattle.typ.proofs.parts.alike_at.Reads as alike-at-reads
+use Rattle.typ.proofs.parts.alike_in.Reads as alike-in-reads
+use Rattle.typ.proofs.parts.nameless.Reads as nameless-reads
 use Rattle.typ.proofs.parts.own_number.Reads as own-number-reads
-use Rattle.typ.proofs.parts.part_at.Reads as part-at-reads
+use Rattle.typ.proofs.parts.part_in.Reads as part-in-reads
+use Rattle.objects.proofs.rows.type_word.Reads as type-word-reads
+use Rattle.objects.proofs.rows.first_member.Reads as first-member-reads
 use Rattle.typ.proofs.parts.part_count.Reads as part-count-reads
 use Rattle.typ.proofs.identical.+identical_impl+identical_impl_o.{statement}
 use Rattle.typ.proofs.identical.+identical_impl+identical_impl_o.Tie.{close}
@@ -51,13 +54,13 @@ abbrev calls : ℕ → identical-impl-lts.Claims
 calls t = (kind-number-reads.Asked, kind-number-reads.Learnt, own-number-reads.Asked, own-number-reads.Learnt, less-reads.Asked, less-reads.Learnt, several-reads.Asked, several-reads.Learnt, enter-reads.Asked, enter-reads.Learnt, identical-impl-o-below t, identical-impl-o.Post)
 
 abbrev calls-o : ℕ → identical-impl-o-lts.Claims
-calls-o t = (part-count-reads.Asked, part-count-reads.Learnt, alike-at-reads.Asked, alike-at-reads.Learnt, part-at-reads.Asked, part-at-reads.Learnt, identical-impl-below t, identical-impl.Post)
+calls-o t = (part-count-reads.Asked, part-count-reads.Learnt, nameless-reads.Asked, nameless-reads.Learnt, type-word-reads.Asked, type-word-reads.Learnt, first-member-reads.Asked, first-member-reads.Learnt, alike-in-reads.Asked, alike-in-reads.Learnt, part-in-reads.Asked, part-in-reads.Learnt, identical-impl-below t, identical-impl.Post)
 
 abbrev identical-impl-o-Inv-loop : identical-impl-o-lts.InvT-loop
-identical-impl-o-Inv-loop text rows marks₀ x y deep n i₀ marks i = (i ≤ n) × (length marks ≡ length marks₀) × Passed text rows marks₀ marks x y i
+identical-impl-o-Inv-loop text rows marks₀ x y deep n plain j k first second i₀ marks i = (i ≤ n) × (length marks ≡ length marks₀) × Passed text rows marks₀ marks x y i
 
 abbrev identical-impl-o-μ-loop : identical-impl-o-lts.MeasureT-loop
-identical-impl-o-μ-loop text rows marks₀ x y deep n i₀ marks i = n - i
+identical-impl-o-μ-loop text rows marks₀ x y deep n plain j k first second i₀ marks i = n - i
 
 identical-impl-returns : (t : ℕ) → identical-impl-lts.Need-returns (calls t) (identical-impl-at t) identical-impl.Post
 identical-impl-returns t c = went-self _ _ _ _ (c .before .before .before .before .before .before .pre .1 .1 .1) (c .if1 .taken)
@@ -128,32 +131,47 @@ identical-impl-returns-6 t c = went-parts _ _ _ _ _ _ (c .before .before .identi
 identical-impl-o-part-count-requires : (t : ℕ) → identical-impl-o-lts.Need-part-count-requires (calls-o t) (identical-impl-o-at t) identical-impl-o.Post identical-impl-o-Inv-loop identical-impl-o-μ-loop
 identical-impl-o-part-count-requires t c κs = search needs
 
-identical-impl-o-loop-holds : (t : ℕ) → identical-impl-o-lts.Need-loop-holds (calls-o t) (identical-impl-o-at t) identical-impl-o.Post identical-impl-o-Inv-loop identical-impl-o-μ-loop
-identical-impl-o-loop-holds t c = (search needs, search needs, passed-none _ _ _ _ _ (c .before .before .before .before .pre .1 .1 .1))
+identical-impl-o-nameless-requires : (t : ℕ) → identical-impl-o-lts.Need-nameless-requires (calls-o t) (identical-impl-o-at t) identical-impl-o.Post identical-impl-o-Inv-loop identical-impl-o-μ-loop
+identical-impl-o-nameless-requires t c κs = search needs
 
-identical-impl-o-alike-at-requires : (t : ℕ) → identical-impl-o-lts.Need-alike-at-requires (calls-o t) (identical-impl-o-at t) identical-impl-o.Post identical-impl-o-Inv-loop identical-impl-o-μ-loop
-identical-impl-o-alike-at-requires t c κs = (c .before .before .before .before .before .before .pre .1 .0, ((c .before .before .before .before .before .before .pre .1 .1 .0 .0), omega (arith, c .before .before .part-count .ensures, c .loop-test .taken)))
+identical-impl-o-type-word-requires : (t : ℕ) → identical-impl-o-lts.Need-type-word-requires (calls-o t) (identical-impl-o-at t) identical-impl-o.Post identical-impl-o-Inv-loop identical-impl-o-μ-loop
+identical-impl-o-type-word-requires t c κs = search needs
+
+identical-impl-o-type-word-requires-2 : (t : ℕ) → identical-impl-o-lts.Need-type-word-requires-2 (calls-o t) (identical-impl-o-at t) identical-impl-o.Post identical-impl-o-Inv-loop identical-impl-o-μ-loop
+identical-impl-o-type-word-requires-2 t c κs = search needs
+
+identical-impl-o-first-member-requires : (t : ℕ) → identical-impl-o-lts.Need-first-member-requires (calls-o t) (identical-impl-o-at t) identical-impl-o.Post identical-impl-o-Inv-loop identical-impl-o-μ-loop
+identical-impl-o-first-member-requires t c κs = search needs
+
+identical-impl-o-first-member-requires-2 : (t : ℕ) → identical-impl-o-lts.Need-first-member-requires-2 (calls-o t) (identical-impl-o-at t) identical-impl-o.Post identical-impl-o-Inv-loop identical-impl-o-μ-loop
+identical-impl-o-first-member-requires-2 t c κs = search needs
+
+identical-impl-o-loop-holds : (t : ℕ) → identical-impl-o-lts.Need-loop-holds (calls-o t) (identical-impl-o-at t) identical-impl-o.Post identical-impl-o-Inv-loop identical-impl-o-μ-loop
+identical-impl-o-loop-holds t c = (search needs, search needs, passed-none _ _ _ _ _ (c .before .before .before .before .before .before .before .before .before .pre .1 .1 .1))
+
+identical-impl-o-alike-in-requires : (t : ℕ) → identical-impl-o-lts.Need-alike-in-requires (calls-o t) (identical-impl-o-at t) identical-impl-o.Post identical-impl-o-Inv-loop identical-impl-o-μ-loop
+identical-impl-o-alike-in-requires t c κs = (c .before .before .before .before .before .before .before .before .before .before .before .pre .1 .0, ((c .before .before .before .before .before .before .before .before .before .before .before .pre .1 .1 .0 .0, omega (arith, c .before .before .before .before .before .before .before .part-count .ensures, c .loop-test .taken)), c .before .before .before .before .before .before .nameless .ensures))
 
 identical-impl-o-same-length : (t : ℕ) → identical-impl-o-lts.Need-same-length (calls-o t) (identical-impl-o-at t) identical-impl-o.Post identical-impl-o-Inv-loop identical-impl-o-μ-loop
 identical-impl-o-same-length t c = search needs
 
 identical-impl-o-returns : (t : ℕ) → identical-impl-o-lts.Need-returns (calls-o t) (identical-impl-o-at t) identical-impl-o.Post identical-impl-o-Inv-loop identical-impl-o-μ-loop
-identical-impl-o-returns t c = at-name (c .before .before .before .before .before .before .before .before .args .text .now) (c .before .before .before .before .before .before .before .before .args .rows .now) _ _ (left-in _ _ (c .before .before .before .before .before .before .before .before .pre .1 .0) _ _ (c .before .before .before .before .before .before .before .before .pre .1 .1 .0 .0)) (right-in _ _ (c .before .before .before .before .before .before .before .before .pre .1 .0) _ _ (c .before .before .before .before .before .before .before .before .pre .1 .1 .0 .0)) ((c .before .before .before .before .before .before .before .before .pre .1 .1 .0 .0) .kinds) ((c .before .before .before .before .before .before .before .before .pre .1 .1 .0 .0) .owns) _ _ (c .before .before .before .before .part-count .ensures) (c .before .before .loop-test .taken) _ _ _ (c .before .before .before .loop .inv .2) (c .before .alike-at .ensures) (c .if1 .taken)
+identical-impl-o-returns t c = at-name (c .before .before .before .before .before .before .before .before .before .before .before .before .before .args .text .now) (c .before .before .before .before .before .before .before .before .before .before .before .before .before .args .rows .now) _ _ (left-in _ _ (c .before .before .before .before .before .before .before .before .before .before .before .before .before .pre .1 .0) _ _ (c .before .before .before .before .before .before .before .before .before .before .before .before .before .pre .1 .1 .0 .0)) (right-in _ _ (c .before .before .before .before .before .before .before .before .before .before .before .before .before .pre .1 .0) _ _ (c .before .before .before .before .before .before .before .before .before .before .before .before .before .pre .1 .1 .0 .0)) ((c .before .before .before .before .before .before .before .before .before .before .before .before .before .pre .1 .1 .0 .0) .kinds) ((c .before .before .before .before .before .before .before .before .before .before .before .before .before .pre .1 .1 .0 .0) .owns) _ _ (c .before .before .before .before .before .before .before .before .before .part-count .ensures) (c .before .before .loop-test .taken) _ _ _ (c .before .before .before .loop .inv .2) (c .before .alike-in .ensures) (c .if1 .taken)
 
-identical-impl-o-part-at-requires : (t : ℕ) → identical-impl-o-lts.Need-part-at-requires (calls-o t) (identical-impl-o-at t) identical-impl-o.Post identical-impl-o-Inv-loop identical-impl-o-μ-loop
-identical-impl-o-part-at-requires t c κs = left-place _ _ (c .before .before .before .before .before .before .before .before .pre .1 .0) _ _ (c .before .before .before .before .before .before .before .before .pre .1 .1 .0 .0) _ _ (c .before .before .before .before .part-count .ensures) (c .before .before .loop-test .taken)
+identical-impl-o-part-in-requires : (t : ℕ) → identical-impl-o-lts.Need-part-in-requires (calls-o t) (identical-impl-o-at t) identical-impl-o.Post identical-impl-o-Inv-loop identical-impl-o-μ-loop
+identical-impl-o-part-in-requires t c κs = ((c .before .before .before .before .before .before .before .type-word .ensures, c .before .before .before .before .before .first-member .ensures), left-place _ _ (c .before .before .before .before .before .before .before .before .before .before .before .before .before .pre .1 .0) _ _ (c .before .before .before .before .before .before .before .before .before .before .before .before .before .pre .1 .1 .0 .0) _ _ (c .before .before .before .before .before .before .before .before .before .part-count .ensures) (c .before .before .loop-test .taken))
 
-identical-impl-o-part-at-requires-2 : (t : ℕ) → identical-impl-o-lts.Need-part-at-requires-2 (calls-o t) (identical-impl-o-at t) identical-impl-o.Post identical-impl-o-Inv-loop identical-impl-o-μ-loop
-identical-impl-o-part-at-requires-2 t c κs = right-place _ _ (c .before .before .before .before .before .before .before .before .before .pre .1 .0) _ _ (c .before .before .before .before .before .before .before .before .before .pre .1 .1 .0 .0) _ _ (c .before .before .before .before .before .part-count .ensures) (c .before .before .before .loop-test .taken)
+identical-impl-o-part-in-requires-2 : (t : ℕ) → identical-impl-o-lts.Need-part-in-requires-2 (calls-o t) (identical-impl-o-at t) identical-impl-o.Post identical-impl-o-Inv-loop identical-impl-o-μ-loop
+identical-impl-o-part-in-requires-2 t c κs = ((c .before .before .before .before .before .before .before .type-word2 .ensures, c .before .before .before .before .before .first-member2 .ensures), right-place _ _ (c .before .before .before .before .before .before .before .before .before .before .before .before .before .before .pre .1 .0) _ _ (c .before .before .before .before .before .before .before .before .before .before .before .before .before .before .pre .1 .1 .0 .0) _ _ (c .before .before .before .before .before .before .before .before .before .before .part-count .ensures) (c .before .before .before .loop-test .taken))
 
 identical-impl-o-identical-impl-requires : (t : ℕ) → identical-impl-o-lts.Need-identical-impl-requires (calls-o t) (identical-impl-o-at t) identical-impl-o.Post identical-impl-o-Inv-loop identical-impl-o-μ-loop
-identical-impl-o-identical-impl-requires t c κs = (part-falls _ _ (c .before .before .before .before .before .before .before .before .before .before .before .pre .1 .0) _ _ (c .before .before .before .before .before .before .before .before .before .before .before .pre .1 .1 .0 .0) _ _ (c .before .before .before .before .before .before .before .part-count .ensures) (c .before .before .before .before .before .loop-test .taken) _ _ _ _ (c .before .before .part-at .ensures) (c .before .before .before .before .before .before .loop .inv .2) (c .before .before .before .before .before .before .before .before .before .before .before .pre .0), (c .before .before .before .before .before .before .before .before .before .before .before .pre .1 .0, ((left-inside _ _ (c .before .before .before .before .before .before .before .before .before .before .before .pre .1 .0) _ _ (c .before .before .before .before .before .before .before .before .before .before .before .pre .1 .1 .0 .0) _ _ (c .before .before .before .before .before .before .before .part-count .ensures) (c .before .before .before .before .before .loop-test .taken) _ (c .before .before .part-at .ensures), right-inside _ _ (c .before .before .before .before .before .before .before .before .before .before .before .pre .1 .0) _ _ (c .before .before .before .before .before .before .before .before .before .before .before .pre .1 .1 .0 .0) _ _ (c .before .before .before .before .before .before .before .part-count .ensures) (c .before .before .before .before .before .loop-test .taken) _ (c .before .part-at2 .ensures), omega (arith, c .before .before .before .before .before .before .loop .inv .1, c .before .before .before .before .before .before .before .before .before .before .before .pre .1 .1 .0 .1)), c .before .before .before .before .before .before .loop .inv .2 .well)))
+identical-impl-o-identical-impl-requires t c κs = (part-falls _ _ (c .before .before .before .before .before .before .before .before .before .before .before .before .before .before .before .before .pre .1 .0) _ _ (c .before .before .before .before .before .before .before .before .before .before .before .before .before .before .before .before .pre .1 .1 .0 .0) _ _ (c .before .before .before .before .before .before .before .before .before .before .before .before .part-count .ensures) (c .before .before .before .before .before .loop-test .taken) _ _ _ _ (c .before .before .part-in .ensures) (c .before .before .before .before .before .before .loop .inv .2) (c .before .before .before .before .before .before .before .before .before .before .before .before .before .before .before .before .pre .0), (c .before .before .before .before .before .before .before .before .before .before .before .before .before .before .before .before .pre .1 .0, ((left-inside _ _ (c .before .before .before .before .before .before .before .before .before .before .before .before .before .before .before .before .pre .1 .0) _ _ (c .before .before .before .before .before .before .before .before .before .before .before .before .before .before .before .before .pre .1 .1 .0 .0) _ _ (c .before .before .before .before .before .before .before .before .before .before .before .before .part-count .ensures) (c .before .before .before .before .before .loop-test .taken) _ (c .before .before .part-in .ensures), right-inside _ _ (c .before .before .before .before .before .before .before .before .before .before .before .before .before .before .before .before .pre .1 .0) _ _ (c .before .before .before .before .before .before .before .before .before .before .before .before .before .before .before .before .pre .1 .1 .0 .0) _ _ (c .before .before .before .before .before .before .before .before .before .before .before .before .part-count .ensures) (c .before .before .before .before .before .loop-test .taken) _ (c .before .part-in2 .ensures), omega (arith, c .before .before .before .before .before .before .loop .inv .1, c .before .before .before .before .before .before .before .before .before .before .before .before .before .before .before .before .pre .1 .1 .0 .1)), c .before .before .before .before .before .before .loop .inv .2 .well)))
 
 identical-impl-o-same-length-2 : (t : ℕ) → identical-impl-o-lts.Need-same-length-2 (calls-o t) (identical-impl-o-at t) identical-impl-o.Post identical-impl-o-Inv-loop identical-impl-o-μ-loop
 identical-impl-o-same-length-2 t c = search needs
 
 identical-impl-o-returns-2 : (t : ℕ) → identical-impl-o-lts.Need-returns-2 (calls-o t) (identical-impl-o-at t) identical-impl-o.Post identical-impl-o-Inv-loop identical-impl-o-μ-loop
-identical-impl-o-returns-2 t c = at-differ (c .before .before .before .before .before .before .before .before .before .before .before .before .before .before .before .args .text .now) (c .before .before .before .before .before .before .before .before .before .before .before .before .before .before .before .args .rows .now) _ _ (left-in _ _ (c .before .before .before .before .before .before .before .before .before .before .before .before .before .before .before .pre .1 .0) _ _ (c .before .before .before .before .before .before .before .before .before .before .before .before .before .before .before .pre .1 .1 .0 .0)) (right-in _ _ (c .before .before .before .before .before .before .before .before .before .before .before .before .before .before .before .pre .1 .0) _ _ (c .before .before .before .before .before .before .before .before .before .before .before .before .before .before .before .pre .1 .1 .0 .0)) ((c .before .before .before .before .before .before .before .before .before .before .before .before .before .before .before .pre .1 .1 .0 .0) .kinds) ((c .before .before .before .before .before .before .before .before .before .before .before .before .before .before .before .pre .1 .1 .0 .0) .owns) _ _ (c .before .before .before .before .before .before .before .before .before .before .before .part-count .ensures) (c .before .before .before .before .before .before .before .before .before .loop-test .taken) _ _ _ _ _ _ (c .before .before .before .before .before .before .before .before .before .before .loop .inv .2) (c .before .before .before .before .before .before .part-at .ensures) (c .before .before .before .before .before .part-at2 .ensures) (c .before .before .before .identical-impl .ensures) (c .if2 .taken)
+identical-impl-o-returns-2 t c = at-differ (c .before .before .before .before .before .before .before .before .before .before .before .before .before .before .before .before .before .before .before .before .args .text .now) (c .before .before .before .before .before .before .before .before .before .before .before .before .before .before .before .before .before .before .before .before .args .rows .now) _ _ (left-in _ _ (c .before .before .before .before .before .before .before .before .before .before .before .before .before .before .before .before .before .before .before .before .pre .1 .0) _ _ (c .before .before .before .before .before .before .before .before .before .before .before .before .before .before .before .before .before .before .before .before .pre .1 .1 .0 .0)) (right-in _ _ (c .before .before .before .before .before .before .before .before .before .before .before .before .before .before .before .before .before .before .before .before .pre .1 .0) _ _ (c .before .before .before .before .before .before .before .before .before .before .before .before .before .before .before .before .before .before .before .before .pre .1 .1 .0 .0)) ((c .before .before .before .before .before .before .before .before .before .before .before .before .before .before .before .before .before .before .before .before .pre .1 .1 .0 .0) .kinds) ((c .before .before .before .before .before .before .before .before .before .before .before .before .before .before .before .before .before .before .before .before .pre .1 .1 .0 .0) .owns) _ _ (c .before .before .before .before .before .before .before .before .before .before .before .before .before .before .before .before .part-count .ensures) (c .before .before .before .before .before .before .before .before .before .loop-test .taken) _ _ _ _ _ _ (c .before .before .before .before .before .before .before .before .before .before .loop .inv .2) (c .before .before .before .before .before .before .part-in .ensures) (c .before .before .before .before .before .part-in2 .ensures) (c .before .before .before .identical-impl .ensures) (c .if2 .taken)
 
 identical-impl-o-add-i : (t : ℕ) → identical-impl-o-lts.Need-add-i (calls-o t) (identical-impl-o-at t) identical-impl-o.Post identical-impl-o-Inv-loop identical-impl-o-μ-loop
 identical-impl-o-add-i t c = search needs
@@ -162,13 +180,13 @@ identical-impl-o-loop-less : (t : ℕ) → identical-impl-o-lts.Need-loop-less (
 identical-impl-o-loop-less t c = search needs
 
 identical-impl-o-loop-again : (t : ℕ) → identical-impl-o-lts.Need-loop-again (calls-o t) (identical-impl-o-at t) identical-impl-o.Post identical-impl-o-Inv-loop identical-impl-o-μ-loop
-identical-impl-o-loop-again t c = (search needs, search needs, at-same (c .before .before .before .before .before .before .before .before .before .before .before .before .before .before .before .args .text .now) (c .before .before .before .before .before .before .before .before .before .before .before .before .before .before .before .args .rows .now) _ _ (left-in _ _ (c .before .before .before .before .before .before .before .before .before .before .before .before .before .before .before .pre .1 .0) _ _ (c .before .before .before .before .before .before .before .before .before .before .before .before .before .before .before .pre .1 .1 .0 .0)) (right-in _ _ (c .before .before .before .before .before .before .before .before .before .before .before .before .before .before .before .pre .1 .0) _ _ (c .before .before .before .before .before .before .before .before .before .before .before .before .before .before .before .pre .1 .1 .0 .0)) ((c .before .before .before .before .before .before .before .before .before .before .before .before .before .before .before .pre .1 .1 .0 .0) .kinds) ((c .before .before .before .before .before .before .before .before .before .before .before .before .before .before .before .pre .1 .1 .0 .0) .owns) _ _ (c .before .before .before .before .before .before .before .before .before .before .before .part-count .ensures) (c .before .before .before .before .before .before .before .before .before .loop-test .taken) _ _ _ _ _ _ (c .before .before .before .before .before .before .before .before .before .before .loop .inv .2) (c .before .before .before .before .before .before .part-at .ensures) (c .before .before .before .before .before .part-at2 .ensures) (c .before .before .before .identical-impl .ensures) _ (c .before .before .before .before .before .before .before .before .alike-at .ensures) (c .before .before .before .before .before .before .before .if1 .left) (c .if2 .left))
+identical-impl-o-loop-again t c = (search needs, search needs, at-same (c .before .before .before .before .before .before .before .before .before .before .before .before .before .before .before .before .before .before .before .before .args .text .now) (c .before .before .before .before .before .before .before .before .before .before .before .before .before .before .before .before .before .before .before .before .args .rows .now) _ _ (left-in _ _ (c .before .before .before .before .before .before .before .before .before .before .before .before .before .before .before .before .before .before .before .before .pre .1 .0) _ _ (c .before .before .before .before .before .before .before .before .before .before .before .before .before .before .before .before .before .before .before .before .pre .1 .1 .0 .0)) (right-in _ _ (c .before .before .before .before .before .before .before .before .before .before .before .before .before .before .before .before .before .before .before .before .pre .1 .0) _ _ (c .before .before .before .before .before .before .before .before .before .before .before .before .before .before .before .before .before .before .before .before .pre .1 .1 .0 .0)) ((c .before .before .before .before .before .before .before .before .before .before .before .before .before .before .before .before .before .before .before .before .pre .1 .1 .0 .0) .kinds) ((c .before .before .before .before .before .before .before .before .before .before .before .before .before .before .before .before .before .before .before .before .pre .1 .1 .0 .0) .owns) _ _ (c .before .before .before .before .before .before .before .before .before .before .before .before .before .before .before .before .part-count .ensures) (c .before .before .before .before .before .before .before .before .before .loop-test .taken) _ _ _ _ _ _ (c .before .before .before .before .before .before .before .before .before .before .loop .inv .2) (c .before .before .before .before .before .before .part-in .ensures) (c .before .before .before .before .before .part-in2 .ensures) (c .before .before .before .identical-impl .ensures) _ (c .before .before .before .before .before .before .before .before .alike-in .ensures) (c .before .before .before .before .before .before .before .if1 .left) (c .if2 .left))
 
 identical-impl-o-same-length-3 : (t : ℕ) → identical-impl-o-lts.Need-same-length-3 (calls-o t) (identical-impl-o-at t) identical-impl-o.Post identical-impl-o-Inv-loop identical-impl-o-μ-loop
 identical-impl-o-same-length-3 t c = search needs
 
 identical-impl-o-returns-3 : (t : ℕ) → identical-impl-o-lts.Need-returns-3 (calls-o t) (identical-impl-o-at t) identical-impl-o.Post identical-impl-o-Inv-loop identical-impl-o-μ-loop
-identical-impl-o-returns-3 t c = at-end (c .before .before .before .before .before .before .args .text .now) (c .before .before .before .before .before .before .args .rows .now) _ _ (left-in _ _ (c .before .before .before .before .before .before .pre .1 .0) _ _ (c .before .before .before .before .before .before .pre .1 .1 .0 .0)) (right-in _ _ (c .before .before .before .before .before .before .pre .1 .0) _ _ (c .before .before .before .before .before .before .pre .1 .1 .0 .0)) ((c .before .before .before .before .before .before .pre .1 .1 .0 .0) .kinds) ((c .before .before .before .before .before .before .pre .1 .1 .0 .0) .owns) _ _ _ _ (c .before .loop .inv .2) (c .before .before .part-count .ensures) (c .before .loop .inv .0) (c .loop-test .left)
+identical-impl-o-returns-3 t c = at-end (c .before .before .before .before .before .before .before .before .before .before .before .args .text .now) (c .before .before .before .before .before .before .before .before .before .before .before .args .rows .now) _ _ (left-in _ _ (c .before .before .before .before .before .before .before .before .before .before .before .pre .1 .0) _ _ (c .before .before .before .before .before .before .before .before .before .before .before .pre .1 .1 .0 .0)) (right-in _ _ (c .before .before .before .before .before .before .before .before .before .before .before .pre .1 .0) _ _ (c .before .before .before .before .before .before .before .before .before .before .before .pre .1 .1 .0 .0)) ((c .before .before .before .before .before .before .before .before .before .before .before .pre .1 .1 .0 .0) .kinds) ((c .before .before .before .before .before .before .before .before .before .before .before .pre .1 .1 .0 .0) .owns) _ _ _ _ (c .before .loop .inv .2) (c .before .before .before .before .before .before .before .part-count .ensures) (c .before .loop .inv .0) (c .loop-test .left)
 
 pub +identical-impl+identical-impl-o-spec : {M : Type 1} → statement M
 +identical-impl+identical-impl-o-spec =
@@ -205,12 +223,17 @@ pub +identical-impl+identical-impl-o-spec : {M : Type 1} → statement M
     identical-impl-o-Inv-loop
     identical-impl-o-μ-loop
     (identical-impl-o-part-count-requires t)
+    (identical-impl-o-nameless-requires t)
+    (identical-impl-o-type-word-requires t)
+    (identical-impl-o-type-word-requires-2 t)
+    (identical-impl-o-first-member-requires t)
+    (identical-impl-o-first-member-requires-2 t)
     (identical-impl-o-loop-holds t)
-    (identical-impl-o-alike-at-requires t)
+    (identical-impl-o-alike-in-requires t)
     (identical-impl-o-same-length t)
     (identical-impl-o-returns t)
-    (identical-impl-o-part-at-requires t)
-    (identical-impl-o-part-at-requires-2 t)
+    (identical-impl-o-part-in-requires t)
+    (identical-impl-o-part-in-requires-2 t)
     (identical-impl-o-identical-impl-requires t)
     (identical-impl-o-same-length-2 t)
     (identical-impl-o-returns-2 t)
