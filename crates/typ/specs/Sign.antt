@@ -1,0 +1,36 @@
+-- The sign of a type: a small number that identical types have in common, so that types of two signs need not be compared. It counts the kind and the own
+-- number of the type and of its first part, and the name of its first member.
+use mathlib.Core.Bool.{cond}
+use mathlib.Core.List.{[], _∷_}
+use Prim.Native.Nat.{ℕ, _+_, _*_, _%_}
+use lib.Dec.{eqb, ltb}
+use Rattle.objects.specs.declared.TypeKey.{TypeKey}
+use Rattle.objects.specs.Lists.{Bytes}
+use Rattle.objects.specs.Table.{objKey}
+use Rattle.objects.specs.Rows.{Words, memberAt}
+use Rattle.objects.specs.Types.{numberRead, namedRead, firstRead}
+use Rattle.typ.specs.Parts.{ownRead, partCount, partAt}
+
+-- so many signs there are
+abbrev pub signs : ℕ
+signs = 65_536
+
+-- one number more is counted
+unfoldable pub counted : ℕ → ℕ → ℕ
+counted s n = (s * 31 + n) % signs
+
+unfoldable pub countedAll : ℕ → Bytes → ℕ
+countedAll s [] = s
+countedAll s (b ∷ bs) = countedAll (counted s b) bs
+
+-- the kind and the own number alone
+unfoldable pub plainSign : Words → TypeKey → ℕ
+plainSign rows t = ownRead rows t % 4_096 * 16 + numberRead rows t
+
+-- A named type is identical to itself alone, and is looked for by its number: its sign says nothing.
+unfoldable pub signRead : Bytes → Words → TypeKey → ℕ
+signRead text rows t =
+    cond (namedRead rows t) 0
+    (cond (eqb (partCount rows t) 0) (plainSign rows t)
+    (cond (ltb (numberRead rows t) 8) (counted (plainSign rows t) (plainSign rows (partAt rows t 0)))
+    (countedAll (counted (plainSign rows t) (plainSign rows (partAt rows t 0))) (memberAt text rows (objKey (firstRead rows t)) .name))))
