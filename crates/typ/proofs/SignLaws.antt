@@ -3,7 +3,7 @@ use mathlib.Core.Path.{_≡_, refl, sym, ap, ap₂, _∙_}
 use mathlib.Core.Bool.{Bool, true, false}
 use mathlib.Core.List.{[], _∷_}
 use mathlib.Core.Logic.{_≢_}
-use Prim.Native.Nat.{ℕ, suc, _+_, _*_, _%_, _<_, _≤_}
+use Prim.Native.Nat.{ℕ, suc, _+_, _*_, _-_, _%_, _<_, _≤_}
 use native.Mathlib.Omega.{arith}
 use lib.Dec.{eqb, ltb}
 use lib.ListN.{length, getD, take, drop, drop-of-length-le}
@@ -23,7 +23,7 @@ use Rattle.rules.specs.Library.{Library}
 use Rattle.rules.proofs.IdentityLaws.{identical-steps}
 use Rattle.rules.proofs.StepLaws.{same-split}
 use Rattle.typ.specs.Parts.{ownRead, partCount, partAt}
-use Rattle.typ.specs.Sign.{signs, counted, countedAll, plainSign, signRead}
+use Rattle.typ.specs.Sign.{signs, counted, countedAll, plainSign, partCounted, signRead}
 use Rattle.typ.proofs.ReadLaws.{own-read, library-sound, place-small}
 use Rattle.typ.proofs.StepAt.{counts, alike-at, step-split}
 use Rattle.typ.proofs.Rank.{part-inside}
@@ -58,33 +58,45 @@ unfolding plainSign
 plain-read rows t o k = (rw (o, k), omega (arith, k, number-small rows t))
 
 -- what the code has counted when it returns
+module _ (text : Bytes) (rows : Words) (t : TypeKey) (i s : ℕ) {p : TypeKey} (ep : p ≡ partAt rows t i) {part : ℕ} (ev : (part ≡ plainSign rows p) × (part < signs))
+    {r : ℕ} (er : (r ≡ counted s part) × (r < signs)) {k : ℕ} (ek : k ≡ numberRead rows t) where
+  part-only : r ≡ counted s (plainSign rows (partAt rows t i))
+  part-only = er .0 ∙ ap (counted s) (ev .0 ∙ ap (plainSign rows) ep)
+
+  pub part-unnamed : k < 8 → (r ≡ partCounted text rows t i s) × (r < signs)
+  unfolding partCounted
+  part-unnamed l = (rw (lt-ltb (numberRead rows t) 8 (omega arith)) part-only, er .1)
+
+  pub part-member : 8 ≤ k → {m at len : ℕ} → m ≡ firstRead rows t → at ≡ memberWord rows (objKey (m + i)) 0 → len ≡ memberWord rows (objKey (m + i)) 1
+      → {name : Bytes} → name ≡ take len (drop at text) → {c : ℕ} → (c ≡ countedAll r name) × (c < signs) → (c ≡ partCounted text rows t i s) × (c < signs)
+  unfolding partCounted memberAt bytesAt
+  part-member g em ea el n ec = (rw (le-ltb (numberRead rows t) 8 (omega arith)) (ec .0 ∙ ap₂ countedAll part-only (rw (← em, ← ea, ← el) n)), ec .1)
+
 module _ (text : Bytes) (rows : Words) (t : TypeKey) {named : Bool} (en : named ≡ namedRead rows t) where
   pub sign-of-named : named ≡ true → (0 ≡ signRead text rows t) × (0 < signs)
   unfolding signRead
   sign-of-named y = (rw (sym en ∙ y), omega arith)
 
-  module _ (unnamed : named ≡ false) {own : ℕ} (eo : (own ≡ plainSign rows t) × (own < signs)) {parts : ℕ} (ep : parts ≡ partCount rows t) where
-    pub sign-of-one : parts ≡ 0 → (own ≡ signRead text rows t) × (own < signs)
+  module _ (unnamed : named ≡ false) {own : ℕ} (eo : (own ≡ plainSign rows t) × (own < signs)) {n : ℕ} (ep : n ≡ partCount rows t) where
+    pub sign-of-none : n ≡ 0 → (own ≡ signRead text rows t) × (own < signs)
     unfolding signRead
-    sign-of-one z = (rw (sym en ∙ unnamed, eq-eqb (partCount rows t) 0 (sym ep ∙ z)) (eo .0), eo .1)
+    sign-of-none z = (rw (sym en ∙ unnamed, eq-eqb (partCount rows t) 0 (sym ep ∙ z)) (eo .0), eo .1)
 
-    module _ (some : parts ≢ 0) {p : TypeKey} (eq : p ≡ partAt rows t 0) {first : ℕ} (ef : (first ≡ plainSign rows p) × (first < signs))
-        {s : ℕ} (es : (s ≡ counted own first) × (s < signs)) {k : ℕ} (ek : k ≡ numberRead rows t) where
+    module _ (some : n ≢ 0) {s : ℕ} (es : (s ≡ partCounted text rows t 0 own) × (s < signs)) where
       parted : eqb (partCount rows t) 0 ≡ false
       parted = ne-eqb (partCount rows t) 0 (λ z. some (ep ∙ z))
 
-      both : s ≡ counted (plainSign rows t) (plainSign rows (partAt rows t 0))
-      both = es .0 ∙ ap₂ counted (eo .0) (ef .0 ∙ ap (plainSign rows) eq)
+      first : s ≡ partCounted text rows t 0 (plainSign rows t)
+      first = es .0 ∙ ap (partCounted text rows t 0) (eo .0)
 
-      pub sign-of-parts : k < 8 → (s ≡ signRead text rows t) × (s < signs)
+      pub sign-of-one : n ≡ 1 → (s ≡ signRead text rows t) × (s < signs)
       unfolding signRead
-      sign-of-parts l = (rw (sym en ∙ unnamed, parted, lt-ltb (numberRead rows t) 8 (omega arith)) both, es .1)
+      sign-of-one z = (rw (sym en ∙ unnamed, parted, eq-eqb (partCount rows t) 1 (sym ep ∙ z)) first, es .1)
 
-      pub sign-of-members : 8 ≤ k → {m at len : ℕ} → m ≡ firstRead rows t → at ≡ memberWord rows (objKey m) 0 → len ≡ memberWord rows (objKey m) 1
-          → {name : Bytes} → name ≡ take len (drop at text) → {r : ℕ} → (r ≡ countedAll s name) × (r < signs) → (r ≡ signRead text rows t) × (r < signs)
-      unfolding signRead memberAt bytesAt
-      sign-of-members g em ea el n er =
-          (rw (sym en ∙ unnamed, parted, le-ltb (numberRead rows t) 8 (omega arith)) (er .0 ∙ ap₂ countedAll both (rw (← em, ← ea, ← el) n)), er .1)
+      pub sign-of-more : n ≢ 1 → {r : ℕ} → (r ≡ partCounted text rows t (n - 1) s) × (r < signs) → (r ≡ signRead text rows t) × (r < signs)
+      unfolding signRead
+      sign-of-more ne er =
+          (rw (sym en ∙ unnamed, parted, ne-eqb (partCount rows t) 1 (λ z. ne (ep ∙ z))) (er .0 ∙ ap₂ (partCounted text rows t) (ap (λ k. k - 1) ep) first), er .1)
 
 -- ---- identical types
 
@@ -112,27 +124,28 @@ module _ (text : Bytes) (rows : Words) (lib : Library text rows) (x y : TypeKey)
   count-same : partCount rows x ≡ partCount rows y
   count-same = let a = same-split (tableOf text rows) 0 x y (steps 1) in counts text rows x y hx hy (a .kinds) (a .owns)
 
-  module _ (some : partCount rows x ≢ 0) where
-    at-first : 0 < partCount rows x
-    at-first = omega arith
-
-    first-plain : plainSign rows (partAt rows x 0) ≡ plainSign rows (partAt rows y 0)
-    first-plain =
+  module _ (i : ℕ) (l : i < partCount rows x) where
+    part-plain : plainSign rows (partAt rows x i) ≡ plainSign rows (partAt rows y i)
+    part-plain =
         let a = same-split (tableOf text rows) 1 x y (steps 2) in
-        let s = step-split text rows x y hx hy (a .kinds) (a .owns) 1 (steps 2) 0 at-first .1 in
-        let p = part-inside text rows lib x hx 0 at-first in
-        let q = part-inside text rows lib y hy 0 (rw count-same at at-first) in
-        plain-same rows (partAt rows x 0) (partAt rows y 0) (number-same text rows (partAt rows x 0) (partAt rows y 0) p q 0 s) (own-same text rows (partAt rows x 0) (partAt rows y 0) p q 0 s)
+        let s = step-split text rows x y hx hy (a .kinds) (a .owns) 1 (steps 2) i l .1 in
+        let p = part-inside text rows lib x hx i l in
+        let q = part-inside text rows lib y hy i (rw count-same at l) in
+        plain-same rows (partAt rows x i) (partAt rows y i) (number-same text rows (partAt rows x i) (partAt rows y i) p q 0 s) (own-same text rows (partAt rows x i) (partAt rows y i) p q 0 s)
 
-    first-name : 8 ≤ numberRead rows x → memberAt text rows (objKey (firstRead rows x)) .name ≡ memberAt text rows (objKey (firstRead rows y)) .name
+    part-name : 8 ≤ numberRead rows x → memberAt text rows (objKey (firstRead rows x + i)) .name ≡ memberAt text rows (objKey (firstRead rows y + i)) .name
     unfolding identityOf identityFrom
-    first-name g =
+    part-name g =
         let a = same-split (tableOf text rows) 1 x y (steps 2) in
-        let s = step-split text rows x y hx hy (a .kinds) (a .owns) 1 (steps 2) 0 at-first .0 in
-        let p : firstRead rows x + 0 ≡ firstRead rows x = omega arith in
-        let q : firstRead rows y + 0 ≡ firstRead rows y = omega arith in
-        let i = alike-at text rows x y hx hy (a .kinds) (a .owns) g 0 s .0 in
-        ap (λ z. z .name) (rw (p, q) at i)
+        let s = step-split text rows x y hx hy (a .kinds) (a .owns) 1 (steps 2) i l .0 in
+        ap (λ z. z .name) (alike-at text rows x y hx hy (a .kinds) (a .owns) g i s .0)
+
+    counted-same : (s : ℕ) → partCounted text rows x i s ≡ partCounted text rows y i s
+    unfolding partCounted
+    counted-same s =
+        cases (ltb (numberRead rows x) 8)
+        (λ e. rw (← kinds, e) (ap (counted s) part-plain))
+        (λ e. rw (← kinds, e) (ap₂ countedAll (ap (counted s) part-plain) (part-name (ltb-false (numberRead rows x) 8 e))))
 
   pub sign-same : signRead text rows x ≡ signRead text rows y
   unfolding signRead namedRead
@@ -141,7 +154,9 @@ module _ (text : Bytes) (rows : Words) (lib : Library text rows) (x y : TypeKey)
       (λ e. rw (← kinds, e))
       (λ e. cases (eqb (partCount rows x) 0)
       (λ f. rw (← kinds, e, ← count-same, f) plain)
-      (λ f. let some = eqb-false (partCount rows x) 0 f in
-      cases (ltb (numberRead rows x) 8)
-      (λ g. rw (← kinds, e, ← count-same, f, g) (ap₂ counted plain (first-plain some)))
-      (λ g. rw (← kinds, e, ← count-same, f, g) (ap₂ countedAll (ap₂ counted plain (first-plain some)) (first-name some (ltb-false (numberRead rows x) 8 g))))))
+      (λ f.
+      let some = eqb-false (partCount rows x) 0 f in
+      let first = counted-same 0 (omega arith) (plainSign rows x) ∙ ap (partCounted text rows y 0) plain in
+      cases (eqb (partCount rows x) 1)
+      (λ g. rw (← kinds, e, ← count-same, f, g) first)
+      (λ g. rw (← kinds, e, ← count-same, f, g) (counted-same (partCount rows x - 1) (omega arith) (partCounted text rows x 0 (plainSign rows x)) ∙ ap (partCounted text rows y (partCount rows x - 1)) first))))

@@ -1,8 +1,8 @@
 -- The sign of a type: a small number that identical types have in common, so that types of two signs need not be compared. It counts the kind and the own
--- number of the type and of its first part, and the name of its first member.
+-- number of the type and of its first and its last part, and the names of its first and its last member.
 use mathlib.Core.Bool.{cond}
 use mathlib.Core.List.{[], _∷_}
-use Prim.Native.Nat.{ℕ, _+_, _*_, _%_}
+use Prim.Native.Nat.{ℕ, _+_, _*_, _-_, _%_}
 use lib.Dec.{eqb, ltb}
 use Rattle.objects.specs.declared.TypeKey.{TypeKey}
 use Rattle.objects.specs.Lists.{Bytes}
@@ -27,10 +27,17 @@ countedAll s (b ∷ bs) = countedAll (counted s b) bs
 unfoldable pub plainSign : Words → TypeKey → ℕ
 plainSign rows t = ownRead rows t % 4_096 * 16 + numberRead rows t
 
--- A named type is identical to itself alone, and is looked for by its number: its sign says nothing.
-unfoldable pub signRead : Bytes → Words → TypeKey → ℕ
-signRead text rows t =
-    cond (namedRead rows t) 0
-    (cond (eqb (partCount rows t) 0) (plainSign rows t)
-    (cond (ltb (numberRead rows t) 8) (counted (plainSign rows t) (plainSign rows (partAt rows t 0)))
-    (countedAll (counted (plainSign rows t) (plainSign rows (partAt rows t 0))) (memberAt text rows (objKey (firstRead rows t)) .name))))
+module _ (text : Bytes) (rows : Words) (t : TypeKey) where
+  -- part i is counted, and the name of the member whose type it is
+  unfoldable pub partCounted : ℕ → ℕ → ℕ
+  partCounted i s =
+      cond (ltb (numberRead rows t) 8) (counted s (plainSign rows (partAt rows t i)))
+      (countedAll (counted s (plainSign rows (partAt rows t i))) (memberAt text rows (objKey (firstRead rows t + i)) .name))
+
+  -- A named type is identical to itself alone, and is looked for by its number: its sign says nothing.
+  unfoldable pub signRead : ℕ
+  signRead =
+      cond (namedRead rows t) 0
+      (cond (eqb (partCount rows t) 0) (plainSign rows t)
+      (cond (eqb (partCount rows t) 1) (partCounted 0 (plainSign rows t))
+      (partCounted (partCount rows t - 1) (partCounted 0 (plainSign rows t)))))

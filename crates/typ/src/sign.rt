@@ -3,7 +3,8 @@ ghost use mathlib.Core.Path.{_≡_};
 ghost use Prim.Native.Nat.{_<_};
 ghost use Rattle.objects.specs.Rows.{typeCount};
 ghost use Rattle.rules.specs.Library.{Library};
-ghost use Rattle.typ.specs.Sign.{signs, counted, countedAll, plainSign, signRead};
+ghost use Rattle.typ.specs.Parts.{partCount};
+ghost use Rattle.typ.specs.Sign.{signs, counted, countedAll, plainSign, partCounted, signRead};
 use crate::parts::own_number;
 use crate::parts::part_at;
 use crate::parts::part_count;
@@ -46,6 +47,23 @@ fn plain_sign(rows: &[u32], t: TypeKey) -> u32
     own_number(rows, t) % 4_096 * 16 + kind_number(rows, t)
 }
 
+// Part i is counted, and the name of the member whose type it is.
+fn count_part(text: &[u8], rows: &[u32], t: TypeKey, i: u32, s: u32) -> u32
+    requires { ⌜ Library (now text) (now rows) ⌝ }
+    requires { ⌜ (t .0 < typeCount (now rows)) × (i < partCount (now rows) t) × (s < signs) ⌝ }
+    ensures { λ r. ⌜ (r ≡ partCounted (now (text .entry)) (now (rows .entry)) t i s) × (r < signs) ⌝ }
+{
+    let part = plain_sign(rows, part_at(rows, t, i));
+    let r = count(s, part);
+    if kind_number(rows, t) < 8 {
+        return r;
+    }
+    let m = ObjKey(first_member(rows, t) + i);
+    let at = member_word(rows, m, 0);
+    let len = member_word(rows, m, 1);
+    count_name(span(text, at as usize, len as usize), r)
+}
+
 // The type's sign.
 pub fn sign(text: &[u8], rows: &[u32], t: TypeKey) -> u32
     requires { ⌜ Library (now text) (now rows) ⌝ }
@@ -56,16 +74,13 @@ pub fn sign(text: &[u8], rows: &[u32], t: TypeKey) -> u32
         return 0;
     }
     let own = plain_sign(rows, t);
-    if part_count(rows, t) == 0 {
+    let n = part_count(rows, t);
+    if n == 0 {
         return own;
     }
-    let first = plain_sign(rows, part_at(rows, t, 0));
-    let s = count(own, first);
-    if kind_number(rows, t) < 8 {
-        return s;
+    let first = count_part(text, rows, t, 0, own);
+    if n == 1 {
+        return first;
     }
-    let m = ObjKey(first_member(rows, t));
-    let at = member_word(rows, m, 0);
-    let len = member_word(rows, m, 1);
-    count_name(span(text, at as usize, len as usize), s)
+    count_part(text, rows, t, n - 1, first)
 }
