@@ -26,7 +26,8 @@ pub record Rowed (types : ℕ) (ws : Words) (n : ℕ) : Type 0 where
   pub told : (j : ℕ) → j < n → indexOf ws (typ (rowOf ws j)) ≡ suc j
   pub only : (t : TypeKey) (j : ℕ) → t .0 < types → indexOf ws t ≡ suc j → (j < n) × (typ (rowOf ws j) ≡ t)
 
--- The level below the first `before` rows is made: of the rows from there on no two types are identical, and each has its type's sign.
+-- The level below the first `before` rows is made: of the rows from there on no two types are identical, and each row has the sign of its
+-- type.
 pub record Searching (text : Bytes) (rows : Words) (ws : Words) (before n : ℕ) : Type 0 where
   pub rowed : Rowed (typeCount rows) ws n
   pub order : before ≤ n

@@ -22,7 +22,7 @@ pub const ROW: usize = 6;
 
 const INDEX_AT: usize = 1_536;
 
-// what the upper half of a word counts
+// what a unit of the upper half of a word counts for
 const SIGNS: u32 = 65_536;
 
 // The number of the type's row and one, 0 for none.

@@ -1,4 +1,4 @@
--- Identical types have one sign.
+-- How a sign is made of a type's parts, and that identical types have one sign.
 use mathlib.Core.Path.{_≡_, refl, sym, ap, ap₂, _∙_}
 use mathlib.Core.Bool.{Bool, true, false}
 use mathlib.Core.List.{[], _∷_}

@@ -11,11 +11,11 @@ use Rattle.objects.specs.Rows.{Words, memberAt}
 use Rattle.objects.specs.Types.{numberRead, namedRead, firstRead}
 use Rattle.typ.specs.Parts.{ownRead, partCount, partAt}
 
--- so many signs there are
+-- how many signs there may be: two of them fill a word
 abbrev pub signs : ℕ
 signs = 65_536
 
--- one number more is counted
+-- a sign in which one number more is counted; numbers that are counted in another order give another sign, as a rule
 unfoldable pub counted : ℕ → ℕ → ℕ
 counted s n = (s * 31 + n) % signs
 
@@ -23,7 +23,7 @@ unfoldable pub countedAll : ℕ → Bytes → ℕ
 countedAll s [] = s
 countedAll s (b ∷ bs) = countedAll (counted s b) bs
 
--- the kind and the own number alone
+-- the own number and the kind, which is below 16
 unfoldable pub plainSign : Words → TypeKey → ℕ
 plainSign rows t = ownRead rows t % 4_096 * 16 + numberRead rows t
 

@@ -16,6 +16,7 @@ use objects::rows::member_word;
 use objects::rows::named_at;
 use text::compare::span;
 
+// how many signs there may be
 const SIGNS: u32 = 65_536;
 
 // One number more is counted.
@@ -40,7 +41,7 @@ fn count_name(name: &[u8], s: u32) -> u32
     r
 }
 
-// The kind and the own number alone.
+// The own number and the kind alone.
 fn plain_sign(rows: &[u32], t: TypeKey) -> u32
     ensures { λ r. ⌜ (r ≡ plainSign (now (rows .entry)) t) × (r < signs) ⌝ }
 {
@@ -64,7 +65,7 @@ fn count_part(text: &[u8], rows: &[u32], t: TypeKey, i: u32, s: u32) -> u32
     count_name(span(text, at as usize, len as usize), r)
 }
 
-// The type's sign.
+// The type's sign. The first and the last part are counted and no others, so that a type of many members takes no longer.
 pub fn sign(text: &[u8], rows: &[u32], t: TypeKey) -> u32
     requires { ⌜ Library (now text) (now rows) ⌝ }
     requires { ⌜ t .0 < typeCount (now rows) ⌝ }
