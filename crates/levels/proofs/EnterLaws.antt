@@ -17,6 +17,7 @@ use Rattle.objects.specs.Table.{sameType}
 use Rattle.objects.specs.Rows.{Words, wordAt, typeCount, tableOf}
 use Rattle.objects.specs.Types.{namedRead}
 use Rattle.objects.proofs.KeyLaws.{key-eq, same-self}
+use Rattle.objects.proofs.BoolLaws.{false-of}
 use Rattle.objects.proofs.RowLaws.{number-read}
 use Rattle.rules.specs.Sound.{Sound}
 use Rattle.rules.specs.Identity.{identical}
@@ -30,7 +31,9 @@ use Rattle.ways.proofs.Room.{appended}
 use Rattle.ways.proofs.TableLaws.{own, lawful}
 use Rattle.multiples.specs.declared.EmbeddedType.{EmbeddedType}
 use Rattle.multiples.specs.Records.{recordWords, recOf}
-use Rattle.levels.specs.Words.{rowMeant, rowOf, indexOf, rowPut, rowsOf, levelOf}
+use Rattle.typ.specs.Sign.{signRead}
+use Rattle.typ.proofs.SignLaws.{sign-same}
+use Rattle.levels.specs.Words.{NextSigned, rowMeant, rowOf, indexOf, signAt, rowPut, rowsOf, levelOf}
 use Rattle.levels.specs.State.{Rowed, Searching, Enters, Twin}
 use Rattle.levels.proofs.RangeLaws.{range-none, range-some, range-same, range-map-more}
 use Rattle.levels.proofs.WordLaws.{markedRow, mark-other, mark-here, row-typ}
@@ -184,34 +187,34 @@ module _ (text : Bytes) (rows ws : Words) (before n : ℕ) (lib : Library text r
     new-few = let r = room (typeCount rows) ws n (h .rowed) (e .typ) typed new in let w = library-few lib in omega arith
 
     -- none has
-    module _ (back : e .parent < before) {j : ℕ} (t : Twin (tableOf text rows) ws before n (e .typ) j) (end : n ≤ j) where
+    module _ (back : e .parent < before) {s : ℕ} (es : s ≡ signRead text rows (e .typ)) {j : ℕ} (t : Twin (tableOf text rows) ws before n (e .typ) j) (end : n ≤ j) where
       put-back : e .parent ≤ n
       put-back = let o = h .order in omega arith
 
       none-level : (i : ℕ) → before ≤ i → i < n → identical (tableOf text rows) (typ (rowOf ws i)) (e .typ) ≡ false
       none-level i a b = t .none i a (omega arith)
 
-      put-level : levelOf (rowPut ws n e key) before (n + 1) ≡ levelOf ws before n ++ (rowMeant e key ∷ [])
+      put-level : levelOf (rowPut ws n e key s) before (n + 1) ≡ levelOf ws before n ++ (rowMeant e key ∷ [])
       unfolding levelOf
       put-level =
           let o = h .order in
           let z : n + 1 - before ≡ (n - before) + 1 = omega arith in
           let y : before + (n - before) ≡ n = omega arith in
           let W = library-few lib in
-          rw (z, range-map-more (rowOf (rowPut ws n e key)) before (n - before), y, new-row (typeCount rows) W ws n (h .rowed) e key typed put-back new)
-          (ap (λ l. l ++ (rowMeant e key ∷ [])) (range-same (rowOf (rowPut ws n e key)) (rowOf ws) before (n - before) (λ i a b. old (typeCount rows) W ws n (h .rowed) e key typed put-back new i (omega arith))))
+          rw (z, range-map-more (rowOf (rowPut ws n e key s)) before (n - before), y, new-row (typeCount rows) W ws n (h .rowed) e key s typed put-back new)
+          (ap (λ l. l ++ (rowMeant e key ∷ [])) (range-same (rowOf (rowPut ws n e key s)) (rowOf ws) before (n - before) (λ i a b. old (typeCount rows) W ws n (h .rowed) e key s typed put-back new i (omega arith))))
 
       level-none : any (λ r. identical (tableOf text rows) (typ r) (typ (rowMeant e key))) (levelOf ws before n) ≡ false
       unfolding levelOf rowMeant
       level-none = let o = h .order in range-none (rowOf ws) (λ r. identical (tableOf text rows) (typ r) (e .typ)) before (n - before) (λ i a b. none-level i a (omega arith))
 
-      pub enters-new : Enters text rows ws before n (rowMeant e key ∷ []) (rowPut ws n e key) (n + 1)
+      pub enters-new : Enters text rows ws before n (rowMeant e key ∷ []) (rowPut ws n e key s) (n + 1)
       enters-new =
           let o = h .order in
           let z : n + 1 ≡ suc n = omega arith in
           record {
-            state = rw z (searching-put text rows ws before n (library-few lib) h e key typed put-back new none-level);
-            done = rows-kept ws (rowPut ws n e key) before (λ i l. old (typeCount rows) (library-few lib) ws n (h .rowed) e key typed put-back new i (omega arith));
+            state = rw z (searching-put text rows ws before n (library-few lib) h e key s es typed put-back new none-level);
+            done = rows-kept ws (rowPut ws n e key s) before (λ i l. old (typeCount rows) (library-few lib) ws n (h .rowed) e key s typed put-back new i (omega arith));
             level = put-level ∙ sym (appended (graph (tableOf text rows)) (lawful (tableOf text rows) (library-sound lib)) (levelOf ws before n) (rowMeant e key) level-none)
                 ∙ sym (entered-unmet (graph (tableOf text rows)) (rowsOf ws before) (levelOf ws before n) (rowMeant e key) (unmet ws before (rowMeant e key) none-new));
           }
@@ -233,6 +236,9 @@ module _ (text : Bytes) (rows ws : Words) (before n : ℕ) (lib : Library text r
     here = λ l. absurd (omega arith);
   }
 
+pub level-few : {text : Bytes} {rows ws : Words} {before n : ℕ} → Library text rows → Searching text rows ws before n → n ≤ maxTypes
+level-few {text} {rows} {ws} {before} {n} lib h = let r = rows-few (typeCount rows) ws n (h .rowed) in let w = library-few lib in omega arith
+
 -- the type of a row that was loaded
 pub row-typed : (types : ℕ) (ws : Words) (n j : ℕ) → Rowed types ws n → {e : EmbeddedType} → e ≡ recOf ws (searchRow * j) → j < n → e .typ .0 < types
 row-typed types ws n j h read l = rw (read, ← row-typ ws j) (h .typed j l)
@@ -242,18 +248,36 @@ abbrev pub Others : Bytes → Words → Words → ℕ → ℕ → TypeKey → �
 Others text rows ws before n t j = (before ≤ j) × (j ≤ n) × ((i : ℕ) → before ≤ i → i < j → identical (tableOf text rows) (typ (rowOf ws i)) t ≡ false)
 
 module _ (text : Bytes) (rows ws : Words) (before n : ℕ) (t : TypeKey) where
-  pub others-start : before ≤ n → Others text rows ws before n t before
-  others-start o = (omega arith, o, λ i a b. absurd (omega arith))
-
   module _ (j : ℕ) (o : Others text rows ws before n t j) (l : j < n) {e : EmbeddedType} (read : e ≡ recOf ws (searchRow * j)) {b : Bool} (says : b ≡ identical (tableOf text rows) (e .typ) t) where
     says-row : b ≡ identical (tableOf text rows) (typ (rowOf ws j)) t
     says-row = says ∙ ap (λ x. identical (tableOf text rows) (x .typ) t) read ∙ ap (λ x. identical (tableOf text rows) x t) (sym (row-typ ws j))
 
-    pub others-on : b ≡ false → Others text rows ws before n t (j + 1)
-    others-on f = let a = o .0 in (omega arith, omega arith, λ i p q. elim (decLt i j) [ yes z ↦ o .2 i p z | no z ↦ let w : i ≡ j = omega arith in rw w (sym says-row ∙ f) ])
+    others-next : b ≡ false → Others text rows ws before n t (j + 1)
+    others-next f = let a = o .0 in (omega arith, omega arith, λ i p q. elim (decLt i j) [ yes z ↦ o .2 i p z | no z ↦ let w : i ≡ j = omega arith in rw w (sym says-row ∙ f) ])
 
     pub twin-found : b ≡ true → Twin (tableOf text rows) ws before n t j
     twin-found y = let a = o .0 in record { order = (a, omega arith); none = o .2; here = λ z. sym says-row ∙ y }
 
   pub twin-none : (j : ℕ) → Others text rows ws before n t j → n ≤ j → Twin (tableOf text rows) ws before n t n
   twin-none j o end = let a = o .0 in let b = o .1 in record { order = (omega arith, omega arith); none = λ i p q. o .2 i p (omega arith); here = λ z. absurd (omega arith) }
+
+-- rows of other signs are passed over
+module _ (text : Bytes) (rows ws : Words) (before n : ℕ) (lib : Library text rows) (h : Searching text rows ws before n) (t : TypeKey) (typed : t .0 < typeCount rows) {s : ℕ} (es : s ≡ signRead text rows t) where
+  signs-differ : (i : ℕ) → before ≤ i → i < n → signAt ws i ≢ s → identical (tableOf text rows) (typ (rowOf ws i)) t ≡ false
+  signs-differ i a b ne =
+      false-of (identical (tableOf text rows) (typ (rowOf ws i)) t)
+      (λ e. ne (h .signed i a b ∙ sign-same text rows lib (typ (rowOf ws i)) t (h .rowed .typed i b) typed e ∙ sym es))
+
+  others-past : (j k : ℕ) → Others text rows ws before n t j → NextSigned ws j n s k → Others text rows ws before n t k
+  others-past j k o p =
+      let a = o .0 in
+      let b = p .order .0 in
+      let c = p .order .1 in
+      (omega arith, c, λ i q r. elim (decLt i j) [ yes z ↦ o .2 i q z | no z ↦ signs-differ i q (omega arith) (p .none i (omega arith) r) ])
+
+  pub others-start : {j : ℕ} → NextSigned ws before n s j → Others text rows ws before n t j
+  others-start {j} p = let o = h .order in others-past before j (omega arith, o, λ i a b. absurd (omega arith)) p
+
+  pub others-on : (j : ℕ) → Others text rows ws before n t j → j < n → {e : EmbeddedType} → e ≡ recOf ws (searchRow * j) → {b : Bool} → b ≡ identical (tableOf text rows) (e .typ) t → b ≡ false
+      → {k : ℕ} → NextSigned ws (j + 1) n s k → Others text rows ws before n t k
+  others-on j o l read says f {k} p = others-past (j + 1) k (others-next text rows ws before n t j o l read says f) p

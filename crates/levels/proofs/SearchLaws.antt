@@ -183,7 +183,7 @@ module _ (text : Bytes) (rows : Words) (q : Identity) (t : TypeKey) (f a : Bool)
       going-on =
           let s : d + 1 ≡ suc d = omega arith in
           record {
-            state = record { rowed = b .state .rowed; order = omega arith; apart = λ i j p c e. absurd (omega arith) };
+            state = record { rowed = b .state .rowed; order = omega arith; apart = λ i j p c e. absurd (omega arith); signed = λ j p c. absurd (omega arith) };
             order = b .state .order;
             types = λ i p l. rw (s, row-at after end i l);
             left = opened

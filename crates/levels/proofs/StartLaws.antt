@@ -2,7 +2,7 @@
 use mathlib.Core.Path.{_≡_, ap, _∙_}
 use mathlib.Core.Bool.{Bool, false}
 use mathlib.Core.List.{[], _∷_}
-use Prim.Native.Nat.{ℕ, _+_, _≤_, _<_}
+use Prim.Native.Nat.{ℕ, _+_, _%_, _≤_, _<_}
 use native.Mathlib.Omega.{arith}
 use lib.Dec.{eqb}
 use lib.ListN.{length, set}
@@ -16,6 +16,7 @@ use Rattle.objects.proofs.ListLaws.{cases}
 use Rattle.objects.proofs.Stores.{word-put, word-kept}
 use Rattle.ways.specs.Search.{rootRow}
 use Rattle.multiples.specs.declared.EmbeddedType.{EmbeddedType}
+use Rattle.typ.specs.Sign.{signs}
 use Rattle.levels.specs.Words.{Unindexed, indexAt, indexOf, rowMeant, rowPut, rowsOf}
 use Rattle.levels.specs.State.{Rowed, Searching}
 use Rattle.levels.proofs.StateLaws.{rowed-put, new-row}
@@ -28,8 +29,8 @@ pub cleared-more : (ws : Words) (i : ℕ) → indexAt + i < length ws → Cleare
 unfolding indexOf
 cleared-more ws i l h t b =
     cases (eqb (t .0) i)
-    (λ e. rw (eqb-true (t .0) i e) (word-put ws (indexAt + i) 0 l))
-    (λ e. let ne = eqb-false (t .0) i e in word-kept ws (indexAt + i) 0 (indexAt + t .0) (λ q. omega arith) ∙ h t (omega arith))
+    (λ e. rw (eqb-true (t .0) i e, word-put ws (indexAt + i) 0 l))
+    (λ e. let ne = eqb-false (t .0) i e in ap (λ w. w % signs) (word-kept ws (indexAt + i) 0 (indexAt + t .0) (λ q. omega arith)) ∙ h t (omega arith))
 
 module _ (types : ℕ) (few : types ≤ maxTypes) (ws : Words) (long : searchWords ≤ length ws) (clear : Unindexed ws) where
   rowed-none : Rowed types ws 0
@@ -46,17 +47,18 @@ module _ (types : ℕ) (few : types ≤ maxTypes) (ws : Words) (long : searchWor
 abbrev pub root : TypeKey → Bool → EmbeddedType
 root t f = record { typ = t; parent = 0; place = 0; indirect = f; multiples = false }
 
-module _ (text : Bytes) (rows ws : Words) (t : TypeKey) (f : Bool) (long : searchWords ≤ length ws) (typed : t .0 < typeCount rows) (few : typeCount rows ≤ maxTypes) (clear : Unindexed ws) {after : Words} (put : after ≡ rowPut ws 0 (root t f) (objKey 0)) where
+module _ (text : Bytes) (rows ws : Words) (t : TypeKey) (f : Bool) (long : searchWords ≤ length ws) (typed : t .0 < typeCount rows) (few : typeCount rows ≤ maxTypes) (clear : Unindexed ws) {after : Words} (put : after ≡ rowPut ws 0 (root t f) (objKey 0) 0) where
   none : Rowed (typeCount rows) ws 0
   none = rowed-none (typeCount rows) few ws long clear
 
   pub root-searching : Searching text rows after 1 1
   root-searching = rw put record {
-    rowed = rowed-put (typeCount rows) few ws 0 none (root t f) (objKey 0) typed (omega arith) (clear t (omega arith));
+    rowed = rowed-put (typeCount rows) few ws 0 none (root t f) (objKey 0) 0 typed (omega arith) (clear t (omega arith));
     order = omega arith;
     apart = λ i j a b c. absurd (omega arith);
+    signed = λ j a b. absurd (omega arith);
   }
 
   pub root-row : rowsOf after 1 ≡ rootRow t f ∷ []
   unfolding rowsOf rowMeant
-  root-row = rw put (ap (λ r. r ∷ []) (new-row (typeCount rows) few ws 0 none (root t f) (objKey 0) typed (omega arith) (clear t (omega arith))))
+  root-row = rw put (ap (λ r. r ∷ []) (new-row (typeCount rows) few ws 0 none (root t f) (objKey 0) 0 typed (omega arith) (clear t (omega arith))))

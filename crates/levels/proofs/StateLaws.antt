@@ -2,7 +2,7 @@
 use mathlib.Core.Path.{_≡_, refl, sym, ap, _∙_}
 use mathlib.Core.Bool.{false}
 use mathlib.Core.List.{_∷_, map}
-use mathlib.Core.Logic.{inl, _≢_}
+use mathlib.Core.Logic.{_≢_}
 use Prim.Native.Nat.{ℕ, zero, suc, _+_, _*_, _-_, _≤_, _<_}
 use native.Mathlib.Omega.{arith}
 use native.Mathlib.Decide.{decLt}
@@ -21,10 +21,11 @@ use Rattle.objects.proofs.KeyLaws.{key-eq, same-key}
 use Rattle.rules.specs.Identity.{identical}
 use Rattle.ways.specs.Search.{typ, range}
 use Rattle.multiples.specs.declared.EmbeddedType.{EmbeddedType}
+use Rattle.typ.specs.Sign.{signRead}
 use Rattle.levels.specs.Words.{rowMeant, rowOf, indexOf, rowPut}
 use Rattle.levels.specs.State.{Rowed, Searching}
 use Rattle.levels.proofs.RangeLaws.{range-length, range-In}
-use Rattle.levels.proofs.WordLaws.{mark-kept, mark-other, mark-here, mark-index, put-length, put-index, put-index-other, put-kept, put-other, put-here, put-marked}
+use Rattle.levels.proofs.WordLaws.{mark-kept, mark-other, mark-here, mark-index, mark-sign, put-length, put-index, put-index-other, put-sign, put-sign-other, put-kept, put-other, put-here, put-marked}
 
 -- ---- the room
 
@@ -113,13 +114,14 @@ searching-mark text rows ws before n j few h l = record {
   rowed = rowed-mark (typeCount rows) few ws n (h .rowed) j l;
   order = h .order;
   apart = λ a b p q r. rw (mark-typ (typeCount rows) few ws n (h .rowed) j l a, mark-typ (typeCount rows) few ws n (h .rowed) j l b) (h .apart a b p q r);
+  signed = λ i p q. rw (mark-sign ws j (let r = rows-few (typeCount rows) ws n (h .rowed) in omega arith) i, mark-typ (typeCount rows) few ws n (h .rowed) j l i) (h .signed i p q);
 }
 
 -- ---- a row more
 
-module _ (types : ℕ) (few : types ≤ maxTypes) (ws : Words) (n : ℕ) (h : Rowed types ws n) (e : EmbeddedType) (key : ObjKey) (typed : e .typ .0 < types) (back : e .parent ≤ n) (new : indexOf ws (e .typ) ≡ 0) where
+module _ (types : ℕ) (few : types ≤ maxTypes) (ws : Words) (n : ℕ) (h : Rowed types ws n) (e : EmbeddedType) (key : ObjKey) (s : ℕ) (typed : e .typ .0 < types) (back : e .parent ≤ n) (new : indexOf ws (e .typ) ≡ 0) where
   abbrev put : Words
-  put = rowPut ws n e key
+  put = rowPut ws n e key s
 
   space : n < types
   space = room types ws n h (e .typ) typed new
@@ -134,10 +136,10 @@ module _ (types : ℕ) (few : types ≤ maxTypes) (ws : Words) (n : ℕ) (h : Ro
   small = omega arith
 
   pub old : (i : ℕ) → i < n → rowOf put i ≡ rowOf ws i
-  old i l = put-other ws n e key long few-rows small i l
+  old i l = put-other ws n e key s long few-rows small i l
 
   pub new-row : rowOf put n ≡ rowMeant e key
-  new-row = put-here ws n e key long few-rows small
+  new-row = put-here ws n e key s long few-rows small
 
   pub new-typ : typ (rowOf put n) ≡ e .typ
   unfolding rowMeant
@@ -153,40 +155,49 @@ module _ (types : ℕ) (few : types ≤ maxTypes) (ws : Words) (n : ℕ) (h : Ro
 
   pub rowed-put : Rowed types put (suc n)
   rowed-put = record {
-    long = rw (put-length ws n e key long few-rows small) long;
+    long = rw (put-length ws n e key s long few-rows small) long;
     typed = each (λ i. typ (rowOf put i) .0 < types) (λ i l. rw (old i l) (h .typed i l)) (rw new-typ typed);
     marked = each (λ i. wordAt put (searchRow * i + 3) ≤ 1)
-        (λ i l. rw (put-kept ws n e key long few-rows small (searchRow * i + 3) (inl (omega arith)) (λ q. let r = few-rows in omega arith)) (h .marked i l))
-        (put-marked ws n e key long few-rows small);
+        (λ i l. rw (put-kept ws n e key s long few-rows small (searchRow * i + 3) (omega arith)) (h .marked i l))
+        (put-marked ws n e key s long few-rows small);
     back = each (λ i. rowOf put i .parent ≤ i) (λ i l. rw (old i l) (h .back i l)) (rw new-parent back);
     told = each (λ i. indexOf put (typ (rowOf put i)) ≡ suc i)
-        (λ i l. rw (old i l, put-index-other ws n e key long few-rows small (typ (rowOf ws i)) (no-row types ws n h (e .typ) new i l)) (h .told i l))
-        (rw new-typ (put-index ws n e key long few-rows small));
+        (λ i l. rw (old i l, put-index-other ws n e key s long few-rows small (typ (rowOf ws i)) (no-row types ws n h (e .typ) new i l)) (h .told i l))
+        (rw new-typ (put-index ws n e key s long few-rows small));
     only = λ t i l q.
         cases (sameType t (e .typ))
         (λ b.
-        let s = same-key t (e .typ) b in
-        let k : indexOf put t ≡ suc n = ap (indexOf put) s ∙ put-index ws n e key long few-rows small in
+        let same = same-key t (e .typ) b in
+        let k : indexOf put t ≡ suc n = ap (indexOf put) same ∙ put-index ws n e key s long few-rows small in
         let z : i ≡ n = omega arith in
-        (omega arith, rw z (new-typ ∙ sym s)))
+        (omega arith, rw z (new-typ ∙ sym same)))
         (λ b.
-        let r = h .only t i l (sym (put-index-other ws n e key long few-rows small t (eqb-false (t .0) (e .typ .0) b)) ∙ q) in
+        let r = h .only t i l (sym (put-index-other ws n e key s long few-rows small t (eqb-false (t .0) (e .typ .0) b)) ∙ q) in
         let c = r .0 in
         (omega arith, ap typ (old i c) ∙ r .1));
   }
 
-pub searching-put : (text : Bytes) (rows ws : Words) (before n : ℕ) (few : typeCount rows ≤ maxTypes) → Searching text rows ws before n → (e : EmbeddedType) (key : ObjKey) → e .typ .0 < typeCount rows → e .parent ≤ n → indexOf ws (e .typ) ≡ 0
+pub searching-put : (text : Bytes) (rows ws : Words) (before n : ℕ) (few : typeCount rows ≤ maxTypes) → Searching text rows ws before n → (e : EmbeddedType) (key : ObjKey) (s : ℕ) → s ≡ signRead text rows (e .typ) → e .typ .0 < typeCount rows → e .parent ≤ n → indexOf ws (e .typ) ≡ 0
     → ((i : ℕ) → before ≤ i → i < n → identical (tableOf text rows) (typ (rowOf ws i)) (e .typ) ≡ false)
-    → Searching text rows (rowPut ws n e key) before (suc n)
-searching-put text rows ws before n few h e key typed back new none =
+    → Searching text rows (rowPut ws n e key s) before (suc n)
+searching-put text rows ws before n few h e key s es typed back new none =
     let o = h .order in
     record {
-      rowed = rowed-put (typeCount rows) few ws n (h .rowed) e key typed back new;
+      rowed = rowed-put (typeCount rows) few ws n (h .rowed) e key s typed back new;
       order = omega arith;
       apart = λ a b p q r. elim (decLt b n) [
-        | yes l ↦ rw (old (typeCount rows) few ws n (h .rowed) e key typed back new a (omega arith), old (typeCount rows) few ws n (h .rowed) e key typed back new b l) (h .apart a b p q l)
+        | yes l ↦ rw (old (typeCount rows) few ws n (h .rowed) e key s typed back new a (omega arith), old (typeCount rows) few ws n (h .rowed) e key s typed back new b l) (h .apart a b p q l)
         | no l ↦
             let z : b ≡ n = omega arith in
-            rw (z, old (typeCount rows) few ws n (h .rowed) e key typed back new a (omega arith), new-typ (typeCount rows) few ws n (h .rowed) e key typed back new) (none a p (omega arith))
+            rw (z, old (typeCount rows) few ws n (h .rowed) e key s typed back new a (omega arith), new-typ (typeCount rows) few ws n (h .rowed) e key s typed back new) (none a p (omega arith))
+      ];
+      signed = λ i p q. elim (decLt i n) [
+        | yes l ↦
+            rw (put-sign-other ws n e key s (h .rowed .long) (few-rows (typeCount rows) few ws n (h .rowed) e key s typed back new) (small (typeCount rows) few ws n (h .rowed) e key s typed back new) i (λ z. omega arith), old (typeCount rows) few ws n (h .rowed) e key s typed back new i l)
+            (h .signed i p l)
+        | no l ↦
+            let z : i ≡ n = omega arith in
+            rw (z, put-sign ws n e key s (h .rowed .long) (few-rows (typeCount rows) few ws n (h .rowed) e key s typed back new) (small (typeCount rows) few ws n (h .rowed) e key s typed back new), new-typ (typeCount rows) few ws n (h .rowed) e key s typed back new)
+            es
       ];
     }

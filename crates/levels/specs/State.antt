@@ -14,7 +14,8 @@ use Rattle.rules.specs.Identity.{identical}
 use Rattle.rules.specs.Ways.{Place}
 use Rattle.ways.specs.Search.{Row, typ, enterAll}
 use Rattle.ways.specs.OfTable.{graph, stepOf}
-use Rattle.levels.specs.Words.{indexOf, rowOf, rowsOf, levelOf}
+use Rattle.typ.specs.Sign.{signRead}
+use Rattle.levels.specs.Words.{indexOf, signAt, rowOf, rowsOf, levelOf}
 
 -- The first n rows: of types among so many, each reached from a row no later than itself, and the words of the types tell exactly them.
 pub record Rowed (types : ℕ) (ws : Words) (n : ℕ) : Type 0 where
@@ -25,11 +26,13 @@ pub record Rowed (types : ℕ) (ws : Words) (n : ℕ) : Type 0 where
   pub told : (j : ℕ) → j < n → indexOf ws (typ (rowOf ws j)) ≡ suc j
   pub only : (t : TypeKey) (j : ℕ) → t .0 < types → indexOf ws t ≡ suc j → (j < n) × (typ (rowOf ws j) ≡ t)
 
--- The level below the first `before` rows is made: of the rows from there on no two types are identical.
+-- The level below the first `before` rows is made: of the rows from there on no two types are identical, and each row has the sign of its
+-- type.
 pub record Searching (text : Bytes) (rows : Words) (ws : Words) (before n : ℕ) : Type 0 where
   pub rowed : Rowed (typeCount rows) ws n
   pub order : before ≤ n
   pub apart : (i j : ℕ) → before ≤ i → i < j → j < n → identical (tableOf text rows) (typ (rowOf ws i)) (typ (rowOf ws j)) ≡ false
+  pub signed : (j : ℕ) → before ≤ j → j < n → signAt ws j ≡ signRead text rows (typ (rowOf ws j))
 
 -- The rows X were entered into the level: one after the other, as the model does it.
 pub record Enters (text : Bytes) (rows : Words) (ws : Words) (before n : ℕ) (X : List Row) (after : Words) (end : ℕ) : Type 0 where

@@ -1,19 +1,22 @@
--- The words that a search keeps its rows in: a row of six words for each type that was reached, then a word for each type that says which row it has.
+-- The words that a search keeps its rows in: a row of six words for each type that was reached, then as many words as there may be types. Word k of these has
+-- two halves: the lower says which row type k has, the upper is the sign of row k's type.
 use mathlib.Core.Path.{_≡_}
 use mathlib.Core.List.{List, map}
-use Prim.Native.Nat.{ℕ, _+_, _*_, _-_, _<_}
+use mathlib.Core.Logic.{_≢_}
+use Prim.Native.Nat.{ℕ, _+_, _*_, _-_, _/_, _%_, _≤_, _<_}
 use lib.ListN.{set}
 use lib.Seq.{sets}
 use Rattle.objects.specs.Bounds.{maxTypes, searchRow}
 use Rattle.objects.specs.declared.ObjKey.{ObjKey}
 use Rattle.objects.specs.declared.TypeKey.{TypeKey}
-use Rattle.objects.specs.Table.{objKey}
+use Rattle.objects.specs.Table.{typeKey, objKey}
 use Rattle.objects.specs.Rows.{Words, wordAt}
 use Rattle.ways.specs.Search.{Row, range}
 use Rattle.multiples.specs.declared.EmbeddedType.{EmbeddedType}
 use Rattle.multiples.specs.Records.{recOf, wordsOf}
+use Rattle.typ.specs.Sign.{signs}
 
--- where the words of the types start: the number of a type's row and one, 0 for none
+-- where the words of two halves start
 abbrev pub indexAt : ℕ
 indexAt = searchRow * maxTypes
 
@@ -37,14 +40,30 @@ rowsOf ws n = map (rowOf ws) (range 0 n)
 unfoldable pub levelOf : Words → ℕ → ℕ → List Row
 levelOf ws before n = map (rowOf ws) (range before (n - before))
 
--- the number of type t's row and one
+-- the number of type t's row and one, 0 for none
 unfoldable pub indexOf : Words → TypeKey → ℕ
-indexOf ws t = wordAt ws (indexAt + t .0)
+indexOf ws t = wordAt ws (indexAt + t .0) % signs
+
+-- the sign of row j's type
+unfoldable pub signAt : Words → ℕ → ℕ
+signAt ws j = wordAt ws (indexAt + j) / signs
+
+-- The first of the rows from one on whose type has the sign, or n.
+pub record NextSigned (ws : Words) (from n s j : ℕ) : Type 0 where
+  pub order : (from ≤ j) × (j ≤ n)
+  pub none : (i : ℕ) → from ≤ i → i < j → signAt ws i ≢ s
 
 -- no type has a row
 abbrev pub Unindexed : Words → Type 0
 Unindexed ws = (t : TypeKey) → t .0 < maxTypes → indexOf ws t ≡ 0
 
--- row n is put, and its type's word says so
-unfoldable pub rowPut : Words → ℕ → EmbeddedType → ObjKey → Words
-rowPut ws n e key = set (set (sets ws (searchRow * n) (wordsOf e)) (searchRow * n + 5) (key .0)) (indexAt + e .typ .0) (n + 1)
+-- one half is put, the other kept
+unfoldable pub indexPut : Words → TypeKey → ℕ → Words
+indexPut ws t n = set ws (indexAt + t .0) (signAt ws (t .0) * signs + (n + 1))
+
+unfoldable pub signPut : Words → ℕ → ℕ → Words
+signPut ws j s = set ws (indexAt + j) (s * signs + indexOf ws (typeKey j))
+
+-- row n is put, with its type's index and sign
+unfoldable pub rowPut : Words → ℕ → EmbeddedType → ObjKey → ℕ → Words
+rowPut ws n e key s = signPut (indexPut (set (sets ws (searchRow * n) (wordsOf e)) (searchRow * n + 5) (key .0)) (e .typ) n) n s

@@ -6,10 +6,12 @@ ghost use lib.ListN.{length, replicate};
 ghost use Rattle.objects.specs.Bounds.{markWords};
 ghost use Rattle.objects.specs.Rows.{typeCount, tableOf};
 ghost use Rattle.rules.specs.Library.{Library};
+ghost use Rattle.typ.specs.Sign.{signRead};
 ghost use Rattle.levels.specs.Words.{indexOf, rowMeant};
 ghost use Rattle.levels.specs.State.{Searching, Enters, Twin};
 use crate::words::ROW;
 use crate::words::index_of;
+use crate::words::next_signed;
 use crate::words::put_row;
 use multiples::EmbeddedType;
 use multiples::load;
@@ -18,8 +20,10 @@ use objects::ObjKey;
 use objects::TypeKey;
 use objects::rows::named_at;
 use typ::identical::identical;
+use typ::sign::sign;
 
-// The first row of the level whose type is identical to t, which has no row; n if there is none. A named type is identical to itself alone.
+// The first row of the level whose type is identical to t, which has no row; n if there is none. A named type is identical to itself alone; any other is
+// compared only with the types that have its sign.
 fn twin(
     text: &[u8],
     rows: &[u32],
@@ -28,9 +32,10 @@ fn twin(
     before: usize,
     n: usize,
     t: TypeKey,
+    s: u32,
 ) -> usize
     requires { ⌜ Library (now text) (now rows) ⌝ }
-    requires { ⌜ (markWords ≤ length (now marks)) × (t .0 < typeCount (now rows)) × (indexOf (now search) t ≡ 0) ⌝ }
+    requires { ⌜ (markWords ≤ length (now marks)) × (t .0 < typeCount (now rows)) × (indexOf (now search) t ≡ 0) × (s ≡ signRead (now text) (now rows) t) ⌝ }
     requires { ⌜ Searching (now text) (now rows) (now search) before n ⌝ }
     requires { ⌜ now marks ≡ replicate (length (now marks)) 0 ⌝ }
     ensures { λ r. ⌜ Twin (tableOf (now (text .entry)) (now (rows .entry))) (now (search .entry)) before n t r ⌝ }
@@ -39,13 +44,13 @@ fn twin(
     if named_at(rows, t) {
         return n;
     }
-    let mut j = before;
+    let mut j = next_signed(search, before, n, s);
     while j < n {
         let e = load(search, ROW * j);
         if identical(text, rows, marks, e.typ, t) {
             return j;
         }
-        j += 1;
+        j = next_signed(search, j + 1, n, s);
     }
     n
 }
@@ -68,12 +73,13 @@ fn enter_new(
     ensures { λ r. ⌜ Enters (now (text .entry)) (now (rows .entry)) (now (search .entry)) before n (rowMeant e key ∷ []) (now (search .exit)) r ⌝ }
     ensures { λ _. ⌜ now (marks .exit) ≡ now (marks .entry) ⌝ }
 {
-    let j = twin(text, rows, marks, search, before, n, e.typ);
+    let s = sign(text, rows, e.typ);
+    let j = twin(text, rows, marks, search, before, n, e.typ, s);
     if j < n {
         mark_at(search, ROW * j);
         return n;
     }
-    put_row(search, n, e, key);
+    put_row(search, n, e, key, s);
     n + 1
 }
 

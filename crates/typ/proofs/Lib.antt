@@ -11,3 +11,4 @@ pub mod Rank
 pub mod Cycle
 pub mod Top
 pub mod Early
+pub mod SignLaws

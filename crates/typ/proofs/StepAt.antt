@@ -111,7 +111,7 @@ module _ (text : Bytes) (rows : Words) where
         key-eq x y (sym (named-own x (kindAt (tableOf text rows) x) (number-read text rows x hx ∙ e)) ∙ owns ∙ named-own y (kindAt (tableOf text rows) y) (sym kinds ∙ number-read text rows x hx ∙ e))
 
     -- the i-th members, of a struct or an interface
-    alike-at : 8 ≤ numberRead rows x → (i : ℕ) → alikeAt text rows x y i ≡ true
+    pub alike-at : 8 ≤ numberRead rows x → (i : ℕ) → alikeAt text rows x y i ≡ true
         → Alike (tableOf text rows) (memberAt text rows (objKey (firstRead rows x + i))) (memberAt text rows (objKey (firstRead rows y + i)))
     unfolding alikeAt
     alike-at g i e = alikeMember-split (tableOf text rows) _ _ (rw (le-ltb (numberRead rows x) 8 g) at e)

@@ -2,3 +2,4 @@ pub mod Parts
 pub mod Contents
 pub mod Marks
 pub mod Compared
+pub mod Sign

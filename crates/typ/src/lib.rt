@@ -6,3 +6,4 @@ pub mod comparable; // C
 pub mod identical; // I
 pub mod marks; // bits in lent words
 pub mod parts; // what a type is made of
+pub mod sign; // what tells types apart by a number

@@ -1,4 +1,7 @@
 -- `levels::words::index_of` meets its contract.
+use mathlib.Core.Path.{ap}
+use Prim.Native.Nat.{_%_}
+use Rattle.typ.specs.Sign.{signs}
 use Rattle.levels.specs.Words.{indexOf}
 use borrow.Author.Needs.{needs}
 use Rattle.levels.proofs.words.index_of.Statement.{statement}
@@ -15,7 +18,7 @@ word-requires c κs = search needs
 
 returns : tie.Need-returns
 unfolding indexOf
-returns c = (c .word .ensures)
+returns c = ap (λ w. w % signs) (c .word .ensures)
 
 pub index-of-spec : {M : Type 1} → statement M
 index-of-spec =

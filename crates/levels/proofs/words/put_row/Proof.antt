@@ -1,7 +1,8 @@
 -- `levels::words::put_row` meets its contract.
 use native.Mathlib.Omega.{arith}
 use lib.ListN.{length-set}
-use Rattle.levels.specs.Words.{rowPut}
+use Rattle.levels.specs.Words.{indexPut, rowPut}
+use Rattle.levels.proofs.WordLaws.{put-lengths}
 use borrow.Author.Needs.{needs}
 use Rattle.levels.proofs.words.put_row.Statement.{statement}
 use Rattle.levels.proofs.words.put_row.Tie as tie
@@ -24,30 +25,19 @@ mul-search-2 c = search needs
 slice-write-search : tie.Need-slice-write-search
 slice-write-search c = search needs
 
-add-search-2 : tie.Need-add-search-2
-add-search-2 c = search needs
+put-index-requires : tie.Need-put-index-requires
+put-index-requires c κs = (simp length-set (omega (arith, (c .before .before .before .save .kept))), (c .before .before .before .before .before .before .pre .2), (c .before .before .before .before .before .before .pre .1))
 
-cast-search : tie.Need-cast-search
-cast-search c = search needs
-
-cast-search-2 : tie.Need-cast-search-2
-cast-search-2 c = search needs
-
-add-search-3 : tie.Need-add-search-3
-add-search-3 c = search needs
-
-mul-search-3 : tie.Need-mul-search-3
-mul-search-3 c = search needs
-
-slice-write-search-2 : tie.Need-slice-write-search-2
-slice-write-search-2 c = simp length-set (omega (arith, (c .before .before .save .kept)))
+put-sign-requires : tie.Need-put-sign-requires
+unfolding indexPut
+put-sign-requires c κs = (rw (c .before .before .before .put-index .ensures) (simp length-set (omega (arith, (c .before .before .before .before .before .before .before .save .kept)))), (c .before .before .before .before .before .before .before .before .before .before .pre .1), (c .before .before .before .before .before .before .before .before .before .before .pre .3))
 
 same-length : tie.Need-same-length
-same-length c = search needs
+same-length c = put-lengths _ _ _ _ _ (c .before .before .before .before .before .before .put-index .ensures) (c .before .before .put-sign .ensures) (simp length-set (omega (arith, (c .before .before .before .before .before .before .before .before .before .before .save .kept))))
 
 returns : tie.Need-returns
 unfolding rowPut
-returns c = rw ((c .before .before .save .ensures))
+returns c = rw ((c .before .before .put-sign .ensures), (c .before .before .before .before .before .before .put-index .ensures), (c .before .before .before .before .before .before .before .before .before .before .save .ensures))
 
 pub put-row-spec : {M : Type 1} → statement M
 put-row-spec =
@@ -59,11 +49,7 @@ put-row-spec =
     add-search
     mul-search-2
     slice-write-search
-    add-search-2
-    cast-search
-    cast-search-2
-    add-search-3
-    mul-search-3
-    slice-write-search-2
+    put-index-requires
+    put-sign-requires
     same-length
     returns)
