@@ -187,7 +187,7 @@ module _ (text : Bytes) (rows ws : Words) (before n : ℕ) (lib : Library text r
     new-few = let r = room (typeCount rows) ws n (h .rowed) (e .typ) typed new in let w = library-few lib in omega arith
 
     -- none has
-    module _ (back : e .parent < before) {s : ℕ} (es : s ≡ signRead text rows (e .typ)) {j : ℕ} (t : Twin (tableOf text rows) ws before n (e .typ) j) (end : n ≤ j) where
+    module _ (back : e .parent < before) {s : ℕ} (es : before < n → s ≡ signRead text rows (e .typ)) {j : ℕ} (t : Twin (tableOf text rows) ws before n (e .typ) j) (end : n ≤ j) where
       put-back : e .parent ≤ n
       put-back = let o = h .order in omega arith
 
@@ -248,6 +248,9 @@ abbrev pub Others : Bytes → Words → Words → ℕ → ℕ → TypeKey → �
 Others text rows ws before n t j = (before ≤ j) × (j ≤ n) × ((i : ℕ) → before ≤ i → i < j → identical (tableOf text rows) (typ (rowOf ws i)) t ≡ false)
 
 module _ (text : Bytes) (rows ws : Words) (before n : ℕ) (t : TypeKey) where
+  pub others-start : before ≤ n → Others text rows ws before n t before
+  others-start o = (omega arith, o, λ i a b. absurd (omega arith))
+
   module _ (j : ℕ) (o : Others text rows ws before n t j) (l : j < n) {e : EmbeddedType} (read : e ≡ recOf ws (searchRow * j)) {b : Bool} (says : b ≡ identical (tableOf text rows) (e .typ) t) where
     says-row : b ≡ identical (tableOf text rows) (typ (rowOf ws j)) t
     says-row = says ∙ ap (λ x. identical (tableOf text rows) (x .typ) t) read ∙ ap (λ x. identical (tableOf text rows) x t) (sym (row-typ ws j))
@@ -262,22 +265,17 @@ module _ (text : Bytes) (rows ws : Words) (before n : ℕ) (t : TypeKey) where
   twin-none j o end = let a = o .0 in let b = o .1 in record { order = (omega arith, omega arith); none = λ i p q. o .2 i p (omega arith); here = λ z. absurd (omega arith) }
 
 -- rows of other signs are passed over
-module _ (text : Bytes) (rows ws : Words) (before n : ℕ) (lib : Library text rows) (h : Searching text rows ws before n) (t : TypeKey) (typed : t .0 < typeCount rows) {s : ℕ} (es : s ≡ signRead text rows t) where
-  signs-differ : (i : ℕ) → before ≤ i → i < n → signAt ws i ≢ s → identical (tableOf text rows) (typ (rowOf ws i)) t ≡ false
+module _ (text : Bytes) (rows ws : Words) (before n : ℕ) (lib : Library text rows) (h : Searching text rows ws before n) (t : TypeKey) (typed : t .0 < typeCount rows) {s : ℕ} (es : before < n → s ≡ signRead text rows t) where
+  signs-differ : (i : ℕ) → before < i → i < n → signAt ws i ≢ s → identical (tableOf text rows) (typ (rowOf ws i)) t ≡ false
   signs-differ i a b ne =
       false-of (identical (tableOf text rows) (typ (rowOf ws i)) t)
-      (λ e. ne (h .signed i a b ∙ sign-same text rows lib (typ (rowOf ws i)) t (h .rowed .typed i b) typed e ∙ sym es))
-
-  others-past : (j k : ℕ) → Others text rows ws before n t j → NextSigned ws j n s k → Others text rows ws before n t k
-  others-past j k o p =
-      let a = o .0 in
-      let b = p .order .0 in
-      let c = p .order .1 in
-      (omega arith, c, λ i q r. elim (decLt i j) [ yes z ↦ o .2 i q z | no z ↦ signs-differ i q (omega arith) (p .none i (omega arith) r) ])
-
-  pub others-start : {j : ℕ} → NextSigned ws before n s j → Others text rows ws before n t j
-  others-start {j} p = let o = h .order in others-past before j (omega arith, o, λ i a b. absurd (omega arith)) p
+      (λ e. ne (h .signed i a b ∙ sign-same text rows lib (typ (rowOf ws i)) t (h .rowed .typed i b) typed e ∙ sym (es (omega arith))))
 
   pub others-on : (j : ℕ) → Others text rows ws before n t j → j < n → {e : EmbeddedType} → e ≡ recOf ws (searchRow * j) → {b : Bool} → b ≡ identical (tableOf text rows) (e .typ) t → b ≡ false
       → {k : ℕ} → NextSigned ws (j + 1) n s k → Others text rows ws before n t k
-  others-on j o l read says f {k} p = others-past (j + 1) k (others-next text rows ws before n t j o l read says f) p
+  others-on j o l read says f {k} p =
+      let a = o .0 in
+      let b = p .order .0 in
+      let c = p .order .1 in
+      let m = others-next text rows ws before n t j o l read says f in
+      (omega arith, c, λ i q r. elim (decLt i (j + 1)) [ yes z ↦ m .2 i q z | no z ↦ signs-differ i (omega arith) (omega arith) (p .none i (omega arith) r) ])

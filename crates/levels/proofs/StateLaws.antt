@@ -177,7 +177,7 @@ module _ (types : ℕ) (few : types ≤ maxTypes) (ws : Words) (n : ℕ) (h : Ro
         (omega arith, ap typ (old i c) ∙ r .1));
   }
 
-pub searching-put : (text : Bytes) (rows ws : Words) (before n : ℕ) (few : typeCount rows ≤ maxTypes) → Searching text rows ws before n → (e : EmbeddedType) (key : ObjKey) (s : ℕ) → s ≡ signRead text rows (e .typ) → e .typ .0 < typeCount rows → e .parent ≤ n → indexOf ws (e .typ) ≡ 0
+pub searching-put : (text : Bytes) (rows ws : Words) (before n : ℕ) (few : typeCount rows ≤ maxTypes) → Searching text rows ws before n → (e : EmbeddedType) (key : ObjKey) (s : ℕ) → (before < n → s ≡ signRead text rows (e .typ)) → e .typ .0 < typeCount rows → e .parent ≤ n → indexOf ws (e .typ) ≡ 0
     → ((i : ℕ) → before ≤ i → i < n → identical (tableOf text rows) (typ (rowOf ws i)) (e .typ) ≡ false)
     → Searching text rows (rowPut ws n e key s) before (suc n)
 searching-put text rows ws before n few h e key s es typed back new none =
@@ -198,6 +198,6 @@ searching-put text rows ws before n few h e key s es typed back new none =
         | no l ↦
             let z : i ≡ n = omega arith in
             rw (z, put-sign ws n e key s (h .rowed .long) (few-rows (typeCount rows) few ws n (h .rowed) e key s typed back new) (small (typeCount rows) few ws n (h .rowed) e key s typed back new), new-typ (typeCount rows) few ws n (h .rowed) e key s typed back new)
-            es
+            (es (omega arith))
       ];
     }

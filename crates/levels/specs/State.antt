@@ -26,13 +26,13 @@ pub record Rowed (types : ℕ) (ws : Words) (n : ℕ) : Type 0 where
   pub told : (j : ℕ) → j < n → indexOf ws (typ (rowOf ws j)) ≡ suc j
   pub only : (t : TypeKey) (j : ℕ) → t .0 < types → indexOf ws t ≡ suc j → (j < n) × (typ (rowOf ws j) ≡ t)
 
--- The level below the first `before` rows is made: of the rows from there on no two types are identical, and each row has the sign of its
--- type.
+-- The level below the first `before` rows is made: of the rows from there on no two types are identical, and each but the first has its type's sign. The
+-- first of a level is compared with every other: where it stays alone, no sign is made.
 pub record Searching (text : Bytes) (rows : Words) (ws : Words) (before n : ℕ) : Type 0 where
   pub rowed : Rowed (typeCount rows) ws n
   pub order : before ≤ n
   pub apart : (i j : ℕ) → before ≤ i → i < j → j < n → identical (tableOf text rows) (typ (rowOf ws i)) (typ (rowOf ws j)) ≡ false
-  pub signed : (j : ℕ) → before ≤ j → j < n → signAt ws j ≡ signRead text rows (typ (rowOf ws j))
+  pub signed : (j : ℕ) → before < j → j < n → signAt ws j ≡ signRead text rows (typ (rowOf ws j))
 
 -- The rows X were entered into the level: one after the other, as the model does it.
 pub record Enters (text : Bytes) (rows : Words) (ws : Words) (before n : ℕ) (X : List Row) (after : Words) (end : ℕ) : Type 0 where

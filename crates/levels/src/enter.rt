@@ -6,7 +6,7 @@ ghost use lib.ListN.{length, replicate};
 ghost use Rattle.objects.specs.Bounds.{markWords};
 ghost use Rattle.objects.specs.Rows.{typeCount, tableOf};
 ghost use Rattle.rules.specs.Library.{Library};
-ghost use Rattle.typ.specs.Sign.{signRead};
+ghost use Rattle.typ.specs.Sign.{signs, signRead};
 ghost use Rattle.levels.specs.Words.{indexOf, rowMeant};
 ghost use Rattle.levels.specs.State.{Searching, Enters, Twin};
 use crate::words::ROW;
@@ -22,8 +22,20 @@ use objects::rows::named_at;
 use typ::identical::identical;
 use typ::sign::sign;
 
+// The sign of a type that comes behind another of its level.
+fn sign_behind(text: &[u8], rows: &[u32], before: usize, n: usize, t: TypeKey) -> u32
+    requires { ⌜ Library (now text) (now rows) ⌝ }
+    requires { ⌜ t .0 < typeCount (now rows) ⌝ }
+    ensures { λ r. ⌜ (before < n → r ≡ signRead (now (text .entry)) (now (rows .entry)) t) × (r < signs) ⌝ }
+{
+    if n <= before {
+        return 0;
+    }
+    sign(text, rows, t)
+}
+
 // The first row of the level whose type is identical to t, which has no row; n if there is none. A named type is identical to itself alone; any other is
-// compared only with the types that have its sign.
+// compared with the first row's type, and then only with those that have its sign.
 fn twin(
     text: &[u8],
     rows: &[u32],
@@ -35,7 +47,7 @@ fn twin(
     s: u32,
 ) -> usize
     requires { ⌜ Library (now text) (now rows) ⌝ }
-    requires { ⌜ (markWords ≤ length (now marks)) × (t .0 < typeCount (now rows)) × (indexOf (now search) t ≡ 0) × (s ≡ signRead (now text) (now rows) t) ⌝ }
+    requires { ⌜ (markWords ≤ length (now marks)) × (t .0 < typeCount (now rows)) × (indexOf (now search) t ≡ 0) × (before < n → s ≡ signRead (now text) (now rows) t) ⌝ }
     requires { ⌜ Searching (now text) (now rows) (now search) before n ⌝ }
     requires { ⌜ now marks ≡ replicate (length (now marks)) 0 ⌝ }
     ensures { λ r. ⌜ Twin (tableOf (now (text .entry)) (now (rows .entry))) (now (search .entry)) before n t r ⌝ }
@@ -44,7 +56,7 @@ fn twin(
     if named_at(rows, t) {
         return n;
     }
-    let mut j = next_signed(search, before, n, s);
+    let mut j = before;
     while j < n {
         let e = load(search, ROW * j);
         if identical(text, rows, marks, e.typ, t) {
@@ -73,7 +85,7 @@ fn enter_new(
     ensures { λ r. ⌜ Enters (now (text .entry)) (now (rows .entry)) (now (search .entry)) before n (rowMeant e key ∷ []) (now (search .exit)) r ⌝ }
     ensures { λ _. ⌜ now (marks .exit) ≡ now (marks .entry) ⌝ }
 {
-    let s = sign(text, rows, e.typ);
+    let s = sign_behind(text, rows, before, n, e.typ);
     let j = twin(text, rows, marks, search, before, n, e.typ, s);
     if j < n {
         mark_at(search, ROW * j);

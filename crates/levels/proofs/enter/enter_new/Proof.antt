@@ -5,11 +5,11 @@ use borrow.Author.Needs.{needs}
 use Rattle.levels.proofs.enter.enter_new.Statement.{statement}
 use Rattle.levels.proofs.enter.enter_new.Tie as tie
 
-sign-requires : tie.Need-sign-requires
-sign-requires c κs = ((c .before .before .before .before .pre .0), (c .before .before .before .before .pre .1 .0 .1))
+sign-behind-requires : tie.Need-sign-behind-requires
+sign-behind-requires c κs = ((c .before .before .before .before .pre .0), (c .before .before .before .before .pre .1 .0 .1))
 
 twin-requires : tie.Need-twin-requires
-twin-requires c κs = ((c .before .before .before .before .before .before .before .pre .0), (((c .before .before .before .before .before .before .before .pre .1 .0 .0), (c .before .before .before .before .before .before .before .pre .1 .0 .1), (c .before .before .before .before .before .before .before .pre .1 .0 .3), (c .before .before .sign .ensures .0)), ((c .before .before .before .before .before .before .before .pre .1 .1 .0), (c .before .before .before .before .before .before .before .pre .1 .1 .1))))
+twin-requires c κs = ((c .before .before .before .before .before .before .before .pre .0), (((c .before .before .before .before .before .before .before .pre .1 .0 .0), (c .before .before .before .before .before .before .before .pre .1 .0 .1), (c .before .before .before .before .before .before .before .pre .1 .0 .3), (c .before .before .sign-behind .ensures .0)), ((c .before .before .before .before .before .before .before .pre .1 .1 .0), (c .before .before .before .before .before .before .before .pre .1 .1 .1))))
 
 mul-mark-at : tie.Need-mul-mark-at
 mul-mark-at c = omega (arith, twin-fits _ _ _ _ _ (c .before .before .before .before .before .before .before .before .before .before .before .before .pre .0) (c .before .before .before .before .before .before .before .before .before .before .before .before .pre .1 .1 .0) (c .before .before .before .before .before .before .before .before .before .before .before .before .args .e) (c .before .before .before .before .before .before .before .before .before .before .before .before .args .key) (c .before .before .before .before .before .before .before .before .before .before .before .before .pre .1 .0 .1) (c .before .before .before .before .before .before .before .before .before .before .before .before .pre .1 .0 .3) _ (c .before .if1 .taken) .0)
@@ -27,7 +27,7 @@ returns : tie.Need-returns
 returns c = (by-words (c .before .before .mark-at .ensures) (enters-twin _ _ _ _ _ (c .before .before .before .before .before .before .before .before .before .before .before .before .before .before .before .pre .0) (c .before .before .before .before .before .before .before .before .before .before .before .before .before .before .before .pre .1 .1 .0) _ _ (c .before .before .before .before .before .before .before .before .before .before .before .before .before .before .before .pre .1 .0 .1) (c .before .before .before .before .before .before .before .before .before .before .before .before .before .before .before .pre .1 .0 .3) (c .before .before .before .before .before .before .before .twin .ensures .0) (c .before .before .before .before .if1 .taken)), (c .before .before .before .before .before .before .before .twin .ensures .1))
 
 put-row-requires : tie.Need-put-row-requires
-put-row-requires c κs = ((c .before .before .before .before .before .before .before .before .before .before .before .before .pre .1 .1 .0) .rowed .long, new-few _ _ _ _ _ (c .before .before .before .before .before .before .before .before .before .before .before .before .pre .0) (c .before .before .before .before .before .before .before .before .before .before .before .before .pre .1 .1 .0) (c .before .before .before .before .before .before .before .before .before .before .before .before .args .e) (c .before .before .before .before .before .before .before .before .before .before .before .before .args .key) (c .before .before .before .before .before .before .before .before .before .before .before .before .pre .1 .0 .1) (c .before .before .before .before .before .before .before .before .before .before .before .before .pre .1 .0 .3), omega (arith, (c .before .before .before .before .before .before .before .before .before .before .before .before .pre .1 .0 .1), library-few (c .before .before .before .before .before .before .before .before .before .before .before .before .pre .0)), (c .before .before .before .before .before .before .before .sign .ensures .1))
+put-row-requires c κs = ((c .before .before .before .before .before .before .before .before .before .before .before .before .pre .1 .1 .0) .rowed .long, new-few _ _ _ _ _ (c .before .before .before .before .before .before .before .before .before .before .before .before .pre .0) (c .before .before .before .before .before .before .before .before .before .before .before .before .pre .1 .1 .0) (c .before .before .before .before .before .before .before .before .before .before .before .before .args .e) (c .before .before .before .before .before .before .before .before .before .before .before .before .args .key) (c .before .before .before .before .before .before .before .before .before .before .before .before .pre .1 .0 .1) (c .before .before .before .before .before .before .before .before .before .before .before .before .pre .1 .0 .3), omega (arith, (c .before .before .before .before .before .before .before .before .before .before .before .before .pre .1 .0 .1), library-few (c .before .before .before .before .before .before .before .before .before .before .before .before .pre .0)), (c .before .before .before .before .before .before .before .sign-behind .ensures .1))
 
 add-result : tie.Need-add-result
 add-result c = omega (arith, new-few _ _ _ _ _ (c .before .before .before .before .before .before .before .before .before .before .before .before .before .before .before .pre .0) (c .before .before .before .before .before .before .before .before .before .before .before .before .before .before .before .pre .1 .1 .0) (c .before .before .before .before .before .before .before .before .before .before .before .before .before .before .before .args .e) (c .before .before .before .before .before .before .before .before .before .before .before .before .before .before .before .args .key) (c .before .before .before .before .before .before .before .before .before .before .before .before .before .before .before .pre .1 .0 .1) (c .before .before .before .before .before .before .before .before .before .before .before .before .before .before .before .pre .1 .0 .3))
@@ -39,13 +39,13 @@ same-length-4 : tie.Need-same-length-4
 same-length-4 c = search needs
 
 returns-2 : tie.Need-returns-2
-returns-2 c = (by-words (c .before .before .put-row .ensures) (enters-new _ _ _ _ _ (c .before .before .before .before .before .before .before .before .before .before .before .before .before .before .before .pre .0) (c .before .before .before .before .before .before .before .before .before .before .before .before .before .before .before .pre .1 .1 .0) _ _ (c .before .before .before .before .before .before .before .before .before .before .before .before .before .before .before .pre .1 .0 .1) (c .before .before .before .before .before .before .before .before .before .before .before .before .before .before .before .pre .1 .0 .3) (c .before .before .before .before .before .before .before .before .before .before .before .before .before .before .before .pre .1 .0 .2) (c .before .before .before .before .before .before .before .before .before .before .sign .ensures .0) (c .before .before .before .before .before .before .before .twin .ensures .0) (c .before .before .before .before .if1 .left)), (c .before .before .before .before .before .before .before .twin .ensures .1))
+returns-2 c = (by-words (c .before .before .put-row .ensures) (enters-new _ _ _ _ _ (c .before .before .before .before .before .before .before .before .before .before .before .before .before .before .before .pre .0) (c .before .before .before .before .before .before .before .before .before .before .before .before .before .before .before .pre .1 .1 .0) _ _ (c .before .before .before .before .before .before .before .before .before .before .before .before .before .before .before .pre .1 .0 .1) (c .before .before .before .before .before .before .before .before .before .before .before .before .before .before .before .pre .1 .0 .3) (c .before .before .before .before .before .before .before .before .before .before .before .before .before .before .before .pre .1 .0 .2) (c .before .before .before .before .before .before .before .before .before .before .sign-behind .ensures .0) (c .before .before .before .before .before .before .before .twin .ensures .0) (c .before .before .before .before .if1 .left)), (c .before .before .before .before .before .before .before .twin .ensures .1))
 
 pub enter-new-spec : {M : Type 1} → statement M
 enter-new-spec =
     tie.close
     (tie.spec
-    sign-requires
+    sign-behind-requires
     twin-requires
     mul-mark-at
     mark-at-requires

@@ -19,20 +19,17 @@ named-at-requires c κs = search needs
 returns : tie.Need-returns Inv-loop μ-loop
 returns c = (twin-named _ _ _ _ _ (c .before .before .before .before .before .before .pre .0) (c .before .before .before .before .before .before .pre .1 .1 .0) _ (c .before .before .before .before .before .before .pre .1 .0 .1) (c .before .before .before .before .before .before .pre .1 .0 .2) (c .before .named-at .ensures) (c .if1 .taken), refl)
 
-next-signed-requires : tie.Need-next-signed-requires Inv-loop μ-loop
-next-signed-requires c κs = ((c .before .before .before .before .before .before .pre .1 .1 .0) .rowed .long, (c .before .before .before .before .before .before .pre .1 .1 .0) .order, level-few (c .before .before .before .before .before .before .pre .0) (c .before .before .before .before .before .before .pre .1 .1 .0))
-
 loop-holds : tie.Need-loop-holds Inv-loop μ-loop
-loop-holds c = (refl, others-start _ _ _ _ _ (c .before .before .before .before .before .before .before .pre .0) (c .before .before .before .before .before .before .before .pre .1 .1 .0) _ (c .before .before .before .before .before .before .before .pre .1 .0 .1) (c .before .before .before .before .before .before .before .pre .1 .0 .3) (c .next-signed .ensures))
+loop-holds c = (refl, others-start _ _ _ _ _ _ ((c .before .before .before .before .before .before .pre .1 .1 .0) .order))
 
 mul-load : tie.Need-mul-load Inv-loop μ-loop
-mul-load c = omega (arith, level-few (c .before .before .before .before .before .before .before .before .before .pre .0) (c .before .before .before .before .before .before .before .before .before .pre .1 .1 .0), (c .loop-test .taken))
+mul-load c = omega (arith, level-few (c .before .before .before .before .before .before .before .before .pre .0) (c .before .before .before .before .before .before .before .before .pre .1 .1 .0), (c .loop-test .taken))
 
 load-requires : tie.Need-load-requires Inv-loop μ-loop
 load-requires c κs = search needs
 
 identical-requires : tie.Need-identical-requires Inv-loop μ-loop
-identical-requires c κs = ((c .before .before .before .before .before .before .before .before .before .before .before .pre .0), ((row-typed _ _ _ _ ((c .before .before .before .before .before .before .before .before .before .before .before .pre .1 .1 .0) .rowed) (c .before .load .ensures) (c .before .before .loop-test .taken), (c .before .before .before .before .before .before .before .before .before .before .before .pre .1 .0 .1), rw (c .before .before .before .loop .inv .0) (c .before .before .before .before .before .before .before .before .before .before .before .pre .1 .0 .0)), rw (c .before .before .before .loop .inv .0) (c .before .before .before .before .before .before .before .before .before .before .before .pre .1 .1 .1)))
+identical-requires c κs = ((c .before .before .before .before .before .before .before .before .before .before .pre .0), ((row-typed _ _ _ _ ((c .before .before .before .before .before .before .before .before .before .before .pre .1 .1 .0) .rowed) (c .before .load .ensures) (c .before .before .loop-test .taken), (c .before .before .before .before .before .before .before .before .before .before .pre .1 .0 .1), rw (c .before .before .before .loop .inv .0) (c .before .before .before .before .before .before .before .before .before .before .pre .1 .0 .0)), rw (c .before .before .before .loop .inv .0) (c .before .before .before .before .before .before .before .before .before .before .pre .1 .1 .1)))
 
 same-length : tie.Need-same-length Inv-loop μ-loop
 same-length c = search needs
@@ -43,14 +40,14 @@ returns-2 c = (twin-found _ _ _ _ _ _ _ (c .before .before .before .before .befo
 add-next-signed : tie.Need-add-next-signed Inv-loop μ-loop
 add-next-signed c = omega arith
 
-next-signed-requires-2 : tie.Need-next-signed-requires-2 Inv-loop μ-loop
-next-signed-requires-2 c κs = ((c .before .before .before .before .before .before .before .before .before .before .before .before .before .before .before .pre .1 .1 .0) .rowed .long, omega (arith, (c .before .before .before .before .before .before .loop-test .taken)), level-few (c .before .before .before .before .before .before .before .before .before .before .before .before .before .before .before .pre .0) (c .before .before .before .before .before .before .before .before .before .before .before .before .before .before .before .pre .1 .1 .0))
+next-signed-requires : tie.Need-next-signed-requires Inv-loop μ-loop
+next-signed-requires c κs = ((c .before .before .before .before .before .before .before .before .before .before .before .before .before .before .pre .1 .1 .0) .rowed .long, omega (arith, (c .before .before .before .before .before .before .loop-test .taken)), level-few (c .before .before .before .before .before .before .before .before .before .before .before .before .before .before .pre .0) (c .before .before .before .before .before .before .before .before .before .before .before .before .before .before .pre .1 .1 .0))
 
 loop-less : tie.Need-loop-less Inv-loop μ-loop
-loop-less c = omega (arith, (c .next-signed2 .ensures) .order .0, (c .next-signed2 .ensures) .order .1, (c .before .before .before .before .before .before .before .loop-test .taken))
+loop-less c = omega (arith, (c .next-signed .ensures) .order .0, (c .next-signed .ensures) .order .1, (c .before .before .before .before .before .before .before .loop-test .taken))
 
 loop-again : tie.Need-loop-again Inv-loop μ-loop
-loop-again c = ((c .before .before .before .before .identical .ensures .1) ∙ (c .before .before .before .before .before .before .before .before .loop .inv .0), others-on _ _ _ _ _ (c .before .before .before .before .before .before .before .before .before .before .before .before .before .before .before .before .pre .0) (c .before .before .before .before .before .before .before .before .before .before .before .before .before .before .before .before .pre .1 .1 .0) _ (c .before .before .before .before .before .before .before .before .before .before .before .before .before .before .before .before .pre .1 .0 .1) (c .before .before .before .before .before .before .before .before .before .before .before .before .before .before .before .before .pre .1 .0 .3) _ (c .before .before .before .before .before .before .before .before .loop .inv .1) (c .before .before .before .before .before .before .before .loop-test .taken) (c .before .before .before .before .before .before .load .ensures) (c .before .before .before .before .identical .ensures .0) (c .before .if2 .left) (c .next-signed2 .ensures))
+loop-again c = ((c .before .before .before .before .identical .ensures .1) ∙ (c .before .before .before .before .before .before .before .before .loop .inv .0), others-on _ _ _ _ _ (c .before .before .before .before .before .before .before .before .before .before .before .before .before .before .before .pre .0) (c .before .before .before .before .before .before .before .before .before .before .before .before .before .before .before .pre .1 .1 .0) _ (c .before .before .before .before .before .before .before .before .before .before .before .before .before .before .before .pre .1 .0 .1) (c .before .before .before .before .before .before .before .before .before .before .before .before .before .before .before .pre .1 .0 .3) _ (c .before .before .before .before .before .before .before .before .loop .inv .1) (c .before .before .before .before .before .before .before .loop-test .taken) (c .before .before .before .before .before .before .load .ensures) (c .before .before .before .before .identical .ensures .0) (c .before .if2 .left) (c .next-signed .ensures))
 
 same-length-2 : tie.Need-same-length-2 Inv-loop μ-loop
 same-length-2 c = search needs
@@ -66,7 +63,6 @@ twin-spec =
     μ-loop
     named-at-requires
     returns
-    next-signed-requires
     loop-holds
     mul-load
     load-requires
@@ -74,7 +70,7 @@ twin-spec =
     same-length
     returns-2
     add-next-signed
-    next-signed-requires-2
+    next-signed-requires
     loop-less
     loop-again
     same-length-2
