@@ -2,6 +2,7 @@
 use mathlib.Core.Path.{_≡_, refl, sym, ap, _∙_}
 use mathlib.Core.Bool.{Bool, true, false, not, _||_}
 use mathlib.Core.List.{[], _∷_}
+use mathlib.Core.Logic.{_⊎_, inl, inr}
 use Prim.Native.Nat.{ℕ, suc, _+_, _-_, _*_, _/_, _≤_, _<_}
 use native.Mathlib.Omega.{arith}
 use lib.Dec.{eqb, ltb}
@@ -9,7 +10,7 @@ use lib.ListN.{length, getD, take, drop, drop-of-length-le, length-drop}
 use lib.Seq.{take-all, take-nil}
 use borrow.Author.Tests.{eq-eqb, ne-eqb, lt-ltb, le-ltb, eqb-true, eqb-false, ltb-true, ltb-false}
 use Rattle.objects.specs.Lists.{Bytes}
-use Rattle.objects.proofs.ListLaws.{cases, clash}
+use Rattle.objects.proofs.ListLaws.{cases, clash, either}
 use Rattle.text.specs.declared.Order.{Order}
 use Rattle.text.specs.Bytes.{sameBytes, belowBytes}
 use Rattle.text.specs.Compare.{orderOf, fourOf, DifferFour}
@@ -43,6 +44,26 @@ module _ {a b c d x y z w : ℕ} (la : a < 256) (lb : b < 256) (lc : c < 256) (l
   four-bytes : fourOf a b c d ≡ fourOf x y z w → (a ≡ x) × (b ≡ y) × (c ≡ z) × (d ≡ w)
   unfolding fourOf
   four-bytes e = (omega arith, omega arith, omega arith, omega arith)
+
+  -- the first byte that differs is the smaller one
+  four-first : fourOf a b c d < fourOf x y z w → (a < x) ⊎ ((a ≡ x) × ((b < y) ⊎ ((b ≡ y) × ((c < z) ⊎ ((c ≡ z) × (d < w))))))
+  unfolding fourOf
+  four-first l =
+      cases (ltb a x)
+      (λ e. inl (ltb-true a x e))
+      (λ e. let p = ltb-false a x e in
+      inr (
+        omega arith,
+        cases (ltb b y)
+            (λ f. inl (ltb-true b y f))
+            (λ f. let q = ltb-false b y f in
+            inr (
+              omega arith,
+              cases (ltb c z)
+                  (λ g. inl (ltb-true c z g))
+                  (λ g. let r = ltb-false c z g in inr (omega arith, omega arith)),
+            )),
+      ))
 
 -- one of the four places from i on
 four-places : (P : ℕ → Type 0) (i : ℕ) → P i → P (i + 1) → P (i + 2) → P (i + 3) → (k : ℕ) → i ≤ k → k < i + 4 → P k
@@ -146,16 +167,53 @@ module _ (a b : Bytes) (i : ℕ) where
         let e : getD a i 0 ≡ getD b i 0 = omega arith in
         rw (drop-at a i h, drop-at b i k, le-ltb (getD a i 0) (getD b i 0) l, eq-eqb (getD a i 0) (getD b i 0) e)
 
--- behind four bytes that are alike
-pub order-four : (a b : Bytes) (i : ℕ) → i + 4 ≤ length a → i + 4 ≤ length b → ((k : ℕ) → i ≤ k → k < i + 4 → getD a k 0 ≡ getD b k 0)
-    → orderOf (drop i a) (drop i b) ≡ orderOf (drop (i + 4) a) (drop (i + 4) b)
-order-four a b i l m p = step i (omega arith) (omega arith) ∙ on 1 2 (omega arith) refl ∙ on 2 3 (omega arith) refl ∙ on 3 4 (omega arith) refl
-  where
-    step : (k : ℕ) → i ≤ k → k < i + 4 → orderOf (drop k a) (drop k b) ≡ orderOf (drop (k + 1) a) (drop (k + 1) b)
-    step k h j = let e = p k h j in order-next a b k (omega arith) (omega arith) (omega arith) (omega arith)
+-- four bytes at once, of texts of which each byte is one
+module _ (a b : Bytes) (i : ℕ) (h : i + 4 ≤ length a) (k : i + 4 ≤ length b) (la : (j : ℕ) → getD a j 0 < 256) (lb : (j : ℕ) → getD b j 0 < 256) {x y : ℕ}
+    (ex : x ≡ fourOf (getD a i 0) (getD a (i + 1) 0) (getD a (i + 2) 0) (getD a (i + 3) 0))
+    (ey : y ≡ fourOf (getD b i 0) (getD b (i + 1) 0) (getD b (i + 2) 0) (getD b (i + 3) 0)) where
+  -- n bytes are alike, so that the order is told behind them
+  abbrev Past : ℕ → Type 0
+  Past n = orderOf (drop i a) (drop i b) ≡ orderOf (drop (i + n) a) (drop (i + n) b)
 
-    on : (n o : ℕ) → n < 4 → n + 1 ≡ o → orderOf (drop (i + n) a) (drop (i + n) b) ≡ orderOf (drop (i + o) a) (drop (i + o) b)
-    on n o h e = let z : i + n + 1 ≡ i + o = omega arith in rw z at (step (i + n) (omega arith) (omega arith))
+  past-first : getD a i 0 ≡ getD b i 0 → Past 1
+  past-first z = order-next a b i (omega arith) (omega arith) (omega arith) (omega arith)
+
+  past-more : (n o : ℕ) → n + 1 ≡ o → n < 4 → getD a (i + n) 0 ≡ getD b (i + n) 0 → Past n → Past o
+  past-more n o e l z f =
+      let w : i + n + 1 ≡ i + o = omega arith in
+      f ∙ (rw w at (order-next a b (i + n) (omega arith) (omega arith) (omega arith) (omega arith)))
+
+  past-less : (n : ℕ) → n < 4 → Past n → getD a (i + n) 0 < getD b (i + n) 0 → orderOf (drop i a) (drop i b) ≡ Order.Less
+  past-less n l f z = f ∙ order-less a b (i + n) (omega arith) (omega arith) z
+
+  past-greater : (n : ℕ) → n < 4 → Past n → getD b (i + n) 0 < getD a (i + n) 0 → orderOf (drop i a) (drop i b) ≡ Order.Greater
+  past-greater n l f z = f ∙ order-greater a b (i + n) (omega arith) (omega arith) z
+
+  pub four-less : x < y → orderOf (drop i a) (drop i b) ≡ Order.Less
+  four-less l =
+      either (four-first (la i) (la (i + 1)) (la (i + 2)) (la (i + 3)) (lb i) (lb (i + 1)) (lb (i + 2)) (lb (i + 3)) (rw (ex, ey) at l))
+      (λ p. order-less a b i (omega arith) (omega arith) p)
+      (λ p. let f = past-first (p .0) in
+      either (p .1) (λ q. past-less 1 (omega arith) f q)
+      (λ q. let g = past-more 1 2 refl (omega arith) (q .0) f in
+      either (q .1) (λ r. past-less 2 (omega arith) g r)
+      (λ r. past-less 3 (omega arith) (past-more 2 3 refl (omega arith) (r .0) g) (r .1))))
+
+  pub four-greater : y < x → orderOf (drop i a) (drop i b) ≡ Order.Greater
+  four-greater l =
+      either (four-first (lb i) (lb (i + 1)) (lb (i + 2)) (lb (i + 3)) (la i) (la (i + 1)) (la (i + 2)) (la (i + 3)) (rw (ex, ey) at l))
+      (λ p. order-greater a b i (omega arith) (omega arith) p)
+      (λ p. let f = past-first (sym (p .0)) in
+      either (p .1) (λ q. past-greater 1 (omega arith) f q)
+      (λ q. let g = past-more 1 2 refl (omega arith) (sym (q .0)) f in
+      either (q .1) (λ r. past-greater 2 (omega arith) g r)
+      (λ r. past-greater 3 (omega arith) (past-more 2 3 refl (omega arith) (sym (r .0)) g) (r .1))))
+
+  pub four-next : y ≤ x → x ≤ y → Past 4
+  four-next l m =
+      let z : x ≡ y = omega arith in
+      let r = four-bytes (la i) (la (i + 1)) (la (i + 2)) (la (i + 3)) (lb i) (lb (i + 1)) (lb (i + 2)) (lb (i + 3)) (sym ex ∙ z ∙ ey) in
+      past-more 3 4 refl (omega arith) (r .3) (past-more 2 3 refl (omega arith) (r .2) (past-more 1 2 refl (omega arith) (r .1) (past-first (r .0))))
 
 -- the other way round
 pub order-above : (a b : Bytes) → orderOf a b ≡ Order.Greater → belowBytes b a ≡ true

@@ -10,7 +10,7 @@ use crate::scan::stop;
 
 // ---- four bytes
 
-// Four bytes as one number, which the compiler makes one load.
+// Four bytes as one number, which the compiler makes one load. The first has the most weight.
 pub fn four(s: &[u8], i: usize) -> u64
     requires { ⌜ i + 4 ≤ length (now s) ⌝ }
     ensures { λ r. ⌜ r ≡ fourOf (getD (now (s .entry)) i 0) (getD (now (s .entry)) (i + 1) 0) (getD (now (s .entry)) (i + 2) 0) (getD (now (s .entry)) (i + 3) 0) ⌝ }
@@ -94,26 +94,11 @@ pub fn same(a: &[u8], b: &[u8]) -> bool
     same_bytes(a, b)
 }
 
-// How many bytes both begin with, counted in fours.
-fn alike(a: &[u8], b: &[u8]) -> usize
-    ensures { λ r. ⌜ orderOf (now (a .entry)) (now (b .entry)) ≡ orderOf (drop r (now (a .entry))) (drop r (now (b .entry))) ⌝ }
+// The order of what stands from a place on, byte by byte.
+fn order_each(a: &[u8], b: &[u8], at: usize) -> Order
+    ensures { λ r. ⌜ r ≡ orderOf (drop at (now (a .entry))) (drop at (now (b .entry))) ⌝ }
 {
-    let n = stop(a, b.len());
-    let mut i: usize = 0;
-    while 4 <= n - i {
-        if differ_four(a, b, i) {
-            return i;
-        }
-        i += 4;
-    }
-    i
-}
-
-// What both begin with is passed over; behind it at most four bytes are compared one by one.
-pub fn order(a: &[u8], b: &[u8]) -> Order
-    ensures { λ r. ⌜ r ≡ orderOf (now (a .entry)) (now (b .entry)) ⌝ }
-{
-    let mut i = alike(a, b);
+    let mut i = at;
     while i < a.len() {
         if b.len() <= i {
             return Order::Greater;
@@ -131,6 +116,26 @@ pub fn order(a: &[u8], b: &[u8]) -> Order
     } else {
         Order::Equal
     }
+}
+
+// Four bytes a turn, whose numbers are in the order of the bytes, while both have four.
+pub fn order(a: &[u8], b: &[u8]) -> Order
+    ensures { λ r. ⌜ r ≡ orderOf (now (a .entry)) (now (b .entry)) ⌝ }
+{
+    let n = stop(a, b.len());
+    let mut i: usize = 0;
+    while 4 <= n - i {
+        let x = four(a, i);
+        let y = four(b, i);
+        if x < y {
+            return Order::Less;
+        }
+        if y < x {
+            return Order::Greater;
+        }
+        i += 4;
+    }
+    order_each(a, b, i)
 }
 
 // ---- parts
