@@ -3,11 +3,14 @@ use mathlib.Core.Path.{_≡_, refl, sym, ap, _∙_}
 use mathlib.Core.Bool.{Bool}
 use mathlib.Core.List.{[], _∷_}
 use mathlib.Core.Logic.{_≢_}
-use Prim.Native.Nat.{ℕ, _+_, _-_, _*_, _/_, _%_, _<_, _≤_}
+use Prim.Native.Nat.{ℕ, _+_, _-_, _*_, _/_, _%_, _^_, _<_, _≤_, max}
+use native.Mathlib.Nat.{max-le, le-max-left}
 use native.Mathlib.Numerals.{add-one}
 use native.Mathlib.Omega.{arith}
+use lib.Bits.{bitOr, or-step, or-comm, or-shr}
 use lib.Dec.{eqb}
-use lib.ListN.{length, getD, take, drop, set, drop-of-length-le, length-set, length-drop}
+use lib.ListN.{length, getD, take, drop, set, drop-of-length-le, length-drop}
+use lib.Pow.{shl-shr, shl-exact}
 use borrow.Author.Tests.{eqb-true, eqb-false}
 use Rattle.objects.specs.declared.ObjKey.{ObjKey}
 use Rattle.objects.specs.Lists.{Bytes}
@@ -17,8 +20,9 @@ use Rattle.objects.proofs.ListLaws.{cases}
 use Rattle.objects.proofs.PartLaws.{all-snoc}
 use Rattle.objects.proofs.RowLaws.{members-more}
 use Rattle.objects.proofs.Stores.{word-put, word-kept}
+use Rattle.text.specs.Compare.{fourOf}
 use Rattle.text.proofs.PartLaws.{drop-at}
-use Rattle.clashes.specs.Marks.{hashes, allMarks, hashRest, fourOf, hashFrom, placeOf, highPlace, lowPlace, MarkedAt, Marked, Grows, AllMarked, Met, Noted}
+use Rattle.clashes.specs.Marks.{hashes, hashRest, hashFrom, placeOf, highPlace, lowPlace, bitAt, MarkedAt, Marked, Grows, AllMarked, Met, Noted}
 
 -- ---- hashes
 
@@ -29,10 +33,6 @@ hash-short h (a ∷ []) k = refl
 hash-short h (a ∷ b ∷ []) k = refl
 hash-short h (a ∷ b ∷ c ∷ []) k = refl
 hash-short h (a ∷ b ∷ c ∷ d ∷ l) k = absurd (omega arith)
-
-pub four-is : {a b c d : ℕ} (x y z w : ℕ) → a ≡ x → b ≡ y → c ≡ z → d ≡ w → a * 16_777_216 + b * 65_536 + c * 256 + d ≡ fourOf x y z w
-unfolding fourOf
-four-is x y z w p q r s = rw (p, q, r, s)
 
 module _ (name : Bytes) (h i : ℕ) where
   pub rest-next : i < length name → {b : ℕ} → b ≡ getD name i 0 → hashRest h (drop i name) ≡ hashRest ((h + b) * 1_103_515 % hashes) (drop (i + 1) name)
@@ -68,34 +68,55 @@ pub hash-read : (text : Bytes) (rows : Words) (m : ObjKey) {a n : ℕ} → a ≡
 unfolding memberAt bytesAt
 hash-read text rows m ea en es er = er ∙ rw (es, ea, en)
 
+-- ---- bits
+
+or-left : (a b : ℕ) → a % 2 ≢ 0 → bitOr a b % 2 ≢ 0
+or-left a b n z =
+    let l = le-max-left (a % 2) (b % 2) in
+    let u : max (a % 2) (b % 2) ≤ 1 = max-le (omega arith) (omega arith) in
+    let s = or-step a b in
+    n (omega arith)
+
+or-right : (a b : ℕ) → b % 2 ≢ 0 → bitOr a b % 2 ≢ 0
+or-right a b = rw (or-comm a b) (or-left b a)
+
+-- what a bit of w is, it is with more bits set
+bit-stays : (w v k : ℕ) → w / 2 ^ k % 2 ≢ 0 → bitOr w v / 2 ^ k % 2 ≢ 0
+bit-stays w v k = rw (or-shr w v k) (or-left (w / 2 ^ k) (v / 2 ^ k))
+
+bit-here : (w k : ℕ) → bitOr w (1 * 2 ^ k) / 2 ^ k % 2 ≢ 0
+bit-here w k = rw (or-shr w (1 * 2 ^ k) k, shl-shr 1 k) (or-right (w / 2 ^ k) 1 (λ z. omega arith))
+
+-- the bit at i is set in its word
+module _ (marks : Words) (i : ℕ) (h : i / 32 < length marks) {w : ℕ} (ew : w ≡ wordAt marks (i / 32)) where
+  abbrev more : ℕ
+  more = bitOr w (1 * 2 ^ (i % 32) % 4_294_967_296)
+
+  set-grows : Grows marks (set marks (i / 32) more)
+  unfolding bitAt
+  set-grows j n =
+      cases (eqb (j / 32) (i / 32))
+      (λ e. let q = eqb-true (j / 32) (i / 32) e in
+      rw (q, word-put marks (i / 32) more h) (bit-stays w (1 * 2 ^ (i % 32) % 4_294_967_296) (j % 32) (rw (q, ← ew) at n)))
+      (λ e. rw (word-kept marks (i / 32) more (j / 32) (eqb-false (j / 32) (i / 32) e)) n)
+
+  set-here : bitAt (set marks (i / 32) more) i ≢ 0
+  unfolding bitAt
+  set-here = rw (word-put marks (i / 32) more h, shl-exact {a = 1} 1 (i % 32) 32 (omega arith) (omega arith)) (bit-here w (i % 32))
+
+  pub set-adds : Grows marks (set marks (i / 32) more) × (bitAt (set marks (i / 32) more) i ≢ 0)
+  set-adds = (set-grows, set-here)
+
 -- ---- marks that are added
 
-set-grows : (marks : Words) (at : ℕ) → at < length marks → Grows marks (set marks at 1)
-set-grows marks at l i h =
-    cases (eqb i at)
-    (λ e z. let q = word-put marks at 1 l in let p = eqb-true i at e in let y : wordAt (set marks at 1) at ≡ 0 = rw p at z in omega (arith, q, y))
-    (λ e z. h (sym (word-kept marks at 1 i (eqb-false i at e)) ∙ z))
+module _ (marks between after : Words) (p : ℕ) {a b : ℕ} (ea : a ≡ highPlace p) (eb : b ≡ lowPlace p) where
+  pub mark-adds : Grows marks between → bitAt between a ≢ 0 → Grows between after → bitAt after b ≢ 0 → Grows marks after × MarkedAt after p
+  mark-adds g s f t = (λ i h. f i (g i h), (rw (← ea) (f a s), rw (← eb) t))
 
-module _ (marks : Words) (p : ℕ) (long : allMarks ≤ length marks) {a : ℕ} (ea : a ≡ highPlace p) (la : a < allMarks) {b : ℕ} (eb : b ≡ lowPlace p) (lb : b < allMarks) where
-  first-set : wordAt (set marks a 1) a ≢ 0
-  first-set z = let q = word-put marks a 1 (omega arith) in omega (arith, q, z)
-
-  room : b < length (set marks a 1)
-  room = simp length-set (omega arith)
-
-  second-set : wordAt (set (set marks a 1) b 1) b ≢ 0
-  second-set z = let q = word-put (set marks a 1) b 1 room in omega (arith, q, z)
-
-  pub mark-adds : Grows marks (set (set marks a 1) b 1) × MarkedAt (set (set marks a 1) b 1) p
-  mark-adds = (
-    λ i h. set-grows (set marks a 1) b room i (set-grows marks a (omega arith) i h),
-    (rw (← ea) (set-grows (set marks a 1) b room a first-set), rw (← eb) second-set),
-  )
-
-pub not-high : (marks : Words) (p : ℕ) {a : ℕ} → a ≡ highPlace p → {x : ℕ} → x ≡ wordAt marks a → x ≡ 0 → MarkedAt marks p → ⊥
+pub not-high : (marks : Words) (p : ℕ) {a : ℕ} → a ≡ highPlace p → {x : ℕ} → x ≡ bitAt marks a → x ≡ 0 → MarkedAt marks p → ⊥
 not-high marks p ea ex z m = m .0 (rw (← ea) (sym ex ∙ z))
 
-pub not-low : (marks : Words) (p : ℕ) {a : ℕ} → a ≡ lowPlace p → {x : ℕ} → x ≡ wordAt marks a → x ≡ 0 → MarkedAt marks p → ⊥
+pub not-low : (marks : Words) (p : ℕ) {a : ℕ} → a ≡ lowPlace p → {x : ℕ} → x ≡ bitAt marks a → x ≡ 0 → MarkedAt marks p → ⊥
 not-low marks p ea ex z m = m .1 (rw (← ea) (sym ex ∙ z))
 
 -- ---- marks that stay

@@ -4,7 +4,7 @@ use mathlib.Core.Path.{_≡_}
 use mathlib.Core.Bool.{Bool, false}
 use mathlib.Core.List.{List, [], _∷_}
 use mathlib.Core.Logic.{_≢_}
-use Prim.Native.Nat.{ℕ, _+_, _*_, _/_, _%_}
+use Prim.Native.Nat.{ℕ, _+_, _*_, _/_, _%_, _^_}
 use lib.ListN.{take}
 use Rattle.objects.specs.declared.TypeKey.{TypeKey}
 use Rattle.objects.specs.Bounds.{maxTypes}
@@ -12,6 +12,7 @@ use Rattle.objects.specs.Lists.{Bytes, In}
 use Rattle.objects.specs.Table.{Member, typeKey, objKey, membersOf, fieldsOf, kindAt}
 use Rattle.objects.specs.Rows.{Words, wordAt, typeWord, memberAt, membersFrom, tableOf}
 use Rattle.objects.specs.Types.{numberRead, firstRead}
+use Rattle.text.specs.Compare.{fourOf}
 use Rattle.rules.specs.Checks.{memberItem, clashing}
 
 -- ---- places of marks
@@ -27,6 +28,10 @@ half = 16_384
 abbrev pub allMarks : ℕ
 allMarks = 32_768
 
+-- words that hold them, 32 to a word
+abbrev pub bitWords : ℕ
+bitWords = 1_024
+
 -- numbers under which names are marked
 abbrev pub numbers : ℕ
 numbers = 512
@@ -39,10 +44,6 @@ fieldsNumber u = maxTypes + u % maxTypes
 unfoldable pub hashRest : ℕ → Bytes → ℕ
 hashRest h [] = h
 hashRest h (b ∷ l) = hashRest ((h + b) * 1_103_515 % hashes) l
-
--- four bytes as one number
-unfoldable pub fourOf : ℕ → ℕ → ℕ → ℕ → ℕ
-fourOf a b c d = a * 16_777_216 + b * 65_536 + c * 256 + d
 
 -- the hash of bytes four at a time, and what is left one at a time
 unfoldable pub hashFrom : ℕ → Bytes → ℕ
@@ -64,15 +65,19 @@ lowPlace p = half + (p + p / 65_536) % half
 
 -- ---- what is marked
 
+-- the bit of a place: 0 until it is marked
+unfoldable pub bitAt : Words → ℕ → ℕ
+bitAt marks i = wordAt marks (i / 32) / 2 ^ (i % 32) % 2
+
 abbrev pub MarkedAt : Words → ℕ → Type 0
-MarkedAt marks p = (wordAt marks (highPlace p) ≢ 0) × (wordAt marks (lowPlace p) ≢ 0)
+MarkedAt marks p = (bitAt marks (highPlace p) ≢ 0) × (bitAt marks (lowPlace p) ≢ 0)
 
 unfoldable pub Marked : Words → ℕ → Bytes → Type 0
 Marked marks k name = MarkedAt marks (placeOf k (hashFrom 0 name))
 
 -- no mark is taken back
 abbrev pub Grows : Words → Words → Type 0
-Grows marks after = (i : ℕ) → wordAt marks i ≢ 0 → wordAt after i ≢ 0
+Grows marks after = (i : ℕ) → bitAt marks i ≢ 0 → bitAt after i ≢ 0
 
 -- all of these members' names are marked
 abbrev pub AllMarked : Words → ℕ → List Member → Type 0

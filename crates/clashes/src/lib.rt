@@ -18,9 +18,8 @@ ghost use Rattle.rules.specs.Checks.{memberItem, items, lacking, ascends, clash
 ghost use Rattle.rules.specs.Stages.{firstLine, linesUnder};
 ghost use Rattle.references.specs.Lines.{linesRead};
 ghost use Rattle.clashes.specs.Known.{PackagedFrom, Packaged, Rising};
-ghost use Rattle.clashes.specs.Marks.{hashes, allMarks, placeOf, fieldsNumber, MarkedAt, Grows, Noted, Ready, Readied, Prepared, Seen, Looked};
+ghost use Rattle.clashes.specs.Marks.{hashes, bitWords, placeOf, fieldsNumber, MarkedAt, Grows, Noted, Ready, Readied, Prepared, Seen, Looked};
 use crate::marks::fields_number;
-use crate::marks::mark_at;
 use crate::marks::marked;
 use crate::marks::meet;
 use crate::marks::meet_all;
@@ -43,7 +42,7 @@ use text::bytes::or;
 
 pub mod marks; // which names were met
 
-const ALL_MARKS: usize = 32_768;
+const BIT_WORDS: usize = 1_024;
 
 const MAX_TYPES: usize = 256;
 
@@ -127,8 +126,8 @@ fn member_clashes(text: &[u8], rows: &[u32], t: TypeKey, i: u32) -> bool
 // ---- marks
 
 // The fields of u's struct are marked.
-fn meet_fields(text: &[u8], rows: &[u32], marks: &mut [u8], u: TypeKey)
-    requires { ⌜ Laid (now rows) × (u .0 < typeCount (now rows)) × (allMarks ≤ length (now marks)) ⌝ }
+fn meet_fields(text: &[u8], rows: &[u32], marks: &mut [u32], u: TypeKey)
+    requires { ⌜ Laid (now rows) × (u .0 < typeCount (now rows)) × (bitWords ≤ length (now marks)) ⌝ }
     ensures { λ _. ⌜ Noted (now (marks .entry)) (fieldsNumber (u .0)) (fieldsOf (kindAt (tableOf (now (text .entry)) (now (rows .entry))) u)) (now (marks .exit)) ⌝ }
 {
     if kind_number(rows, u) == 8 {
@@ -145,23 +144,23 @@ fn meet_fields(text: &[u8], rows: &[u32], marks: &mut [u8], u: TypeKey)
 }
 
 // They are, once for all named types.
-fn meet_once(text: &[u8], rows: &[u32], marks: &mut [u8], done: &mut [u8], u: TypeKey)
-    requires { ⌜ Laid (now rows) × (allMarks ≤ length (now marks)) × (maxTypes ≤ length (now done)) × Ready (now text) (now rows) (now marks) (now done) ⌝ }
+fn meet_once(text: &[u8], rows: &[u32], marks: &mut [u32], done: &mut [u8], u: TypeKey)
+    requires { ⌜ Laid (now rows) × (bitWords ≤ length (now marks)) × (maxTypes ≤ length (now done)) × Ready (now text) (now rows) (now marks) (now done) ⌝ }
     ensures { λ _. ⌜ Readied (now (text .entry)) (now (rows .entry)) u (now (marks .exit)) (now (done .exit)) ⌝ }
 {
     if type_count(rows) <= u.0 {
         return;
     }
     let at = u.0 as usize;
-    if mark_at(done, at) == 0 {
+    if done[at] == 0 {
         meet_fields(text, rows, marks, u);
         done[at] = 1;
     }
 }
 
 // Before the first member of t: the fields that a named type's methods have to differ from are marked.
-fn prepare(text: &[u8], rows: &[u32], marks: &mut [u8], done: &mut [u8], t: TypeKey)
-    requires { ⌜ Laid (now rows) × (allMarks ≤ length (now marks)) × (maxTypes ≤ length (now done)) × Ready (now text) (now rows) (now marks) (now done) ⌝ }
+fn prepare(text: &[u8], rows: &[u32], marks: &mut [u32], done: &mut [u8], t: TypeKey)
+    requires { ⌜ Laid (now rows) × (bitWords ≤ length (now marks)) × (maxTypes ≤ length (now done)) × Ready (now text) (now rows) (now marks) (now done) ⌝ }
     ensures { λ _. ⌜ Prepared (now (text .entry)) (now (rows .entry)) t (now (marks .exit)) (now (done .exit)) ⌝ }
 {
     if kind_number(rows, t) == 10 {
@@ -170,7 +169,7 @@ fn prepare(text: &[u8], rows: &[u32], marks: &mut [u8], done: &mut [u8], t: Type
 }
 
 // A field of t's struct may have the name of this hash, where t is a named type.
-fn field_marked(rows: &[u32], marks: &[u8], t: TypeKey, h: u64) -> bool
+fn field_marked(rows: &[u32], marks: &[u32], t: TypeKey, h: u64) -> bool
     requires { ⌜ h < hashes ⌝ }
     ensures { λ r. ⌜ (r ≡ false → numberRead (now (rows .entry)) t ≡ 10 → MarkedAt (now (marks .entry)) (placeOf (fieldsNumber (typeWord (now (rows .entry)) t 1)) h) → ⊥) ⌝ }
 {
@@ -184,8 +183,8 @@ fn field_marked(rows: &[u32], marks: &[u8], t: TypeKey, h: u64) -> bool
 // ---- the lines of a type
 
 // The line of member i under t clashes. It is compared only if its name was marked; the name is marked now, unless t is an interface.
-fn line_clashes(text: &[u8], rows: &[u32], marks: &mut [u8], t: TypeKey, i: u32) -> bool
-    requires { ⌜ Laid (now rows) × Packaged (now text) (now rows) × (t .0 < typeCount (now rows)) × (i < linesRead (now rows) t) × Rising (now text) (now rows) t i × (allMarks ≤ length (now marks)) × Seen (now text) (now rows) (now marks) t i ⌝ }
+fn line_clashes(text: &[u8], rows: &[u32], marks: &mut [u32], t: TypeKey, i: u32) -> bool
+    requires { ⌜ Laid (now rows) × Packaged (now text) (now rows) × (t .0 < typeCount (now rows)) × (i < linesRead (now rows) t) × Rising (now text) (now rows) t i × (bitWords ≤ length (now marks)) × Seen (now text) (now rows) (now marks) t i ⌝ }
     ensures { λ r. ⌜ Looked (now (text .entry)) (now (rows .entry)) (now (marks .entry)) t i r (now (marks .exit)) ⌝ }
 {
     if kind_number(rows, t) == 9 {
@@ -202,8 +201,8 @@ fn line_clashes(text: &[u8], rows: &[u32], marks: &mut [u8], t: TypeKey, i: u32)
     }
 }
 
-fn first_line(text: &[u8], rows: &[u32], marks: &mut [u8], t: TypeKey) -> Stage
-    requires { ⌜ Laid (now rows) × Packaged (now text) (now rows) × (t .0 < typeCount (now rows)) × (allMarks ≤ length (now marks)) × Seen (now text) (now rows) (now marks) t 0 ⌝ }
+fn first_line(text: &[u8], rows: &[u32], marks: &mut [u32], t: TypeKey) -> Stage
+    requires { ⌜ Laid (now rows) × Packaged (now text) (now rows) × (t .0 < typeCount (now rows)) × (bitWords ≤ length (now marks)) × Seen (now text) (now rows) (now marks) t 0 ⌝ }
     ensures { λ r. ⌜ found r ≡ firstLine (tableOf (now (text .entry)) (now (rows .entry))) (clashing (tableOf (now (text .entry)) (now (rows .entry)))) (linesUnder t (kindAt (tableOf (now (text .entry)) (now (rows .entry))) t)) ⌝ }
     ensures { λ _. ⌜ Grows (now (marks .entry)) (now (marks .exit)) ⌝ }
 {
@@ -219,8 +218,8 @@ fn first_line(text: &[u8], rows: &[u32], marks: &mut [u8], t: TypeKey) -> Stage
     Stage::Passed
 }
 
-fn first_clash(text: &[u8], rows: &[u32], marks: &mut [u8], done: &mut [u8], t: TypeKey) -> Stage
-    requires { ⌜ Laid (now rows) × Packaged (now text) (now rows) × (t .0 < typeCount (now rows)) × (allMarks ≤ length (now marks)) × (maxTypes ≤ length (now done)) × Ready (now text) (now rows) (now marks) (now done) ⌝ }
+fn first_clash(text: &[u8], rows: &[u32], marks: &mut [u32], done: &mut [u8], t: TypeKey) -> Stage
+    requires { ⌜ Laid (now rows) × Packaged (now text) (now rows) × (t .0 < typeCount (now rows)) × (bitWords ≤ length (now marks)) × (maxTypes ≤ length (now done)) × Ready (now text) (now rows) (now marks) (now done) ⌝ }
     ensures { λ r. ⌜ found r ≡ firstLine (tableOf (now (text .entry)) (now (rows .entry))) (clashing (tableOf (now (text .entry)) (now (rows .entry)))) (linesUnder t (kindAt (tableOf (now (text .entry)) (now (rows .entry))) t)) ⌝ }
     ensures { λ _. ⌜ Ready (now (text .entry)) (now (rows .entry)) (now (marks .exit)) (now (done .exit)) ⌝ }
 {
@@ -234,8 +233,8 @@ fn first_clash(text: &[u8], rows: &[u32], marks: &mut [u8], done: &mut [u8], t: 
 
 // ---- the whole table
 
-fn first_of(text: &[u8], rows: &[u32], marks: &mut [u8], done: &mut [u8]) -> Stage
-    requires { ⌜ Laid (now rows) × Packaged (now text) (now rows) × (allMarks ≤ length (now marks)) × (maxTypes ≤ length (now done)) × Ready (now text) (now rows) (now marks) (now done) ⌝ }
+fn first_of(text: &[u8], rows: &[u32], marks: &mut [u32], done: &mut [u8]) -> Stage
+    requires { ⌜ Laid (now rows) × Packaged (now text) (now rows) × (bitWords ≤ length (now marks)) × (maxTypes ≤ length (now done)) × Ready (now text) (now rows) (now marks) (now done) ⌝ }
     ensures { λ r. ⌜ found r ≡ firstLine (tableOf (now (text .entry)) (now (rows .entry))) (clashing (tableOf (now (text .entry)) (now (rows .entry)))) (items (tableOf (now (text .entry)) (now (rows .entry)))) ⌝ }
 {
     let n = type_count(rows);
@@ -258,7 +257,7 @@ pub fn clashing(text: &[u8], rows: &[u32]) -> Stage
     requires { ⌜ Laid (now rows) × (firstLine (tableOf (now text) (now rows)) (lacking (tableOf (now text) (now rows))) (items (tableOf (now text) (now rows))) ≡ none) ⌝ }
     ensures { λ r. ⌜ found r ≡ firstLine (tableOf (now (text .entry)) (now (rows .entry))) (clashing (tableOf (now (text .entry)) (now (rows .entry)))) (items (tableOf (now (text .entry)) (now (rows .entry)))) ⌝ }
 {
-    let mut marks = [0u8; ALL_MARKS];
+    let mut marks = [0u32; BIT_WORDS];
     let mut done = [0u8; MAX_TYPES];
     first_of(text, rows, &mut marks, &mut done)
 }

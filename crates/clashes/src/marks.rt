@@ -1,30 +1,20 @@
-// Marks for names (specs/Marks.antt): a byte is set where a name was met, so that a name without its mark is new and need not be compared.
+// Marks for names (specs/Marks.antt): two bits are set where a name was met, so that a name that lacks one of them is new and need not be compared.
 ghost use mathlib.Core.Path.{_≡_};
 ghost use mathlib.Core.Bool.{false};
-ghost use Prim.Native.Nat.{_+_, _<_, _≤_};
-ghost use lib.ListN.{length, getD, drop};
+ghost use mathlib.Core.Logic.{_≢_};
+ghost use Prim.Native.Nat.{_+_, _/_, _<_, _≤_};
+ghost use lib.ListN.{length, drop};
 ghost use Rattle.objects.specs.Bounds.{maxElements};
-ghost use Rattle.objects.specs.Rows.{wordAt, memberAt, membersFrom};
-ghost use Rattle.clashes.specs.Marks.{hashes, numbers, fieldsNumber, allMarks, hashRest, fourOf, hashFrom, placeOf, highPlace, lowPlace, MarkedAt, Grows, Met, Noted};
+ghost use Rattle.objects.specs.Rows.{memberAt, membersFrom};
+ghost use Rattle.clashes.specs.Marks.{hashes, numbers, fieldsNumber, allMarks, bitWords, hashRest, hashFrom, placeOf, highPlace, lowPlace, bitAt, MarkedAt, Grows, Met, Noted};
 use objects::ObjKey;
 use objects::rows::member_word;
+use objects::rows::word;
 use text::bytes::wide;
+use text::compare::four;
 use text::compare::span;
 
 // ---- places
-
-// Four bytes as one number.
-fn four(s: &[u8], i: usize) -> u64
-    requires { ⌜ i + 4 ≤ length (now s) ⌝ }
-    ensures { λ r. ⌜ r ≡ fourOf (getD (now (s .entry)) i 0) (getD (now (s .entry)) (i + 1) 0) (getD (now (s .entry)) (i + 2) 0) (getD (now (s .entry)) (i + 3) 0) ⌝ }
-    ensures { λ r. ⌜ r < hashes ⌝ }
-{
-    let a = wide(s[i]);
-    let b = wide(s[i + 1]);
-    let c = wide(s[i + 2]);
-    let d = wide(s[i + 3]);
-    a * 16_777_216 + b * 65_536 + c * 256 + d
-}
 
 // The hash of the bytes from a place on, one at a time.
 fn hash_rest(name: &[u8], at: usize, before: u64) -> u64
@@ -100,39 +90,47 @@ fn low(p: u64) -> usize
 
 // ---- marks
 
-pub fn mark_at(marks: &[u8], i: usize) -> u64
-    ensures { λ r. ⌜ r ≡ wordAt (now (marks .entry)) i ⌝ }
+// The mark at a place, a bit of its word: 0 until it is set.
+fn bit(marks: &[u32], i: usize) -> u32
+    ensures { λ r. ⌜ r ≡ bitAt (now (marks .entry)) i ⌝ }
 {
-    if i < marks.len() { wide(marks[i]) } else { 0 }
+    (word(marks, i / 32) >> (i % 32)) % 2
+}
+
+// Sets that mark. The others of the word stay, and it stays if it was set.
+fn set_bit(marks: &mut [u32], i: usize)
+    requires { ⌜ i / 32 < length (now marks) ⌝ }
+    ensures { λ _. ⌜ Grows (now (marks .entry)) (now (marks .exit)) × (bitAt (now (marks .exit)) i ≢ 0) ⌝ }
+{
+    let w = marks[i / 32];
+    marks[i / 32] = w | (1u32 << (i % 32));
 }
 
 // Whether the place has its two marks.
-pub fn marked(marks: &[u8], p: u64) -> bool
+pub fn marked(marks: &[u32], p: u64) -> bool
     requires { ⌜ p < hashes ⌝ }
     ensures { λ r. ⌜ (r ≡ false → MarkedAt (now (marks .entry)) p → ⊥) ⌝ }
 {
-    if mark_at(marks, high(p)) == 0 {
+    if bit(marks, high(p)) == 0 {
         return false;
     }
-    if mark_at(marks, low(p)) == 0 {
+    if bit(marks, low(p)) == 0 {
         return false;
     }
     true
 }
 
-fn mark(marks: &mut [u8], p: u64)
-    requires { ⌜ (allMarks ≤ length (now marks)) × (p < hashes) ⌝ }
+fn mark(marks: &mut [u32], p: u64)
+    requires { ⌜ (bitWords ≤ length (now marks)) × (p < hashes) ⌝ }
     ensures { λ _. ⌜ Grows (now (marks .entry)) (now (marks .exit)) × MarkedAt (now (marks .exit)) p ⌝ }
 {
-    let a = high(p);
-    let b = low(p);
-    marks[a] = 1;
-    marks[b] = 1;
+    set_bit(marks, high(p));
+    set_bit(marks, low(p));
 }
 
 // The place is marked. Answers whether it was before.
-pub fn meet(marks: &mut [u8], p: u64) -> bool
-    requires { ⌜ (allMarks ≤ length (now marks)) × (p < hashes) ⌝ }
+pub fn meet(marks: &mut [u32], p: u64) -> bool
+    requires { ⌜ (bitWords ≤ length (now marks)) × (p < hashes) ⌝ }
     ensures { λ r. ⌜ Met (now (marks .entry)) p (now (marks .exit)) r ⌝ }
 {
     let before = marked(marks, p);
@@ -141,8 +139,8 @@ pub fn meet(marks: &mut [u8], p: u64) -> bool
 }
 
 // The names of n members from a first one on are marked under a number.
-pub fn meet_all(text: &[u8], rows: &[u32], marks: &mut [u8], k: u32, first: u32, n: u32)
-    requires { ⌜ (allMarks ≤ length (now marks)) × (k < numbers) × (first + n ≤ maxElements) ⌝ }
+pub fn meet_all(text: &[u8], rows: &[u32], marks: &mut [u32], k: u32, first: u32, n: u32)
+    requires { ⌜ (bitWords ≤ length (now marks)) × (k < numbers) × (first + n ≤ maxElements) ⌝ }
     ensures { λ _. ⌜ Noted (now (marks .entry)) k (membersFrom (now (text .entry)) (now (rows .entry)) first n) (now (marks .exit)) ⌝ }
 {
     let mut i: u32 = 0;

@@ -8,7 +8,7 @@ use native.Mathlib.Omega.{arith}
 use lib.Dec.{eqb, leb}
 use lib.ListN.{length, getD, take, drop, take-append-drop}
 use lib.Seq.{take-all}
-use borrow.Author.Tests.{eqb-true, leb-true}
+use borrow.Author.Tests.{eqb-true, leb-true, leb-false}
 use Rattle.objects.specs.Lists.{Bytes, every}
 use Rattle.objects.proofs.ListLaws.{cases, clash, or-true}
 use Rattle.text.specs.Bytes.{between, isCapital, isNameByte}
@@ -56,6 +56,10 @@ small-letter b p e = rw (sym p ∙ e, or-true (isCapital b))
 pub stop-short : (s : Bytes) (end : ℕ) {stop : ℕ} → stop ≡ stopAt s end → stop ≤ length s
 unfolding stopAt
 stop-short s end p = cases (leb end (length s)) (λ e. let l = leb-true end (length s) e in rw (p, e) l) (λ e. rw (p, e) (omega arith))
+
+pub stop-before : (s : Bytes) (end : ℕ) {stop : ℕ} → stop ≡ stopAt s end → stop ≤ end
+unfolding stopAt
+stop-before s end p = cases (leb end (length s)) (λ e. rw (p, e) (omega arith)) (λ e. let l = leb-false end (length s) e in rw (p, e) (omega arith))
 
 module _ (s : Bytes) (i sep : ℕ) where
   -- the run goes on to i + k

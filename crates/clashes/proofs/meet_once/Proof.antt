@@ -1,5 +1,7 @@
 -- `clashes::meet_once` meets its contract.
+use mathlib.Core.Path.{refl}
 use native.Mathlib.Omega.{arith}
+use Rattle.objects.specs.Rows.{wordAt}
 use Rattle.clashes.proofs.SeenLaws.{readied-beyond, readied-before, readied-now}
 use borrow.Author.Needs.{needs}
 use Rattle.clashes.proofs.meet_once.Statement.{statement}
@@ -14,14 +16,14 @@ returns c = readied-beyond (c .before .before .before .before .before .before .b
 cast-at : tie.Need-cast-at
 cast-at c = search needs
 
-mark-at-requires : tie.Need-mark-at-requires
-mark-at-requires c κs = search needs
+slice-read-if2 : tie.Need-slice-read-if2
+slice-read-if2 c = omega (arith, (c .before .before .before .before .before .before .before .before .before .pre .2), (c .before .before .before .before .before .before .before .before .before .pre .0) .types, (c .before .before .before .before .type-count .ensures), (c .before .before .if1 .left))
 
 meet-fields-requires : tie.Need-meet-fields-requires
-meet-fields-requires c κs = ((c .before .before .before .before .before .before .before .before .before .before .before .before .pre .0), rw (c .before .before .before .before .before .before .before .type-count .ensures) at (c .before .before .before .before .before .if1 .left), (c .before .before .before .before .before .before .before .before .before .before .before .before .pre .1))
+meet-fields-requires c κs = ((c .before .before .before .before .before .before .before .before .before .before .before .pre .0), rw (c .before .before .before .before .before .before .type-count .ensures) at (c .before .before .before .before .if1 .left), (c .before .before .before .before .before .before .before .before .before .before .before .pre .1))
 
 slice-write-done : tie.Need-slice-write-done
-slice-write-done c = omega (arith, (c .before .before .before .before .before .before .before .before .before .before .before .before .before .before .before .pre .2), (c .before .before .before .before .before .before .before .before .before .before .before .before .before .before .before .pre .0) .types, (c .before .before .before .before .before .before .before .before .before .before .type-count .ensures), (c .before .before .before .before .before .before .before .before .if1 .left))
+slice-write-done c = omega (arith, (c .before .before .before .before .before .before .before .before .before .before .before .before .before .before .pre .2), (c .before .before .before .before .before .before .before .before .before .before .before .before .before .before .pre .0) .types, (c .before .before .before .before .before .before .before .before .before .type-count .ensures), (c .before .before .before .before .before .before .before .if1 .left))
 
 same-length : tie.Need-same-length
 same-length c = search needs
@@ -30,13 +32,11 @@ same-length-2 : tie.Need-same-length-2
 same-length-2 c = search needs
 
 returns-2 : tie.Need-returns-2
-returns-2 c = readied-now (c .before .before .before .before .before .before .before .before .before .before .before .before .before .before .before .args .text .now) (c .before .before .before .before .before .before .before .before .before .before .before .before .before .before .before .args .rows .now) (c .before .before .before .before .before .before .before .before .before .before .before .before .before .before .before .args .u) _ _ _ (c .before .before .before .before .before .before .before .before .before .before .before .before .before .before .before .pre .3) (c .before .before .meet-fields .ensures)
-
-same-length-3 : tie.Need-same-length-3
-same-length-3 c = search needs
+returns-2 c = readied-now (c .before .before .before .before .before .before .before .before .before .before .before .before .before .before .args .text .now) (c .before .before .before .before .before .before .before .before .before .before .before .before .before .before .args .rows .now) (c .before .before .before .before .before .before .before .before .before .before .before .before .before .before .args .u) _ _ _ (c .before .before .before .before .before .before .before .before .before .before .before .before .before .before .pre .3) (c .before .before .meet-fields .ensures)
 
 returns-3 : tie.Need-returns-3
-returns-3 c = readied-before (c .before .before .before .before .before .before .before .before .before .before .before .args .text .now) (c .before .before .before .before .before .before .before .before .before .before .before .args .rows .now) (c .before .before .before .before .before .before .before .before .before .before .before .args .u) _ _ (c .before .before .before .before .before .before .before .before .before .before .before .pre .3) (c .before .mark-at .ensures) (c .if2 .left)
+unfolding wordAt
+returns-3 c = readied-before (c .before .before .before .before .before .before .before .before .before .before .args .text .now) (c .before .before .before .before .before .before .before .before .before .before .args .rows .now) (c .before .before .before .before .before .before .before .before .before .before .args .u) _ _ (c .before .before .before .before .before .before .before .before .before .before .pre .3) refl (c .if2 .left)
 
 pub meet-once-spec : {M : Type 1} → statement M
 meet-once-spec =
@@ -45,11 +45,10 @@ meet-once-spec =
     type-count-requires
     returns
     cast-at
-    mark-at-requires
+    slice-read-if2
     meet-fields-requires
     slice-write-done
     same-length
     same-length-2
     returns-2
-    same-length-3
     returns-3)

@@ -1,6 +1,5 @@
 -- `clashes::marks::mark` meets its contract.
 use native.Mathlib.Omega.{arith}
-use lib.ListN.{length-set}
 use Rattle.clashes.proofs.MarkLaws.{mark-adds}
 use borrow.Author.Needs.{needs}
 use Rattle.clashes.proofs.marks.mark.Statement.{statement}
@@ -9,28 +8,28 @@ use Rattle.clashes.proofs.marks.mark.Tie as tie
 high-requires : tie.Need-high-requires
 high-requires c κs = search needs
 
+set-bit-requires : tie.Need-set-bit-requires
+set-bit-requires c κs = omega (arith, (c .before .before .before .pre .0), (c .high .ensures .1))
+
 low-requires : tie.Need-low-requires
 low-requires c κs = search needs
 
-slice-write-marks : tie.Need-slice-write-marks
-slice-write-marks c = omega (arith, (c .before .before .before .pre .0), (c .before .high .ensures .1))
-
-slice-write-marks-2 : tie.Need-slice-write-marks-2
-slice-write-marks-2 c = simp length-set (omega (arith, (c .before .before .before .pre .0), (c .low .ensures .1)))
+set-bit-requires-2 : tie.Need-set-bit-requires-2
+set-bit-requires-2 c κs = omega (arith, (c .before .before .before .before .before .before .before .before .pre .0), (c .low .ensures .1), (c .before .before .before .before .set-bit .kept .0))
 
 same-length : tie.Need-same-length
-same-length c = simp length-set
+same-length c = search needs
 
 returns : tie.Need-returns
-returns c = mark-adds (c .before .before .before .args .marks .now) (c .before .before .before .args .p) (c .before .before .before .pre .0) (c .before .high .ensures .0) (c .before .high .ensures .1) (c .low .ensures .0) (c .low .ensures .1)
+returns c = mark-adds _ _ _ (c .before .before .before .before .before .before .before .before .before .before .before .args .p) (c .before .before .before .before .before .before .before .before .high .ensures .0) (c .before .before .before .low .ensures .0) (c .before .before .before .before .before .before .before .set-bit .ensures .0) (c .before .before .before .before .before .before .before .set-bit .ensures .1) (c .before .before .set-bit2 .ensures .0) (c .before .before .set-bit2 .ensures .1)
 
 pub mark-spec : {M : Type 1} → statement M
 mark-spec =
     tie.close
     (tie.spec
     high-requires
+    set-bit-requires
     low-requires
-    slice-write-marks
-    slice-write-marks-2
+    set-bit-requires-2
     same-length
     returns)

@@ -9,20 +9,20 @@ use Rattle.clashes.proofs.marks.marked.Tie as tie
 high-requires : tie.Need-high-requires
 high-requires c κs = search needs
 
-mark-at-requires : tie.Need-mark-at-requires
-mark-at-requires c κs = search needs
+bit-requires : tie.Need-bit-requires
+bit-requires c κs = search needs
 
 returns : tie.Need-returns
-returns c = λ _. not-high _ _ (c .before .before .high .ensures .0) (c .before .mark-at .ensures) (c .if1 .taken)
+returns c = λ _. not-high _ _ (c .before .before .high .ensures .0) (c .before .bit .ensures) (c .if1 .taken)
 
 low-requires : tie.Need-low-requires
 low-requires c κs = search needs
 
-mark-at-requires-2 : tie.Need-mark-at-requires-2
-mark-at-requires-2 c κs = search needs
+bit-requires-2 : tie.Need-bit-requires-2
+bit-requires-2 c κs = search needs
 
 returns-2 : tie.Need-returns-2
-returns-2 c = λ _. not-low _ _ (c .before .before .low .ensures .0) (c .before .mark-at2 .ensures) (c .if2 .taken)
+returns-2 c = λ _. not-low _ _ (c .before .before .low .ensures .0) (c .before .bit2 .ensures) (c .if2 .taken)
 
 returns-3 : tie.Need-returns-3
 returns-3 c = λ e. clash refl e
@@ -32,9 +32,9 @@ marked-spec =
     tie.close
     (tie.spec
     high-requires
-    mark-at-requires
+    bit-requires
     returns
     low-requires
-    mark-at-requires-2
+    bit-requires-2
     returns-2
     returns-3)

@@ -1,59 +1,50 @@
--- `text::compare::same` meets its contract. The invariant: the texts are the same if they are from `i` on. The measure is what is left of the first.
-use mathlib.Core.Path.{_≡_, refl, sym, _∙_}
+-- `text::compare::same` meets its contract.
+use mathlib.Core.Path.{sym}
 use Prim.Native.Nat.{_-_}
 use native.Mathlib.Omega.{arith}
-use lib.ListN.{length, drop}
-use Rattle.text.specs.Bytes.{sameBytes}
-use Rattle.text.proofs.CompareLaws.{same-length, same-end, same-next, same-not}
+use lib.ListN.{length}
+use Rattle.text.proofs.CompareLaws.{same-length, same-not, same-all}
 use borrow.Author.Needs.{needs}
 use Rattle.text.proofs.compare.same.Statement.{statement}
 use Rattle.text.proofs.compare.same.Tie as tie
 
-abbrev Inv-loop : tie.InvT-loop
-Inv-loop a b i₀ i = sameBytes a b ≡ sameBytes (drop i a) (drop i b)
+returns : tie.Need-returns
+returns c = sym (same-length (c .before .before .before .args .a .now) (c .before .before .before .args .b .now) (c .if1 .taken))
 
-abbrev μ-loop : tie.MeasureT-loop
-μ-loop a b i₀ i = length a - i
+returns-2 : tie.Need-returns-2
+returns-2 c = sym (same-all (c .before .before .before .before .args .a .now) (c .before .before .before .before .args .b .now) (c .before .if1 .left) (λ k l. absurd (omega (arith, l, (c .if2 .taken)))))
 
-returns : tie.Need-returns Inv-loop μ-loop
-returns c = sym (same-length (c .before .args .a .now) (c .before .args .b .now) (c .if1 .taken))
+sub-if3 : tie.Need-sub-if3
+sub-if3 c = search needs
 
-loop-holds : tie.Need-loop-holds Inv-loop μ-loop
-loop-holds c = refl
+shared-slice-read-if3 : tie.Need-shared-slice-read-if3
+shared-slice-read-if3 c = search needs
 
-shared-slice-read-if2 : tie.Need-shared-slice-read-if2 Inv-loop μ-loop
-shared-slice-read-if2 c = search needs
+sub-if3-2 : tie.Need-sub-if3-2
+sub-if3-2 c = search needs
 
-shared-slice-read-if2-2 : tie.Need-shared-slice-read-if2-2 Inv-loop μ-loop
-shared-slice-read-if2-2 c = search needs
+shared-slice-read-if3-2 : tie.Need-shared-slice-read-if3-2
+shared-slice-read-if3-2 c = search needs
 
-returns-2 : tie.Need-returns-2 Inv-loop μ-loop
-returns-2 c = sym ((c .before .before .before .before .loop .inv) ∙ same-not (c .before .before .before .before .before .before .args .a .now) (c .before .before .before .before .before .before .args .b .now) (c .before .before .before .before .loop .i) (c .before .before .before .loop-test .taken) (omega arith) (c .if2 .taken))
+returns-3 : tie.Need-returns-3
+returns-3 c = sym (same-not (c .before .before .before .before .before .before .before .args .a .now) (c .before .before .before .before .before .before .before .args .b .now) (length (c .before .before .before .before .before .before .before .args .a .now) - 1) (c .if3 .taken))
 
-add-i : tie.Need-add-i Inv-loop μ-loop
-add-i c = search needs
+same-bytes-requires : tie.Need-same-bytes-requires
+same-bytes-requires c κs = (c .before .before .before .before .if1 .left)
 
-loop-less : tie.Need-loop-less Inv-loop μ-loop
-loop-less c = search needs
-
-loop-again : tie.Need-loop-again Inv-loop μ-loop
-loop-again c = (c .before .before .before .before .loop .inv) ∙ same-next (c .before .before .before .before .before .before .args .a .now) (c .before .before .before .before .before .before .args .b .now) (c .before .before .before .before .loop .i) (c .before .before .before .loop-test .taken) (omega arith) (c .if2 .left)
-
-returns-3 : tie.Need-returns-3 Inv-loop μ-loop
-returns-3 c = sym ((c .before .loop .inv) ∙ same-end (c .before .before .before .args .a .now) (c .before .before .before .args .b .now) (c .before .loop .i) (c .before .before .if1 .left) (c .loop-test .left))
+returns-4 : tie.Need-returns-4
+returns-4 c = (c .same-bytes .ensures)
 
 pub same-spec : {M : Type 1} → statement M
 same-spec =
     tie.close
     (tie.spec
-    Inv-loop
-    μ-loop
     returns
-    loop-holds
-    shared-slice-read-if2
-    shared-slice-read-if2-2
     returns-2
-    add-i
-    loop-less
-    loop-again
-    returns-3)
+    sub-if3
+    shared-slice-read-if3
+    sub-if3-2
+    shared-slice-read-if3-2
+    returns-3
+    same-bytes-requires
+    returns-4)

@@ -1,10 +1,10 @@
--- `clashes::marks::four` meets its contract.
+-- `text::compare::four` meets its contract.
 use Prim.Native.Nat.{_+_}
 use native.Mathlib.Omega.{arith}
-use Rattle.clashes.proofs.MarkLaws.{four-is}
+use Rattle.text.proofs.CompareLaws.{four-is}
 use borrow.Author.Needs.{needs}
-use Rattle.clashes.proofs.marks.four.Statement.{statement}
-use Rattle.clashes.proofs.marks.four.Tie as tie
+use Rattle.text.proofs.compare.four.Statement.{statement}
+use Rattle.text.proofs.compare.four.Tie as tie
 
 shared-slice-read-wide : tie.Need-shared-slice-read-wide
 shared-slice-read-wide c = omega (arith, (c .before .before .pre))
