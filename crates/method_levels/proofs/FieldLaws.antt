@@ -130,6 +130,9 @@ module _ (text : Bytes) (rows : Words) (lib : Library text rows) where
         target-in : v .0 < size T
         target-in = subst (λ x. x .0 < size T) (bare-read text rows ty (in-rows type-in) ∙ sym pv) (bare-in T sound ty type-in)
 
+        pub target-rows : v .0 < typeCount rows
+        target-rows = in-rows target-in
+
         pub target-small : v .0 < maxTypes
         target-small = let a = target-in in let b = size-small in omega (arith, a, b)
 

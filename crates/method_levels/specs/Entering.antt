@@ -38,10 +38,6 @@ fieldAt text rows place m = record { place = place; member = memberAt text rows 
 
 -- ---- what it writes
 
--- the first n words are 0
-abbrev pub Clear : Words → ℕ → Type 0
-Clear next n = (j : ℕ) → j < n → wordAt next j ≡ 0
-
 -- as many more at v
 unfoldable pub nextPut : Words → TypeKey → ℕ → Words
 nextPut next v count = set next (v .0) (upToTwo (wordAt next (v .0) + count))

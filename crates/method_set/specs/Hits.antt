@@ -89,6 +89,6 @@ isGiven sels k = eqb (selWord sels (objKey k) 0) 2
 unfoldable pub pushed : Bool → Words → ℕ → ℕ → Words
 pushed has given r k = cond has (set given r k) given
 
--- the first n words are those of another list
-pub record Copied (words : Words) (n : ℕ) (copy : Words) : Type 0 where
-  pub same : (i : ℕ) → i < n → wordAt copy i ≡ wordAt words i
+-- the words are those of another list
+pub record Copied (words copy : Words) : Type 0 where
+  pub same : (i : ℕ) → wordAt copy i ≡ wordAt words i

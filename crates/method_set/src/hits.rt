@@ -7,9 +7,11 @@ ghost use Rattle.objects.specs.Bounds.{maxTypes, selRow, selWords};
 ghost use Rattle.objects.specs.Rows.{wordAt, typeCount, memberCountOf};
 ghost use Rattle.objects.specs.Types.{underRead, firstRead, totalRead};
 ghost use Rattle.objects.specs.Laid.{Laid};
+ghost use Rattle.method_levels.specs.Levels.{Spans};
 ghost use Rattle.method_set.specs.Hits.{standsAfter, isSettled, flagAt, hit, named, members, membersIf, owned, atType, atTypes, Small, Under};
 use crate::words::put_row;
 use crate::words::sel_word;
+use method_levels::Span;
 use method_levels::next_reached;
 use objects::ObjKey;
 use objects::TypeKey;
@@ -20,7 +22,6 @@ use objects::rows::is_method;
 use objects::rows::kind_number;
 use objects::rows::member_total;
 use objects::rows::named_at;
-use objects::rows::type_count;
 use objects::rows::under;
 use objects::rows::word;
 
@@ -227,21 +228,23 @@ fn at_type(
     owned(rows, level, first, stamp, index, u, sels);
 }
 
+// Types outside the span of the level hit nothing.
 pub fn at_types(
     rows: &[u32],
     level: &[u32],
+    span: Span,
     first: &[u32],
     stamp: u32,
     index: &[u32],
     sels: &mut [u32],
 )
-    requires { ⌜ Laid (now rows) × Small (now rows) (now index) × Under (now rows) × (maxTypes ≤ length (now level)) × (selWords ≤ length (now sels)) ⌝ }
+    requires { ⌜ Laid (now rows) × Small (now rows) (now index) × Under (now rows) × (maxTypes ≤ length (now level)) × (selWords ≤ length (now sels)) × Spans (now level) (typeCount (now rows)) span × (span .lo < span .hi) ⌝ }
     ensures { λ _. ⌜ now (sels .exit) ≡ atTypes (now (rows .entry)) (now (level .entry)) (now (first .entry)) stamp (now (index .entry)) (typeCount (now (rows .entry))) (now (sels .entry)) ⌝ }
 {
-    let n = type_count(rows);
-    let mut u = next_reached(level, 0, n);
-    while u < n {
+    let hi = span.hi;
+    let mut u = next_reached(level, span.lo, hi);
+    while u < hi {
         at_type(rows, level, first, stamp, index, TypeKey(u), sels);
-        u = next_reached(level, u + 1, n);
+        u = next_reached(level, u + 1, hi);
     }
 }
