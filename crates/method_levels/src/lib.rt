@@ -282,19 +282,20 @@ pub fn next_reached(level: &[u32], from: u32, n: u32) -> u32
     u
 }
 
-// The level after one more step, in words that are all 0 before. Answers its span, which is empty only if the level has no walk.
+// The level after one more step, in words that are all 0 before; those of the level itself are 0 after. Answers the span of the next level, which is empty
+// only if that level has no walk.
 pub fn below(
     text: &[u8],
     rows: &[u32],
     t: TypeKey,
     d: u32,
-    level: &[u32],
     span: Span,
+    level: &mut [u32],
     next: &mut [u32],
     first: &mut [u32],
 ) -> Span
     requires { ⌜ Library (now text) (now rows) × (t .0 < typeCount (now rows)) × (d < maxTypes) × OnLevel (tableOf (now text) (now rows)) t d (now level) (now first) × (maxTypes ≤ length (now level)) × (maxTypes ≤ length (now next)) × (firstWords ≤ length (now first)) × Spans (now level) (typeCount (now rows)) span × (span .lo < span .hi) × Blank (now next) ⌝ }
-    ensures { λ r. ⌜ OnLevel (tableOf (now (text .entry)) (now (rows .entry))) t (suc d) (now (next .exit)) (now (first .exit)) × Spans (now (next .exit)) (typeCount (now (rows .entry))) r × (r .hi ≤ r .lo → levelAt (tableOf (now (text .entry)) (now (rows .entry))) t (suc d) .walks ≡ []) ⌝ }
+    ensures { λ r. ⌜ OnLevel (tableOf (now (text .entry)) (now (rows .entry))) t (suc d) (now (next .exit)) (now (first .exit)) × Spans (now (next .exit)) (typeCount (now (rows .entry))) r × Blank (now (level .exit)) × (r .hi ≤ r .lo → levelAt (tableOf (now (text .entry)) (now (rows .entry))) t (suc d) .walks ≡ []) ⌝ }
 {
     let hi = span.hi;
     let mut s = Span {
@@ -303,16 +304,9 @@ pub fn below(
     };
     let mut u = next_reached(level, span.lo, hi);
     while u < hi {
-        s = from_type(
-            text,
-            rows,
-            d,
-            TypeKey(u),
-            word(level, u as usize),
-            s,
-            next,
-            first,
-        );
+        let count = word(level, u as usize);
+        s = from_type(text, rows, d, TypeKey(u), count, s, next, first);
+        level[u as usize] = 0;
         u = next_reached(level, u + 1, hi);
     }
     s

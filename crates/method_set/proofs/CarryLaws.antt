@@ -21,25 +21,6 @@ one-more P i a b j l = cases (eqb j i) (λ e. a j (eqb-true j i e)) (λ e. let n
 below-or-past : (P : ℕ → Type 0) (i : ℕ) → ((j : ℕ) → j < i → P j) → ((j : ℕ) → i ≤ j → P j) → (j : ℕ) → P j
 below-or-past P i a b j = cases (ltb j i) (λ e. a j (ltb-true j i e)) (λ e. b j (ltb-false j i e))
 
--- ---- a level becomes 0
-
--- the words below i are 0, and those from hi on
-pub record Clearing (hi i : ℕ) (level : Words) : Type 0 where
-  pub done : (j : ℕ) → j < i → wordAt level j ≡ 0
-  pub past : (j : ℕ) → hi ≤ j → wordAt level j ≡ 0
-
-pub clear-start : (level : Words) (n : ℕ) (s : Span) → Spans level n s → Clearing (s .hi) (s .lo) level
-clear-start level n s sp = record { done = sp .before; past = sp .past }
-
-pub clear-more : (level : Words) (hi i : ℕ) → i < length level → i < hi → Clearing hi i level → Clearing hi (i + 1) (set level i 0)
-clear-more level hi i l h c = record {
-  done = one-more (λ j. wordAt (set level i 0) j ≡ 0) i (λ j e. rw e (word-put level i 0 l)) (λ j ne g. word-kept level i 0 j ne ∙ c .done j g);
-  past = λ j g. word-kept level i 0 j (λ e. omega arith) ∙ c .past j g;
-}
-
-pub clear-end : (level : Words) (hi i : ℕ) → hi ≤ i → Clearing hi i level → Blank level
-clear-end level hi i l c = record { none = below-or-past (λ j. wordAt level j ≡ 0) i (c .done) (λ j g. c .past j (omega arith)) }
-
 -- ---- a level goes over into words that are 0
 
 -- the words below i have gone over, those from i on have not

@@ -28,6 +28,10 @@ isSettled sels k stamp = not (eqb (selWord sels k 0) 0) && not (eqb (selWord sel
 unfoldable pub flagAt : Words → Words → TypeKey → ℕ
 flagAt rows first u = cond (ifaceRead rows u) 1 (firstWord first u 2)
 
+-- the kinds whose members stand under a type: struct and iface
+unfoldable pub hasParts : ℕ → Bool
+hasParts kind = eqb kind 8 || eqb kind 9
+
 module _ (rows level first : Words) (stamp : ℕ) where
   unfoldable pub rowAfter : (u : TypeKey) (place : ℕ) (m k : ObjKey) → Words → List ℕ
   rowAfter u place m k sels =

@@ -15,19 +15,6 @@ use method_levels::below;
 use objects::TypeKey;
 use objects::rows::type_count;
 
-// The words of a level that has this span become 0.
-fn clear(level: &mut [u32], span: Span, n: u32)
-    requires { ⌜ Spans (now level) n span × (n ≤ length (now level)) ⌝ }
-    ensures { λ _. ⌜ Blank (now (level .exit)) ⌝ }
-{
-    let hi = span.hi;
-    let mut i = span.lo;
-    while i < hi {
-        level[i as usize] = 0;
-        i += 1;
-    }
-}
-
 // The words of a level that has this span, put where all words are 0; they become 0 themselves.
 fn carry(next: &mut [u32], span: Span, n: u32, level: &mut [u32])
     requires { ⌜ Spans (now next) n span × Blank (now level) × (n ≤ length (now next)) × (n ≤ length (now level)) ⌝ }
@@ -57,8 +44,7 @@ fn advance(
     ensures { λ r. ⌜ OnLevel (tableOf (now (text .entry)) (now (rows .entry))) t (suc d) (now (level .exit)) (now (first .exit)) × Spans (now (level .exit)) (typeCount (now (rows .entry))) r × Blank (now (next .exit)) × (r .hi ≤ r .lo → levelAt (tableOf (now (text .entry)) (now (rows .entry))) t (suc d) .walks ≡ []) ⌝ }
 {
     let n = type_count(rows);
-    let s = below(text, rows, t, d, level, span, next, first);
-    clear(level, span, n);
+    let s = below(text, rows, t, d, span, level, next, first);
     carry(next, s, n, level);
     s
 }
