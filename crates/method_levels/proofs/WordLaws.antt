@@ -12,7 +12,7 @@ use borrow.Author.Tests.{ne-eqb, eqb-true, eqb-false, ltb-true, ltb-false}
 use Rattle.objects.specs.declared.TypeKey.{TypeKey}
 use Rattle.objects.specs.Table.{typeKey}
 use Rattle.objects.specs.Rows.{Words, wordAt}
-use Rattle.objects.specs.Types.{numberRead, underRead, namedRead, pointerRead, totalRead}
+use Rattle.objects.specs.Types.{numberRead, namedRead, pointerRead, totalRead}
 use Rattle.objects.proofs.ListLaws.{cases}
 use Rattle.method_levels.specs.Levels.{upToTwo, firstWord, placesTo, Between, FirstFrom}
 use Rattle.method_levels.specs.Entering.{fieldTotal, barredRead, flagRead, nextPut, rowPut, firstPut}
@@ -77,14 +77,14 @@ module _ (first : Words) (v : TypeKey) (a b f l : ℕ) {s : ℕ} (p : s ≡ firs
 
 -- ---- the number of fields
 
-module _ (rows : Words) (u : TypeKey) {s : TypeKey} (p : s ≡ underRead rows u) {k : ℕ} (q : k ≡ numberRead rows s) where
-  pub total-struct : k ≡ 8 → {r : ℕ} → r ≡ totalRead rows s → r ≡ fieldTotal rows u
+module _ (rows : Words) (s : TypeKey) {k : ℕ} (q : k ≡ numberRead rows s) where
+  pub total-struct : k ≡ 8 → {r : ℕ} → r ≡ totalRead rows s → r ≡ fieldTotal rows s
   unfolding fieldTotal
-  total-struct e h = h ∙ sym (rw (← p, ← q, e))
+  total-struct e h = h ∙ sym (rw (← q, e))
 
-  pub total-none : (k ≡ 8 → ⊥) → 0 ≡ fieldTotal rows u
+  pub total-none : (k ≡ 8 → ⊥) → 0 ≡ fieldTotal rows s
   unfolding fieldTotal
-  total-none e = sym (rw (← p, ← q, ne-eqb k 8 e))
+  total-none e = sym (rw (← q, ne-eqb k 8 e))
 
 -- ---- the first type from one on
 

@@ -181,10 +181,10 @@ fn step_field(
 
 // ---- the next level
 
-fn field_total(rows: &[u32], u: TypeKey) -> u32
-    ensures { λ r. ⌜ r ≡ fieldTotal (now (rows .entry)) u ⌝ }
+// How many fields s has, if it is a struct.
+fn field_total(rows: &[u32], s: TypeKey) -> u32
+    ensures { λ r. ⌜ r ≡ fieldTotal (now (rows .entry)) s ⌝ }
 {
-    let s = under(rows, u);
     if kind_number(rows, s) == 8 {
         member_total(rows, s)
     } else {
@@ -206,12 +206,14 @@ fn from_type(
     requires { ⌜ Library (now text) (now rows) × (u .0 < typeCount (now rows)) × (d < maxTypes) × (0 < count) × (maxTypes ≤ length (now next)) × (firstWords ≤ length (now first)) × Spans (now next) (typeCount (now rows)) span ⌝ }
     ensures { λ r. ⌜ Enters (tableOf (now (text .entry)) (now (rows .entry))) d u count (fieldPlaces (tableOf (now (text .entry)) (now (rows .entry))) u) (now (next .entry)) (now (first .entry)) (now (next .exit)) (now (first .exit)) × Spans (now (next .exit)) (typeCount (now (rows .entry))) r ⌝ }
 {
-    let n = field_total(rows, u);
-    let from = first_member(rows, under(rows, u));
+    let v = under(rows, u);
+    let n = field_total(rows, v);
+    let from = first_member(rows, v);
     let mut s = span;
     let mut i: u32 = 0;
     while i < n {
-        s = step_field(text, rows, d, u, count, i, ObjKey(from + i), s, next, first);
+        let m = ObjKey(from + i);
+        s = step_field(text, rows, d, u, count, i, m, s, next, first);
         i += 1;
     }
     s

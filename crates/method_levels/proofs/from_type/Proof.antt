@@ -18,11 +18,11 @@ Inv-loop text rows d u count next₀ first₀ n from s₀ i₀ next first s i = 
 abbrev μ-loop : tie.MeasureT-loop
 μ-loop text rows d u count next₀ first₀ n from s₀ i₀ next first s i = n - i
 
-field-total-requires : tie.Need-field-total-requires Inv-loop μ-loop
-field-total-requires c κs = search needs
-
 under-requires : tie.Need-under-requires Inv-loop μ-loop
 under-requires c κs = search needs
+
+field-total-requires : tie.Need-field-total-requires Inv-loop μ-loop
+field-total-requires c κs = search needs
 
 first-member-requires : tie.Need-first-member-requires Inv-loop μ-loop
 first-member-requires c κs = search needs
@@ -30,11 +30,11 @@ first-member-requires c κs = search needs
 loop-holds : tie.Need-loop-holds Inv-loop μ-loop
 loop-holds c = (search needs, search needs, omega arith, from-start _ _ _ _ _ _ _ _, (c .before .before .before .before .before .before .before .pre .6))
 
-add-t15 : tie.Need-add-t15 Inv-loop μ-loop
-add-t15 c = omega (arith, field-small _ _ (c .before .before .before .before .before .before .before .before .before .pre .0) _ (c .before .before .before .before .before .before .before .before .before .pre .1) (c .before .before .before .before .field-total .ensures) (c .before .before .before .under .ensures) (c .before .before .first-member .ensures) _ (c .loop-test .taken))
+add-t16 : tie.Need-add-t16 Inv-loop μ-loop
+add-t16 c = omega (arith, field-small _ _ (c .before .before .before .before .before .before .before .before .before .pre .0) _ (c .before .before .before .before .before .before .before .before .before .pre .1) (c .before .before .before .field-total .ensures) (c .before .before .before .before .under .ensures) (c .before .before .first-member .ensures) _ (c .loop-test .taken))
 
 step-field-requires : tie.Need-step-field-requires Inv-loop μ-loop
-step-field-requires c κs = ((c .before .before .before .before .before .before .before .before .before .before .before .pre .0), (c .before .before .before .before .before .before .before .before .before .before .before .pre .2), (c .before .before .before .before .before .before .before .before .before .before .before .pre .3), omega (arith, (c .before .before .before .before .before .before .before .before .before .before .before .pre .4), (c .before .before .before .loop .inv .0)), omega (arith, (c .before .before .before .before .before .before .before .before .before .before .before .pre .5), (c .before .before .before .loop .inv .1)), (c .before .before .before .loop .inv .4), field-in _ _ (c .before .before .before .before .before .before .before .before .before .before .before .pre .0) _ (c .before .before .before .before .before .before .before .before .before .before .before .pre .1) (c .before .before .before .before .before .before .field-total .ensures) (c .before .before .before .before .before .under .ensures) (c .before .before .before .before .first-member .ensures) _ (c .before .before .loop-test .taken))
+step-field-requires c κs = ((c .before .before .before .before .before .before .before .before .before .before .before .pre .0), (c .before .before .before .before .before .before .before .before .before .before .before .pre .2), (c .before .before .before .before .before .before .before .before .before .before .before .pre .3), omega (arith, (c .before .before .before .before .before .before .before .before .before .before .before .pre .4), (c .before .before .before .loop .inv .0)), omega (arith, (c .before .before .before .before .before .before .before .before .before .before .before .pre .5), (c .before .before .before .loop .inv .1)), (c .before .before .before .loop .inv .4), field-in _ _ (c .before .before .before .before .before .before .before .before .before .before .before .pre .0) _ (c .before .before .before .before .before .before .before .before .before .before .before .pre .1) (c .before .before .before .before .before .field-total .ensures) (c .before .before .before .before .before .before .under .ensures) (c .before .before .before .before .first-member .ensures) _ (c .before .before .loop-test .taken))
 
 add-i : tie.Need-add-i Inv-loop μ-loop
 add-i c = search needs
@@ -52,7 +52,7 @@ same-length-2 : tie.Need-same-length-2 Inv-loop μ-loop
 same-length-2 c = search needs
 
 returns : tie.Need-returns Inv-loop μ-loop
-returns c = (from-end _ _ (c .before .before .before .before .before .before .before .before .before .pre .0) _ (c .before .before .before .before .before .before .before .before .before .pre .1) (c .before .before .before .before .field-total .ensures) (c .before .before .before .under .ensures) (c .before .before .first-member .ensures) _ _ _ (c .before .loop .inv .2) (c .loop-test .left) (c .before .loop .inv .3), (c .before .loop .inv .4))
+returns c = (from-end _ _ (c .before .before .before .before .before .before .before .before .before .pre .0) _ (c .before .before .before .before .before .before .before .before .before .pre .1) (c .before .before .before .field-total .ensures) (c .before .before .before .before .under .ensures) (c .before .before .first-member .ensures) _ _ _ (c .before .loop .inv .2) (c .loop-test .left) (c .before .loop .inv .3), (c .before .loop .inv .4))
 
 pub from-type-spec : {M : Type 1} → statement M
 from-type-spec =
@@ -60,11 +60,11 @@ from-type-spec =
     (tie.spec
     Inv-loop
     μ-loop
-    field-total-requires
     under-requires
+    field-total-requires
     first-member-requires
     loop-holds
-    add-t15
+    add-t16
     step-field-requires
     add-i
     loop-less
