@@ -10,23 +10,22 @@ use lib.ListN.{length, getD, take, drop, set, replicate}
 use lib.Seq.{length-take-le, getD-take}
 use Rattle.objects.specs.Bounds.{maxMembers}
 use Rattle.objects.specs.Lists.{Bytes, In, Sorted}
-use Rattle.objects.specs.Table.{Member, objKey, isMethod}
+use Rattle.objects.specs.Table.{objKey}
 use Rattle.objects.specs.Rows.{Words, wordAt, memberCountOf, memberAt, tableOf}
 use Rattle.objects.specs.Types.{methodRead}
 use Rattle.objects.proofs.ListLaws.{clash, either, In-map, map-In-to}
 use Rattle.objects.proofs.PartLaws.{getD-In}
 use Rattle.objects.proofs.RowLaws.{method-meant}
-use Rattle.objects.proofs.SortedLaws.{sorted-same}
 use Rattle.text.specs.Bytes.{belowBytes}
-use Rattle.text.proofs.ByteLaws.{below-irrefl, below-trans}
+use Rattle.text.proofs.ByteLaws.{below-irrefl}
 use Rattle.rules.specs.Library.{Library}
-use Rattle.rules.specs.Members.{Identity, identityOf, idBytes}
+use Rattle.rules.specs.Members.{Identity}
 use Rattle.rules.specs.MethodSet.{methodNames}
-use Rattle.rules.proofs.MethodNames.{Lower, names-listed, names-ascend}
+use Rattle.rules.proofs.MethodNames.{Lower, names-listed}
 use Rattle.method_names.specs.declared.Place.{Place}
 use Rattle.method_names.specs.Names.{identityAt, NamesHeld, Indexed}
 use Rattle.method_names.specs.Search.{idAt, Listed, Placed, Worded, Known, Gathered, Filled}
-use Rattle.method_names.proofs.KeyMembers.{member-is, key-below, stands-at, sound-rows}
+use Rattle.method_names.proofs.KeyMembers.{stands-at}
 use Rattle.method_names.proofs.SortedParts.{In-put, put-In, put-In-self, In-parts, sorted-put, sorted-map}
 use Rattle.method_names.proofs.SearchLaws.{found-at, new-at, same-identity, other-identity, by-word}
 

@@ -136,7 +136,15 @@ fn name_word(text: &[u8], rows: &[u32], names: &[u32], n: usize, m: u32) -> u32
 }
 
 // Member m, if it is a field that is wanted.
-fn index_field(text: &[u8], rows: &[u32], wanted: &[u32], names: &[u32], n: usize, index: &mut [u32], m: u32)
+fn index_field(
+    text: &[u8],
+    rows: &[u32],
+    wanted: &[u32],
+    names: &[u32],
+    n: usize,
+    index: &mut [u32],
+    m: u32,
+)
     requires { ⌜ Library (now text) (now rows) × Listed (now text) (now rows) (take n (now names)) × (n ≤ length (now names)) × (maxMembers ≤ length (now index)) × (m < memberCountOf (now rows)) × Filled (now text) (now rows) (now wanted) (take n (now names)) (now index) m ⌝ }
     ensures { λ _. ⌜ Filled (now (text .entry)) (now (rows .entry)) (now (wanted .entry)) (take n (now (names .entry))) (now (index .exit)) (m + 1) ⌝ }
 {
@@ -149,7 +157,14 @@ fn index_field(text: &[u8], rows: &[u32], wanted: &[u32], names: &[u32], n: usiz
     index[m as usize] = name_word(text, rows, names, n, m);
 }
 
-fn index_fields(text: &[u8], rows: &[u32], wanted: &[u32], names: &[u32], n: usize, index: &mut [u32])
+fn index_fields(
+    text: &[u8],
+    rows: &[u32],
+    wanted: &[u32],
+    names: &[u32],
+    n: usize,
+    index: &mut [u32],
+)
     requires { ⌜ Library (now text) (now rows) × Listed (now text) (now rows) (take n (now names)) × (n ≤ length (now names)) × (maxMembers ≤ length (now index)) × Filled (now text) (now rows) (now wanted) (take n (now names)) (now index) 0 ⌝ }
     ensures { λ _. ⌜ Filled (now (text .entry)) (now (rows .entry)) (now (wanted .entry)) (take n (now (names .entry))) (now (index .exit)) (memberCountOf (now (rows .entry))) ⌝ }
 {
@@ -164,7 +179,13 @@ fn index_fields(text: &[u8], rows: &[u32], wanted: &[u32], names: &[u32], n: usi
 // ---- both
 
 // A member is wanted if its word is not 0.
-pub fn method_names(text: &[u8], rows: &[u32], wanted: &[u32], names: &mut [u32], index: &mut [u32]) -> usize
+pub fn method_names(
+    text: &[u8],
+    rows: &[u32],
+    wanted: &[u32],
+    names: &mut [u32],
+    index: &mut [u32],
+) -> usize
     requires { ⌜ Library (now text) (now rows) × (maxMembers ≤ length (now names)) × (maxMembers ≤ length (now index)) × (now index ≡ replicate (length (now index)) 0) ⌝ }
     ensures { λ r. ⌜ NamesHeld (now (text .entry)) (now (rows .entry)) (now (wanted .entry)) (now (names .exit)) r ⌝ }
     ensures { λ r. ⌜ Indexed (now (text .entry)) (now (rows .entry)) (now (wanted .entry)) (now (names .exit)) r (now (index .exit)) ⌝ }

@@ -8,5 +8,8 @@ pub mod OverLevels
 pub mod HitLaws
 pub mod TypeHits
 pub mod DoingLaws
+pub mod QueueLaws
+pub mod ReachLaws
 pub mod ListedLaws
+pub mod GivenLaws
 pub mod SetLaws
