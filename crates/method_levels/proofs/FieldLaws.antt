@@ -130,6 +130,9 @@ module _ (text : Bytes) (rows : Words) (lib : Library text rows) where
         target-in : v .0 < size T
         target-in = subst (λ x. x .0 < size T) (bare-read text rows ty (in-rows type-in) ∙ sym pv) (bare-in T sound ty type-in)
 
+        pub target-rows : v .0 < typeCount rows
+        target-rows = in-rows target-in
+
         pub target-small : v .0 < maxTypes
         target-small = let a = target-in in let b = size-small in omega (arith, a, b)
 
@@ -195,13 +198,13 @@ module _ (text : Bytes) (rows : Words) (lib : Library text rows) where
     under-rows : underRead rows u .0 < typeCount rows
     under-rows = in-rows (subst (λ x. x .0 < size T) (under-read text rows u h) (under-in T sound u (in-table h)))
 
-    fields-are : fieldsOf (kindAt T (under T u)) ≡ membersFrom text rows (firstRead rows (underRead rows u)) (fieldTotal rows u)
+    fields-are : fieldsOf (kindAt T (under T u)) ≡ membersFrom text rows (firstRead rows (underRead rows u)) (fieldTotal rows (underRead rows u))
     unfolding fieldTotal membersFrom
     fields-are =
         ap (λ x. fieldsOf (kindAt T x)) (under-read text rows u h) ∙ fields-read text rows (underRead rows u) under-rows
         ∙ cases (eqb (numberRead rows (underRead rows u)) 8) (λ e. rw e) (λ e. rw e)
 
-    module _ {n from : ℕ} (pn : n ≡ fieldTotal rows u) {s : TypeKey} (ps : s ≡ underRead rows u) (pf : from ≡ firstRead rows s) where
+    module _ {n from : ℕ} {s : TypeKey} (pn : n ≡ fieldTotal rows s) (ps : s ≡ underRead rows u) (pf : from ≡ firstRead rows s) where
       pub all-fields : placesFrom 0 (membersFrom text rows from n) ≡ fieldPlaces T u
       all-fields = rw (pn, pf, ps, fields-are)
 
@@ -212,7 +215,7 @@ module _ (text : Bytes) (rows : Words) (lib : Library text rows) where
           let m = lib .laid .members in
           let x = lib .laid .elements in
           let f : from ≡ typeWord rows (underRead rows u) 4 = pf ∙ ap (λ y. typeWord rows y 4) ps in
-          let g : n ≤ typeWord rows (underRead rows u) 5 = some pn in
+          let g : n ≤ typeWord rows (underRead rows u) 5 = some (pn ∙ ap (fieldTotal rows) ps) in
           cases (eqb (typeWord rows (underRead rows u) 0) 6)
           (λ z. let w′ : typeWord rows (underRead rows u) 4 + typeWord rows (underRead rows u) 5 ≤ elementCount rows = rw z at w in omega (arith, w′, x, f, g, l))
           (λ z. let w′ : typeWord rows (underRead rows u) 4 + typeWord rows (underRead rows u) 5 ≤ memberCountOf rows = rw z at w in omega (arith, w′, m, f, g, l))
@@ -253,7 +256,7 @@ module _ (text : Bytes) (rows : Words) (d : ℕ) (u : TypeKey) (count from : ℕ
       → Enters (tableOf text rows) d u count (fieldAt text rows i (objKey (from + i)) ∷ []) next₁ first₁ next₂ first₂ → Enters (tableOf text rows) d u count (firstFields (i + 1)) next first next₂ first₂
   from-more i a b = rw (fields-more i) (enters-more (tableOf text rows) d u count (firstFields i) (fieldAt text rows i (objKey (from + i)) ∷ []) a b)
 
-module _ (text : Bytes) (rows : Words) (lib : Library text rows) (u : TypeKey) (h : u .0 < typeCount rows) {n from : ℕ} (pn : n ≡ fieldTotal rows u) {s : TypeKey} (ps : s ≡ underRead rows u) (pf : from ≡ firstRead rows s) where
+module _ (text : Bytes) (rows : Words) (lib : Library text rows) (u : TypeKey) (h : u .0 < typeCount rows) {n from : ℕ} {s : TypeKey} (pn : n ≡ fieldTotal rows s) (ps : s ≡ underRead rows u) (pf : from ≡ firstRead rows s) where
   -- after the last
   pub from-end : (d count i : ℕ) → i ≤ n → n ≤ i → {next first next₁ first₁ : Words} → Enters (tableOf text rows) d u count (placesFrom 0 (membersFrom text rows from i)) next first next₁ first₁
       → Enters (tableOf text rows) d u count (fieldPlaces (tableOf text rows) u) next first next₁ first₁

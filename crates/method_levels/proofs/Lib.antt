@@ -4,6 +4,7 @@ pub mod FirstLaws
 pub mod EnterLaws
 pub mod LevelLaws
 pub mod WordLaws
+pub mod SpanLaws
 pub mod FieldLaws
 pub mod StartLaws
 pub mod TypeLaws

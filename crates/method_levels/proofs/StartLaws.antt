@@ -22,7 +22,7 @@ use Rattle.rules.specs.Library.{Library}
 use Rattle.rules.specs.Ways.{Walk, start}
 use Rattle.rules.proofs.Sounds.{loads-sound}
 use Rattle.ways.proofs.TableLaws.{bare-in}
-use Rattle.method_levels.specs.Levels.{levelAt, standing, times, firstWord, placesTo, Came, OnLevel}
+use Rattle.method_levels.specs.Levels.{levelAt, standing, times, firstWord, placesTo, Came, OnLevel, Blank}
 use Rattle.method_levels.specs.Entering.{rowPut}
 use Rattle.method_levels.proofs.FirstLaws.{row-put, row-kept}
 
@@ -35,6 +35,9 @@ zero-word : (words : Words) → words ≡ replicate (length words) 0 → (i : �
 unfolding wordAt
 zero-word words h i = ap (λ l. getD l i 0) h ∙ none-there (length words) i
 
+pub zero-blank : (words : Words) → words ≡ replicate (length words) 0 → Blank words
+zero-blank words h = record { none = zero-word words h }
+
 module _ (text : Bytes) (rows : Words) (lib : Library text rows) (t : TypeKey) (h : t .0 < typeCount rows) {v : TypeKey} (pv : v ≡ bareRead rows t) where
   abbrev T : Table
   T = tableOf text rows
@@ -42,12 +45,14 @@ module _ (text : Bytes) (rows : Words) (lib : Library text rows) (t : TypeKey) (
   start-is : bare T t ≡ v
   start-is = bare-read text rows t h ∙ sym pv
 
-  pub start-small : v .0 < maxTypes
-  start-small =
+  pub start-in : v .0 < typeCount rows
+  start-in =
       let e = size-read text rows in
-      let m = lib .laid .types in
       let i = subst (λ x. x .0 < size T) start-is (bare-in T (loads-sound text T (lib .loads)) t (omega (arith, e, h))) in
-      omega (arith, e, m, i)
+      omega (arith, e, i)
+
+  pub start-small : v .0 < maxTypes
+  start-small = let m = lib .laid .types in let i = start-in in omega (arith, m, i)
 
   module _ (level first : Words) (long : maxTypes ≤ length level) (room : firstWords ≤ length first) (zl : level ≡ replicate (length level) 0) (zf : first ≡ replicate (length first) 0)
       {p : Bool} (pp : p ≡ pointerRead rows t) {f : ℕ} (pf : f ≡ bit p) where

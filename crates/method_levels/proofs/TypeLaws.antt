@@ -13,8 +13,8 @@ use Rattle.rules.specs.Library.{Library}
 use Rattle.rules.specs.Ways.{fieldPlaces}
 use Rattle.rules.specs.Sound.{Sound}
 use Rattle.rules.proofs.Sounds.{loads-sound}
-use Rattle.method_levels.specs.Levels.{levelAt, OnLevel, Between, FirstFrom}
-use Rattle.method_levels.specs.Entering.{Clear, walksFrom, through, Entered, Enters, Reaching}
+use Rattle.method_levels.specs.Levels.{levelAt, OnLevel, Between, FirstFrom, Blank}
+use Rattle.method_levels.specs.Entering.{walksFrom, through, Entered, Enters, Reaching}
 use Rattle.method_levels.proofs.CountLaws.{count-more}
 use Rattle.method_levels.proofs.EnterLaws.{entered-alike}
 use Rattle.method_levels.proofs.LevelLaws.{entered-start, level-next, none-left}
@@ -24,11 +24,8 @@ module _ (text : Bytes) (rows : Words) (lib : Library text rows) (d : ℕ) (leve
   abbrev T : Table
   T = tableOf text rows
 
-  all-clear : {n : ℕ} → n ≡ typeCount rows → (next : Words) → Clear next n → (v : TypeKey) → v .0 < size T → wordAt next (v .0) ≡ 0
-  all-clear e next c v l = let s = size-read text rows in c (v .0) (omega (arith, e, s, l))
-
-  pub reaching-start : {n : ℕ} → n ≡ typeCount rows → (next : Words) → Clear next n → Reaching T d level first₀ 0 next first₀
-  reaching-start e next c = record { so-far = λ t o. entered-start T t d o (all-clear e next c) }
+  pub reaching-start : (next : Words) → Blank next → Reaching T d level first₀ 0 next first₀
+  reaching-start next c = record { so-far = λ t o. entered-start T t d o (λ v l. c .none (v .0)) }
 
   pub reaching-more : (k : ℕ) → k < typeCount rows → {count : ℕ} → count ≡ wordAt level k → {next first next₁ first₁ : Words} → Reaching T d level first₀ k next first
       → Enters T d (typeKey k) count (fieldPlaces T (typeKey k)) next first next₁ first₁ → Reaching T d level first₀ (k + 1) next₁ first₁
@@ -53,22 +50,19 @@ module _ (text : Bytes) (rows : Words) (lib : Library text rows) (d : ℕ) (leve
       let s : Reaching T d level first₀ (k + g) next first = reaching-past g k m (λ j h n. b j h (omega arith)) r in
       subst (λ i. Reaching T d level first₀ i next first) z (reaching-one (k + g) o w s)
 
-  pub reaching-to : {k n r : ℕ} → n ≡ typeCount rows → FirstFrom level k n r → {next first : Words} → Reaching T d level first₀ k next first → Reaching T d level first₀ r next first
+  pub reaching-to : {k n r : ℕ} → n ≤ typeCount rows → FirstFrom level k n r → {next first : Words} → Reaching T d level first₀ k next first → Reaching T d level first₀ r next first
   reaching-to {k} {n} {r} e f {next} {first} h =
       let l = f .from-on in
       let m = f .before-end in
       let z : k + (r - k) ≡ r = omega (arith, l) in
       subst (λ i. Reaching T d level first₀ i next first) z (reaching-past (r - k) k (omega (arith, e, l, m)) (λ j a b. f .between j a (omega (arith, l, b))) h)
 
-  module _ (t : TypeKey) (h : t .0 < typeCount rows) (o : OnLevel T t d level first₀) {n : ℕ} (e : n ≡ typeCount rows) {k : ℕ} (le : k ≤ n) (past : n ≤ k) {next first : Words} (r : Reaching T d level first₀ k next first) where
+  module _ (t : TypeKey) (h : t .0 < typeCount rows) (o : OnLevel T t d level first₀) {next first : Words} (r : Reaching T d level first₀ (typeCount rows) next first) where
     sound : Sound T
     sound = loads-sound text T (lib .loads)
 
     pub reaching-end : OnLevel T t (suc d) next first
-    reaching-end =
-        let s = size-read text rows in
-        let z : k ≡ size T = omega (arith, s, e) in
-        level-next T sound t (in-table text rows lib h) d level first₀ next first o (subst (λ i. Entered T t d first₀ (walksFrom T t d i) next first) z (r .so-far t o))
+    reaching-end = level-next T sound t (in-table text rows lib h) d level first₀ next first o (subst (λ i. Entered T t d first₀ (walksFrom T t d i) next first) (sym (size-read text rows)) (r .so-far t o))
 
-    pub reaching-none : Clear next n → levelAt T t (suc d) .walks ≡ []
-    reaching-none c = none-left T sound t (in-table text rows lib h) (suc d) reaching-end (all-clear e next c)
+    pub reaching-none : Blank next → levelAt T t (suc d) .walks ≡ []
+    reaching-none c = none-left T sound t (in-table text rows lib h) (suc d) reaching-end (λ v l. c .none (v .0))

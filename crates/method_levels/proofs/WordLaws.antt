@@ -12,11 +12,10 @@ use borrow.Author.Tests.{ne-eqb, eqb-true, eqb-false, ltb-true, ltb-false}
 use Rattle.objects.specs.declared.TypeKey.{TypeKey}
 use Rattle.objects.specs.Table.{typeKey}
 use Rattle.objects.specs.Rows.{Words, wordAt}
-use Rattle.objects.specs.Types.{numberRead, underRead, namedRead, pointerRead, totalRead}
+use Rattle.objects.specs.Types.{numberRead, namedRead, pointerRead, totalRead}
 use Rattle.objects.proofs.ListLaws.{cases}
-use Rattle.objects.proofs.Stores.{word-put, word-kept}
 use Rattle.method_levels.specs.Levels.{upToTwo, firstWord, placesTo, Between, FirstFrom}
-use Rattle.method_levels.specs.Entering.{fieldTotal, barredRead, flagRead, nextPut, rowPut, firstPut, Clear}
+use Rattle.method_levels.specs.Entering.{fieldTotal, barredRead, flagRead, nextPut, rowPut, firstPut}
 use Rattle.method_levels.proofs.CountLaws.{two-less, two-more}
 
 -- ---- two or more
@@ -78,25 +77,14 @@ module _ (first : Words) (v : TypeKey) (a b f l : ℕ) {s : ℕ} (p : s ≡ firs
 
 -- ---- the number of fields
 
-module _ (rows : Words) (u : TypeKey) {s : TypeKey} (p : s ≡ underRead rows u) {k : ℕ} (q : k ≡ numberRead rows s) where
-  pub total-struct : k ≡ 8 → {r : ℕ} → r ≡ totalRead rows s → r ≡ fieldTotal rows u
+module _ (rows : Words) (s : TypeKey) {k : ℕ} (q : k ≡ numberRead rows s) where
+  pub total-struct : k ≡ 8 → {r : ℕ} → r ≡ totalRead rows s → r ≡ fieldTotal rows s
   unfolding fieldTotal
-  total-struct e h = h ∙ sym (rw (← p, ← q, e))
+  total-struct e h = h ∙ sym (rw (← q, e))
 
-  pub total-none : (k ≡ 8 → ⊥) → 0 ≡ fieldTotal rows u
+  pub total-none : (k ≡ 8 → ⊥) → 0 ≡ fieldTotal rows s
   unfolding fieldTotal
-  total-none e = sym (rw (← p, ← q, ne-eqb k 8 e))
-
--- ---- words that are 0
-
-pub clear-more : (next : Words) (i : ℕ) → i < length next → Clear next i → Clear (set next i 0) (i + 1)
-clear-more next i l h j k =
-    cases (eqb j i)
-    (λ e. let z = eqb-true j i e in rw z (word-put next i 0 l))
-    (λ e. let ne = eqb-false j i e in word-kept next i 0 j ne ∙ h j (omega arith))
-
-pub clear-all : (next : Words) (n i : ℕ) → n ≤ i → Clear next i → Clear next n
-clear-all next n i l h j k = h j (omega arith)
+  total-none e = sym (rw (← q, ne-eqb k 8 e))
 
 -- ---- the first type from one on
 
@@ -145,9 +133,10 @@ module _ (level : Words) (from u : ℕ) (b : Between level from u) where
   pub first-none : (n : ℕ) → from ≤ u → u ≤ n → n ≤ u → FirstFrom level from n u
   first-none n h l g = record { from-on = h; before-end = l; between = b; has = λ k _. absurd (omega arith) }
 
--- a level that has no type before n
-pub none-clear : (next : Words) (n r : ℕ) → FirstFrom next 0 n r → ltb r n ≡ false → Clear next n
-none-clear next n r f e j l = let g = ltb-false r n e in f .between j (omega arith) (omega arith)
+-- a type that the level has
+pub has-walk : (k : ℕ) {w : ℕ} → k ≡ w → (w ≡ 0 → ⊥) → 0 < k
+has-walk zero p z = absurd (z (sym p))
+has-walk (suc k) p z = omega arith
 
 -- ---- places
 

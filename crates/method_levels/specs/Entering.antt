@@ -13,16 +13,16 @@ use Rattle.objects.specs.declared.TypeKey.{TypeKey}
 use Rattle.objects.specs.declared.ObjKey.{ObjKey}
 use Rattle.objects.specs.Table.{Table, sameType, size, isEmbedded, bare, pointerAt}
 use Rattle.objects.specs.Rows.{Words, wordAt, memberAt}
-use Rattle.objects.specs.Types.{numberRead, underRead, namedRead, pointerRead, totalRead}
+use Rattle.objects.specs.Types.{numberRead, namedRead, pointerRead, totalRead}
 use Rattle.rules.specs.Ways.{Place, Walk, embedded, onward}
 use Rattle.rules.specs.MethodSet.{reaches, barred}
 use Rattle.method_levels.specs.Levels.{levelAt, upToTwo, standing, times, firstWord, OnLevel}
 
 -- ---- what the code reads
 
--- how many fields the struct that u is or names has
+-- how many fields s has: none if it is no struct
 unfoldable pub fieldTotal : Words → TypeKey → ℕ
-fieldTotal rows u = cond (eqb (numberRead rows (underRead rows u)) 8) (totalRead rows (underRead rows u)) 0
+fieldTotal rows s = cond (eqb (numberRead rows s) 8) (totalRead rows s) 0
 
 -- v may not be entered: it is named, it has a level, and the level that is being made has not reached it
 unfoldable pub barredRead : Words → Words → Words → TypeKey → Bool
@@ -37,10 +37,6 @@ abbrev pub fieldAt : Bytes → Words → ℕ → ObjKey → Place
 fieldAt text rows place m = record { place = place; member = memberAt text rows m }
 
 -- ---- what it writes
-
--- the first n words are 0
-abbrev pub Clear : Words → ℕ → Type 0
-Clear next n = (j : ℕ) → j < n → wordAt next j ≡ 0
 
 -- as many more at v
 unfoldable pub nextPut : Words → TypeKey → ℕ → Words

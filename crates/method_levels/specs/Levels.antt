@@ -12,6 +12,7 @@ use Rattle.objects.specs.Table.{Table, typeKey, sameType, size, bit}
 use Rattle.objects.specs.Rows.{Words, wordAt}
 use Rattle.rules.specs.Ways.{Walk}
 use Rattle.rules.specs.MethodSet.{Level, firstLevel, reaches, below}
+use Rattle.method_levels.specs.declared.Span.{Span}
 
 -- the level that M comes to after d steps
 abbrev pub levelAt : Table → TypeKey → ℕ → Level
@@ -73,3 +74,23 @@ pub record FirstFrom (now : Words) (from n r : ℕ) : Type 0 where
   pub before-end : r ≤ n
   pub between : Between now from r
   pub has : r < n → wordAt now r ≡ 0 → ⊥
+
+-- ---- the span of a level
+
+-- the level has no type
+pub record Blank (now : Words) : Type 0 where
+  pub none : (j : ℕ) → wordAt now j ≡ 0
+
+-- all types of the level stand in this span of the n types
+pub record Spans (now : Words) (n : ℕ) (s : Span) : Type 0 where
+  pub before : (j : ℕ) → j < s .lo → wordAt now j ≡ 0
+  pub past : (j : ℕ) → s .hi ≤ j → wordAt now j ≡ 0
+  pub within : s .hi ≤ n
+
+-- r has all that s has, and v; it ends where s does or with v
+pub record Widened (s : Span) (v : TypeKey) (r : Span) : Type 0 where
+  pub lo : r .lo ≤ s .lo
+  pub from : r .lo ≤ v .0
+  pub hi : s .hi ≤ r .hi
+  pub to : v .0 < r .hi
+  pub least : (n : ℕ) → s .hi ≤ n → v .0 < n → r .hi ≤ n

@@ -1,9 +1,8 @@
 // The levels of a method set: how often each type is reached on a level, and how each type was first reached. Which order the types of a level are gone
 // through in does not matter: counts are numbers of walks, and what is said of first walks is said of types that one walk alone reaches first.
 ghost use mathlib.Core.Path.{_≡_};
-ghost use mathlib.Core.Bool.{false};
 ghost use mathlib.Core.List.{[], _∷_};
-ghost use Prim.Native.Nat.{suc, _+_, _<_, _≤_};
+ghost use Prim.Native.Nat.{ℕ, suc, _+_, _<_, _≤_};
 ghost use lib.ListN.{length, replicate};
 ghost use lib.Seq.{sets};
 ghost use Rattle.objects.specs.Bounds.{maxTypes, maxPlaces, firstWords};
@@ -12,8 +11,8 @@ ghost use Rattle.objects.specs.Table.{bit};
 ghost use Rattle.objects.specs.Rows.{typeCount, tableOf};
 ghost use Rattle.rules.specs.Library.{Library};
 ghost use Rattle.rules.specs.Ways.{fieldPlaces};
-ghost use Rattle.method_levels.specs.Levels.{levelAt, upToTwo, firstWord, placesTo, OnLevel, Between, FirstFrom};
-ghost use Rattle.method_levels.specs.Entering.{fieldTotal, barredRead, flagRead, fieldAt, nextPut, rowPut, firstPut, Clear, Enters};
+ghost use Rattle.method_levels.specs.Levels.{levelAt, upToTwo, firstWord, placesTo, OnLevel, Between, FirstFrom, Blank, Spans, Widened};
+ghost use Rattle.method_levels.specs.Entering.{fieldTotal, barredRead, flagRead, fieldAt, nextPut, rowPut, firstPut, Enters};
 use objects::ObjKey;
 use objects::TypeKey;
 use objects::rows::bare;
@@ -30,6 +29,12 @@ use objects::rows::word;
 
 // The words of a row that says how a type was first reached.
 const FIRST_ROW: usize = 4;
+
+// A level has no type before lo, and none from hi on. A level of few types costs little, however many types the table has.
+pub struct Span {
+    pub lo: u32,
+    pub hi: u32,
+}
 
 // ---- how types were first reached
 
@@ -124,7 +129,29 @@ fn enter(
     }
 }
 
-// All walks that stand at u, through its field m at this place.
+fn lesser(a: u32, b: u32) -> u32
+    ensures { λ r. ⌜ (r ≤ a) × (r ≤ b) ⌝ }
+{
+    if a < b { a } else { b }
+}
+
+fn greater(a: u32, b: u32) -> u32
+    ensures { λ r. ⌜ (a ≤ r) × (b ≤ r) × ((n : ℕ) → a ≤ n → b ≤ n → r ≤ n) ⌝ }
+{
+    if a < b { b } else { a }
+}
+
+// The span with v in it.
+fn widened(s: Span, v: TypeKey) -> Span
+    requires { ⌜ v .0 < maxTypes ⌝ }
+    ensures { λ r. ⌜ Widened s v r ⌝ }
+{
+    let lo = lesser(s.lo, v.0);
+    let hi = greater(s.hi, v.0 + 1);
+    Span { lo: lo, hi: hi }
+}
+
+// All walks that stand at u, through its field m at this place. Answers the span of the types that are entered, `span` and this one.
 fn step_field(
     text: &[u8],
     rows: &[u32],
@@ -133,11 +160,12 @@ fn step_field(
     count: u32,
     place: u32,
     m: ObjKey,
+    span: Span,
     next: &mut [u32],
     first: &mut [u32],
-)
-    requires { ⌜ Library (now text) (now rows) × (d < maxTypes) × (0 < count) × (maxTypes ≤ length (now next)) × (firstWords ≤ length (now first)) × In (fieldAt (now text) (now rows) place m) (fieldPlaces (tableOf (now text) (now rows)) u) ⌝ }
-    ensures { λ _. ⌜ Enters (tableOf (now (text .entry)) (now (rows .entry))) d u count (fieldAt (now (text .entry)) (now (rows .entry)) place m ∷ []) (now (next .entry)) (now (first .entry)) (now (next .exit)) (now (first .exit)) ⌝ }
+) -> Span
+    requires { ⌜ Library (now text) (now rows) × (d < maxTypes) × (0 < count) × (maxTypes ≤ length (now next)) × (firstWords ≤ length (now first)) × Spans (now next) (typeCount (now rows)) span × In (fieldAt (now text) (now rows) place m) (fieldPlaces (tableOf (now text) (now rows)) u) ⌝ }
+    ensures { λ r. ⌜ Enters (tableOf (now (text .entry)) (now (rows .entry))) d u count (fieldAt (now (text .entry)) (now (rows .entry)) place m ∷ []) (now (next .entry)) (now (first .entry)) (now (next .exit)) (now (first .exit)) × Spans (now (next .exit)) (typeCount (now (rows .entry))) r ⌝ }
 {
     if is_embedded(rows, m) {
         let ty = member_type(rows, m);
@@ -145,16 +173,18 @@ fn step_field(
         if !is_barred(rows, next, first, v) {
             let flag = flag_on(rows, first, u, ty);
             enter(next, first, v, count, u, place, flag, d + 2);
+            return widened(span, v);
         }
     }
+    span
 }
 
 // ---- the next level
 
-fn field_total(rows: &[u32], u: TypeKey) -> u32
-    ensures { λ r. ⌜ r ≡ fieldTotal (now (rows .entry)) u ⌝ }
+// How many fields s has, if it is a struct.
+fn field_total(rows: &[u32], s: TypeKey) -> u32
+    ensures { λ r. ⌜ r ≡ fieldTotal (now (rows .entry)) s ⌝ }
 {
-    let s = under(rows, u);
     if kind_number(rows, s) == 8 {
         member_total(rows, s)
     } else {
@@ -162,54 +192,31 @@ fn field_total(rows: &[u32], u: TypeKey) -> u32
     }
 }
 
+// All walks that stand at u, through each of its fields.
 fn from_type(
     text: &[u8],
     rows: &[u32],
     d: u32,
     u: TypeKey,
     count: u32,
+    span: Span,
     next: &mut [u32],
     first: &mut [u32],
-)
-    requires { ⌜ Library (now text) (now rows) × (u .0 < typeCount (now rows)) × (d < maxTypes) × (0 < count) × (maxTypes ≤ length (now next)) × (firstWords ≤ length (now first)) ⌝ }
-    ensures { λ _. ⌜ Enters (tableOf (now (text .entry)) (now (rows .entry))) d u count (fieldPlaces (tableOf (now (text .entry)) (now (rows .entry))) u) (now (next .entry)) (now (first .entry)) (now (next .exit)) (now (first .exit)) ⌝ }
+) -> Span
+    requires { ⌜ Library (now text) (now rows) × (u .0 < typeCount (now rows)) × (d < maxTypes) × (0 < count) × (maxTypes ≤ length (now next)) × (firstWords ≤ length (now first)) × Spans (now next) (typeCount (now rows)) span ⌝ }
+    ensures { λ r. ⌜ Enters (tableOf (now (text .entry)) (now (rows .entry))) d u count (fieldPlaces (tableOf (now (text .entry)) (now (rows .entry))) u) (now (next .entry)) (now (first .entry)) (now (next .exit)) (now (first .exit)) × Spans (now (next .exit)) (typeCount (now (rows .entry))) r ⌝ }
 {
-    let n = field_total(rows, u);
-    let from = first_member(rows, under(rows, u));
+    let v = under(rows, u);
+    let n = field_total(rows, v);
+    let from = first_member(rows, v);
+    let mut s = span;
     let mut i: u32 = 0;
     while i < n {
-        step_field(text, rows, d, u, count, i, ObjKey(from + i), next, first);
+        let m = ObjKey(from + i);
+        s = step_field(text, rows, d, u, count, i, m, s, next, first);
         i += 1;
     }
-}
-
-// A type that the level does not have leads nowhere.
-fn pass_type(
-    text: &[u8],
-    rows: &[u32],
-    d: u32,
-    u: TypeKey,
-    count: u32,
-    next: &mut [u32],
-    first: &mut [u32],
-)
-    requires { ⌜ Library (now text) (now rows) × (u .0 < typeCount (now rows)) × (d < maxTypes) × (maxTypes ≤ length (now next)) × (firstWords ≤ length (now first)) ⌝ }
-    ensures { λ _. ⌜ Enters (tableOf (now (text .entry)) (now (rows .entry))) d u count (fieldPlaces (tableOf (now (text .entry)) (now (rows .entry))) u) (now (next .entry)) (now (first .entry)) (now (next .exit)) (now (first .exit)) ⌝ }
-{
-    if 0 < count {
-        from_type(text, rows, d, u, count, next, first);
-    }
-}
-
-fn clear(next: &mut [u32], n: u32)
-    requires { ⌜ n ≤ length (now next) ⌝ }
-    ensures { λ _. ⌜ Clear (now (next .exit)) n ⌝ }
-{
-    let mut i: u32 = 0;
-    while i < n {
-        next[i as usize] = 0;
-        i += 1;
-    }
+    s
 }
 
 fn bit_of(b: bool) -> u32
@@ -219,14 +226,24 @@ fn bit_of(b: bool) -> u32
 }
 
 // The level with no step: the type itself, one pointer removed.
-pub fn first_level(text: &[u8], rows: &[u32], t: TypeKey, level: &mut [u32], first: &mut [u32])
+pub fn first_level(
+    text: &[u8],
+    rows: &[u32],
+    t: TypeKey,
+    level: &mut [u32],
+    first: &mut [u32],
+) -> Span
     requires { ⌜ Library (now text) (now rows) × (t .0 < typeCount (now rows)) × (maxTypes ≤ length (now level)) × (firstWords ≤ length (now first)) × (now level ≡ replicate (length (now level)) 0) × (now first ≡ replicate (length (now first)) 0) ⌝ }
-    ensures { λ _. ⌜ OnLevel (tableOf (now (text .entry)) (now (rows .entry))) t 0 (now (level .exit)) (now (first .exit)) ⌝ }
+    ensures { λ r. ⌜ OnLevel (tableOf (now (text .entry)) (now (rows .entry))) t 0 (now (level .exit)) (now (first .exit)) × Spans (now (level .exit)) (typeCount (now (rows .entry))) r × (r .lo < r .hi) ⌝ }
 {
     let v = bare(rows, t);
     let flag = bit_of(pointer_at(rows, t));
     level[v.0 as usize] = 1;
     put_row(first, v, v.0, 0, flag, 1);
+    Span {
+        lo: v.0,
+        hi: v.0 + 1,
+    }
 }
 
 // 0 only if the four words from u on are 0.
@@ -252,7 +269,7 @@ fn past_fours(level: &[u32], from: u32, n: u32) -> u32
     u
 }
 
-// The first type from this one on that the level has, n if there is none. A level of few types costs little more than these reads.
+// The first type from this one on that the level has, n if there is none.
 pub fn next_reached(level: &[u32], from: u32, n: u32) -> u32
     requires { ⌜ (from ≤ n) × (n ≤ length (now level)) ⌝ }
     ensures { λ r. ⌜ FirstFrom (now (level .entry)) from n r ⌝ }
@@ -267,33 +284,32 @@ pub fn next_reached(level: &[u32], from: u32, n: u32) -> u32
     u
 }
 
-// The level after one more step. Answers whether it has a walk.
+// The level after one more step, in words that are all 0 before; those of the level itself are 0 after. Answers the span of the next level, which is empty
+// only if that level has no walk.
 pub fn below(
     text: &[u8],
     rows: &[u32],
     t: TypeKey,
     d: u32,
-    level: &[u32],
+    span: Span,
+    level: &mut [u32],
     next: &mut [u32],
     first: &mut [u32],
-) -> bool
-    requires { ⌜ Library (now text) (now rows) × (t .0 < typeCount (now rows)) × (d < maxTypes) × OnLevel (tableOf (now text) (now rows)) t d (now level) (now first) × (maxTypes ≤ length (now level)) × (maxTypes ≤ length (now next)) × (firstWords ≤ length (now first)) ⌝ }
-    ensures { λ r. ⌜ OnLevel (tableOf (now (text .entry)) (now (rows .entry))) t (suc d) (now (next .exit)) (now (first .exit)) × (r ≡ false → levelAt (tableOf (now (text .entry)) (now (rows .entry))) t (suc d) .walks ≡ []) ⌝ }
+) -> Span
+    requires { ⌜ Library (now text) (now rows) × (t .0 < typeCount (now rows)) × (d < maxTypes) × OnLevel (tableOf (now text) (now rows)) t d (now level) (now first) × (maxTypes ≤ length (now level)) × (maxTypes ≤ length (now next)) × (firstWords ≤ length (now first)) × Spans (now level) (typeCount (now rows)) span × (span .lo < span .hi) × Blank (now next) ⌝ }
+    ensures { λ r. ⌜ OnLevel (tableOf (now (text .entry)) (now (rows .entry))) t (suc d) (now (next .exit)) (now (first .exit)) × Spans (now (next .exit)) (typeCount (now (rows .entry))) r × Blank (now (level .exit)) × (r .hi ≤ r .lo → levelAt (tableOf (now (text .entry)) (now (rows .entry))) t (suc d) .walks ≡ []) ⌝ }
 {
-    let n = type_count(rows);
-    clear(next, n);
-    let mut u = next_reached(level, 0, n);
-    while u < n {
-        pass_type(
-            text,
-            rows,
-            d,
-            TypeKey(u),
-            word(level, u as usize),
-            next,
-            first,
-        );
-        u = next_reached(level, u + 1, n);
+    let hi = span.hi;
+    let mut s = Span {
+        lo: type_count(rows),
+        hi: 0,
+    };
+    let mut u = next_reached(level, span.lo, hi);
+    while u < hi {
+        let count = word(level, u as usize);
+        s = from_type(text, rows, d, TypeKey(u), count, s, next, first);
+        level[u as usize] = 0;
+        u = next_reached(level, u + 1, hi);
     }
-    next_reached(next, 0, n) < n
+    s
 }

@@ -1,6 +1,6 @@
 -- The ways through the code of one hit, as laws on what it reads.
 use mathlib.Core.Path.{_≡_, refl, sym, _∙_, subst}
-use mathlib.Core.Bool.{Bool, true, false, not}
+use mathlib.Core.Bool.{Bool, true, false, not, _||_}
 use mathlib.Core.List.{[], _∷_}
 use Prim.Native.Nat.{ℕ, zero, suc, _+_, _*_, _-_, _≤_, _<_}
 use native.Mathlib.Omega.{arith}
@@ -18,7 +18,7 @@ use Rattle.objects.specs.Laid.{Laid, endOf}
 use Rattle.objects.specs.Types.{numberOf, ifaceRead, numberRead, underRead, namedRead, firstRead, totalRead, methodRead, ptrRead}
 use Rattle.method_levels.specs.Levels.{firstWord, Between, FirstFrom}
 use Rattle.method_set.specs.Sets.{selWord}
-use Rattle.method_set.specs.Hits.{standsAfter, isSettled, flagAt, rowAfter, hit, named, members, membersIf, owned, atType, atTypes}
+use Rattle.method_set.specs.Hits.{standsAfter, isSettled, flagAt, rowAfter, hit, named, members, membersIf, hasParts, owned, atType, atTypes}
 
 -- ---- how a name stands
 
@@ -106,9 +106,24 @@ pub owned-within : (rows : Words) (u : TypeKey) (b : Bool) → Laid rows → u .
 unfolding namedRead
 owned-within rows u b laid i e h = members-within rows u 10 laid i (omega arith) (sym e ∙ h)
 
-pub under-within : (rows : Words) (u v : TypeKey) (kind n : ℕ) → Laid rows → underRead rows u .0 < typeCount rows → v ≡ underRead rows u → kind ≡ numberRead rows v → 8 ≤ n → eqb kind n ≡ true
+pub under-there : (rows : Words) (u : TypeKey) {v : TypeKey} → v ≡ underRead rows u → underRead rows u .0 < typeCount rows → v .0 < typeCount rows
+under-there rows u e i = rw e i
+
+pub parts-yes : (kind : ℕ) → kind ≡ 8 → true ≡ hasParts kind
+unfolding hasParts
+parts-yes kind e = sym (rw e)
+
+pub parts-no : (kind : ℕ) → (kind ≡ 8 → ⊥) → eqb kind 9 ≡ hasParts kind
+unfolding hasParts
+parts-no kind e = sym (rw (ne-eqb kind 8 e))
+
+pub parts-within : (rows : Words) (v : TypeKey) (kind : ℕ) (b : Bool) → Laid rows → v .0 < typeCount rows → kind ≡ numberRead rows v → b ≡ hasParts kind → b ≡ true
     → firstRead rows v + totalRead rows v ≤ memberCountOf rows
-under-within rows u v kind n laid i ev ek l h = members-within rows v n laid (rw ev i) l (rw (← ek) h)
+unfolding hasParts
+parts-within rows v kind b laid i ek eb h =
+    cases (eqb kind 8)
+    (λ e. members-within rows v 8 laid i (omega arith) (rw (← ek) e))
+    (λ e. let f : eqb kind 8 || eqb kind 9 ≡ true = sym eb ∙ h in members-within rows v 9 laid i (omega arith) (rw (← ek) (rw e at f)))
 
 module _ (rows level first index sels : Words) (stamp : ℕ) (u : TypeKey) where
   pub named-none : (place : ℕ) (m : ObjKey) {k : ℕ} → k ≡ wordAt index (m .0) → k ≡ 0 → sels ≡ named rows level first stamp index u place m (wordAt index (m .0)) sels
@@ -144,20 +159,28 @@ module _ (rows level first index sels : Words) (stamp : ℕ) (u : TypeKey) where
     unfolding membersIf
     if-not h = rw h
 
-  pub owned-is : {v : TypeKey} {kind : ℕ} {isNamed : Bool} {s1 s2 s3 : Words} → v ≡ underRead rows u → kind ≡ numberRead rows v → isNamed ≡ namedRead rows u
-      → s1 ≡ membersIf rows level first stamp index u isNamed u sels
-      → s2 ≡ membersIf rows level first stamp index u (eqb kind 8) v s1
-      → s3 ≡ membersIf rows level first stamp index u (eqb kind 9) v s2
-      → s3 ≡ owned rows level first stamp index u sels
+  -- a kind is struct, iface or neither
+  pub parts-are : (v : TypeKey) (kind : ℕ) (s : Words) → membersIf rows level first stamp index u (hasParts kind) v s
+      ≡ membersIf rows level first stamp index u (eqb kind 9) v (membersIf rows level first stamp index u (eqb kind 8) v s)
+  unfolding membersIf hasParts
+  parts-are v kind s =
+      cases (eqb kind 8)
+      (λ e. let k = eqb-true kind 8 e in rw k)
+      (λ e. rw e)
+
+  pub owned-is : {v : TypeKey} {s1 s2 : Words} → v ≡ underRead rows u
+      → s1 ≡ membersIf rows level first stamp index u (namedRead rows u) u sels
+      → s2 ≡ membersIf rows level first stamp index u (hasParts (numberRead rows v)) v s1
+      → s2 ≡ owned rows level first stamp index u sels
   unfolding owned
-  owned-is ev ek en e1 e2 e3 = rw (← ev, ← ek, ← en, ← e1, ← e2, e3)
+  owned-is {v} {s1} ev e1 e2 = e2 ∙ parts-are v (numberRead rows v) s1 ∙ rw (ev, e1)
 
   module _ (c : ℕ) (e : c ≡ wordAt level (u .0)) where
-    pub type-none : c ≡ 0 → sels ≡ atType rows level first stamp index u sels
+    type-none : c ≡ 0 → sels ≡ atType rows level first stamp index u sels
     unfolding atType
     type-none z = rw (← e, z)
 
-    pub type-some : {after : Words} → (c ≡ 0 → ⊥) → after ≡ owned rows level first stamp index u sels → after ≡ atType rows level first stamp index u sels
+    type-some : {after : Words} → (c ≡ 0 → ⊥) → after ≡ owned rows level first stamp index u sels → after ≡ atType rows level first stamp index u sels
     unfolding atType
     type-some z a = rw (← e, ne-eqb c 0 z, a)
 
@@ -166,10 +189,15 @@ module _ (rows level first index sels : Words) (stamp : ℕ) where
   unfolding atTypes
   types-none = refl
 
-  pub types-next : (n : ℕ) {before after : Words} → before ≡ atTypes rows level first stamp index n sels → after ≡ atType rows level first stamp index (record { 0 = n }) before
+  types-next : (n : ℕ) {before after : Words} → before ≡ atTypes rows level first stamp index n sels → after ≡ atType rows level first stamp index (record { 0 = n }) before
       → after ≡ atTypes rows level first stamp index (n + 1) sels
   unfolding atTypes
   types-next n b a = let s : n + 1 ≡ suc n = omega arith in rw (s, ← b, a)
+
+  -- what a type that the level has owns
+  pub types-more : (n : ℕ) {before after : Words} → (wordAt level n ≡ 0 → ⊥) → before ≡ atTypes rows level first stamp index n sels → after ≡ owned rows level first stamp index (record { 0 = n }) before
+      → after ≡ atTypes rows level first stamp index (n + 1) sels
+  types-more n {before} h b a = types-next n b (type-some rows level first index before stamp (record { 0 = n }) (wordAt level n) refl h a)
 
   -- types that the level does not have hit nothing
   types-past : {after : Words} (g k : ℕ) → Between level k (k + g) → after ≡ atTypes rows level first stamp index k sels → after ≡ atTypes rows level first stamp index (k + g) sels
@@ -186,6 +214,3 @@ module _ (rows level first index sels : Words) (stamp : ℕ) where
       let l = f .from-on in
       let z : k + (r - k) ≡ r = omega (arith, l) in
       subst (λ i. after ≡ atTypes rows level first stamp index i sels) z (types-past (r - k) k (λ j h m. f .between j h (omega (arith, l, m))) a)
-
-  pub types-end : (n : ℕ) {i m : ℕ} {after : Words} → m ≡ n → after ≡ atTypes rows level first stamp index i sels → i ≤ m → m ≤ i → after ≡ atTypes rows level first stamp index n sels
-  types-end n {i} e a l g = let s : i ≡ n = omega (arith, e) in rw (← s) a

@@ -3,14 +3,10 @@ use mathlib.Core.Path.{_≡_, refl, sym, ap, _∙_, subst}
 use mathlib.Core.List.{[]}
 use Prim.Native.Nat.{ℕ, zero, suc, _+_, _*_, _≤_, _<_}
 use native.Mathlib.Omega.{arith}
-use lib.Dec.{eqb}
-use lib.ListN.{length, set, replicate}
-use borrow.Author.Tests.{eqb-true, eqb-false}
+use lib.ListN.{length, replicate}
 use Rattle.objects.specs.Bounds.{selRow, selWords}
 use Rattle.objects.specs.Lists.{Bytes, upTo}
-use Rattle.objects.proofs.ListLaws.{cases}
 use Rattle.objects.proofs.RowLaws.{size-read, under-read}
-use Rattle.objects.proofs.Stores.{word-put, word-kept}
 use Rattle.objects.specs.declared.TypeKey.{TypeKey}
 use Rattle.objects.specs.Table.{Table, size, typeKey, objKey}
 use Rattle.objects.specs.Rows.{Words, wordAt, typeCount, tableOf}
@@ -23,33 +19,13 @@ use Rattle.method_levels.specs.Levels.{levelAt, OnLevel}
 use Rattle.method_names.specs.Names.{identityAt}
 use Rattle.method_set.specs.Sets.{selWord}
 use Rattle.method_set.specs.Hits as model
-use Rattle.method_set.specs.Hits.{Small, Under, Copied}
+use Rattle.method_set.specs.Hits.{Small, Under}
 use Rattle.method_set.specs.Standings.{Key, Shows, Settled}
 use Rattle.method_set.proofs.Tallies.{none, one, gather}
 use Rattle.method_set.proofs.LevelTally.{settledBy, settled-tally, level-tally, atOwner}
 use Rattle.method_set.proofs.StandsLaws.{Stands, after, stands-shows, level-done}
 use Rattle.method_set.proofs.OverLevels.{in-table, endsOn, soFar, so-far, so-far-none, so-far-last, so-far-all}
 use Rattle.method_set.proofs.TypeHits.{types-add}
-
--- ---- a level put in the place of another
-
-pub copy-none : (words to : Words) → Copied words 0 to
-copy-none words to = record { same = λ i l. absurd (omega arith) }
-
-pub copy-more : (words to to′ : Words) (n v : ℕ) → n < length to → v ≡ wordAt words n → to′ ≡ set to n v → Copied words n to → Copied words (n + 1) to′
-copy-more words to to′ n v l e s c = record { same = λ i h. go i h }
-  where
-    go : (i : ℕ) → i < n + 1 → wordAt to′ i ≡ wordAt words i
-    go i h =
-        rw s (cases (eqb i n)
-        (λ f. let g = eqb-true i n f in rw g (word-put to n v l ∙ e))
-        (λ f. let g = eqb-false i n f in word-kept to n v i g ∙ c .same i (omega (arith, g))))
-
-pub copy-end : (words to : Words) (n i : ℕ) → Copied words i to → i ≤ n → n ≤ i → Copied words n to
-copy-end words to n i c l g = record { same = λ j h. c .same j (omega arith) }
-
-pub copied-level : (T : Table) (t : TypeKey) (d n : ℕ) {next level first : Words} → n ≡ size T → OnLevel T t d next first → Copied next n level → OnLevel T t d level first
-copied-level T t d n e on c = record { counts = λ u i. c .same (u .0) (rw e i) ∙ on .counts u i; reached = on .reached; led = on .led; alone = on .alone }
 
 -- ---- the table
 

@@ -7,6 +7,7 @@ pub mod RowHits
 pub mod OverLevels
 pub mod HitLaws
 pub mod TypeHits
+pub mod CarryLaws
 pub mod DoingLaws
 pub mod QueueLaws
 pub mod ReachLaws

@@ -17,6 +17,7 @@ use Rattle.objects.specs.Rows.{Words, wordAt, typeCount, memberCountOf}
 use Rattle.objects.specs.Laid.{Laid}
 use Rattle.objects.specs.Types.{numberRead, namedRead, underRead, bareRead, firstRead, totalRead, memberTypeRead, embeddedRead}
 use Rattle.method_set.specs.Reach.{Marked, Kept, Run, RunIf, marks, Owns, targetRead, Leading, Leads, Opened, Queued, Opening, Closed, Longer}
+use Rattle.method_set.proofs.CodeLaws.{members-within}
 
 -- ---- marks
 
@@ -87,6 +88,11 @@ run-if rows words has v es en run h = rw (← es, ← en) run
 -- numbers of members are within bounds
 pub few-members : (rows : Words) (n : ℕ) → Laid rows → n ≤ memberCountOf rows → n ≤ maxMembers
 few-members rows n laid l = let b = laid .members in omega (arith, b, l)
+
+-- those under what u stands for, of a kind that has members
+pub under-few : (rows : Words) (u v : TypeKey) (kind n : ℕ) → Laid rows → underRead rows u .0 < typeCount rows → v ≡ underRead rows u → kind ≡ numberRead rows v → 8 ≤ n → eqb kind n ≡ true
+    → firstRead rows v + totalRead rows v ≤ maxMembers
+under-few rows u v kind n laid i ev ek l h = few-members rows _ laid (members-within rows v n laid (rw ev i) l (rw (← ek) h))
 
 pub owned-marks : (rows : Words) (u : TypeKey) {v : TypeKey} {kind : ℕ} {isNamed : Bool} (w w1 w2 w3 : Words) → v ≡ underRead rows u → kind ≡ numberRead rows v → isNamed ≡ namedRead rows u
     → Kept w w1 × RunIf rows w1 isNamed u → Kept w1 w2 × RunIf rows w2 (eqb kind 8) v → Kept w2 w3 × RunIf rows w3 (eqb kind 9) v → Kept w w3 × Owns rows w3 u

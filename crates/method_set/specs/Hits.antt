@@ -28,6 +28,10 @@ isSettled sels k stamp = not (eqb (selWord sels k 0) 0) && not (eqb (selWord sel
 unfoldable pub flagAt : Words → Words → TypeKey → ℕ
 flagAt rows first u = cond (ifaceRead rows u) 1 (firstWord first u 2)
 
+-- the kinds whose members stand under a type: struct and iface
+unfoldable pub hasParts : ℕ → Bool
+hasParts kind = eqb kind 8 || eqb kind 9
+
 module _ (rows level first : Words) (stamp : ℕ) where
   unfoldable pub rowAfter : (u : TypeKey) (place : ℕ) (m k : ObjKey) → Words → List ℕ
   rowAfter u place m k sels =
@@ -89,6 +93,6 @@ isGiven sels k = eqb (selWord sels (objKey k) 0) 2
 unfoldable pub pushed : Bool → Words → ℕ → ℕ → Words
 pushed has given r k = cond has (set given r k) given
 
--- the first n words are those of another list
-pub record Copied (words : Words) (n : ℕ) (copy : Words) : Type 0 where
-  pub same : (i : ℕ) → i < n → wordAt copy i ≡ wordAt words i
+-- the words are those of another list
+pub record Copied (words copy : Words) : Type 0 where
+  pub same : (i : ℕ) → wordAt copy i ≡ wordAt words i

@@ -1,15 +1,16 @@
 // One level of M: each own member of each type that the level reaches hits the row of its name (specs/Hits.antt).
 ghost use mathlib.Core.Path.{_≡_};
-ghost use mathlib.Core.Bool.{true};
 ghost use Prim.Native.Nat.{_+_, _*_, _≤_, _<_};
 ghost use lib.ListN.{length};
 ghost use Rattle.objects.specs.Bounds.{maxTypes, selRow, selWords};
 ghost use Rattle.objects.specs.Rows.{wordAt, typeCount, memberCountOf};
-ghost use Rattle.objects.specs.Types.{underRead, firstRead, totalRead};
+ghost use Rattle.objects.specs.Types.{underRead, namedRead, numberRead};
 ghost use Rattle.objects.specs.Laid.{Laid};
-ghost use Rattle.method_set.specs.Hits.{standsAfter, isSettled, flagAt, hit, named, members, membersIf, owned, atType, atTypes, Small, Under};
+ghost use Rattle.method_levels.specs.Levels.{Spans};
+ghost use Rattle.method_set.specs.Hits.{standsAfter, isSettled, flagAt, hit, named, members, membersIf, hasParts, owned, atTypes, Small, Under};
 use crate::words::put_row;
 use crate::words::sel_word;
+use method_levels::Span;
 use method_levels::next_reached;
 use objects::ObjKey;
 use objects::TypeKey;
@@ -20,7 +21,6 @@ use objects::rows::is_method;
 use objects::rows::kind_number;
 use objects::rows::member_total;
 use objects::rows::named_at;
-use objects::rows::type_count;
 use objects::rows::under;
 use objects::rows::word;
 
@@ -148,21 +148,55 @@ fn members(
     }
 }
 
-fn members_if(
+// The methods of a named type.
+fn methods(
     rows: &[u32],
     level: &[u32],
     first: &[u32],
     stamp: u32,
     index: &[u32],
     u: TypeKey,
-    has: bool,
+    sels: &mut [u32],
+)
+    requires { ⌜ Laid (now rows) × Small (now rows) (now index) × (u .0 < typeCount (now rows)) × (selWords ≤ length (now sels)) ⌝ }
+    ensures { λ _. ⌜ now (sels .exit) ≡ membersIf (now (rows .entry)) (now (level .entry)) (now (first .entry)) stamp (now (index .entry)) u (namedRead (now (rows .entry)) u) u (now (sels .entry)) ⌝ }
+{
+    if named_at(rows, u) {
+        members(
+            rows,
+            level,
+            first,
+            stamp,
+            index,
+            u,
+            first_member(rows, u),
+            member_total(rows, u),
+            sels,
+        );
+    }
+}
+
+fn has_parts(kind: u32) -> bool
+    ensures { λ r. ⌜ r ≡ hasParts kind ⌝ }
+{
+    if kind == 8 { true } else { kind == 9 }
+}
+
+// The fields of the struct and the methods of the interface under u.
+fn parts(
+    rows: &[u32],
+    level: &[u32],
+    first: &[u32],
+    stamp: u32,
+    index: &[u32],
+    u: TypeKey,
     v: TypeKey,
     sels: &mut [u32],
 )
-    requires { ⌜ Laid (now rows) × Small (now rows) (now index) × (has ≡ true → firstRead (now rows) v + totalRead (now rows) v ≤ memberCountOf (now rows)) × (selWords ≤ length (now sels)) ⌝ }
-    ensures { λ _. ⌜ now (sels .exit) ≡ membersIf (now (rows .entry)) (now (level .entry)) (now (first .entry)) stamp (now (index .entry)) u has v (now (sels .entry)) ⌝ }
+    requires { ⌜ Laid (now rows) × Small (now rows) (now index) × (v .0 < typeCount (now rows)) × (selWords ≤ length (now sels)) ⌝ }
+    ensures { λ _. ⌜ now (sels .exit) ≡ membersIf (now (rows .entry)) (now (level .entry)) (now (first .entry)) stamp (now (index .entry)) u (hasParts (numberRead (now (rows .entry)) v)) v (now (sels .entry)) ⌝ }
 {
-    if has {
+    if has_parts(kind_number(rows, v)) {
         members(
             rows,
             level,
@@ -191,57 +225,29 @@ fn owned(
     ensures { λ _. ⌜ now (sels .exit) ≡ owned (now (rows .entry)) (now (level .entry)) (now (first .entry)) stamp (now (index .entry)) u (now (sels .entry)) ⌝ }
 {
     let v = under(rows, u);
-    let kind = kind_number(rows, v);
-    members_if(
-        rows,
-        level,
-        first,
-        stamp,
-        index,
-        u,
-        named_at(rows, u),
-        u,
-        sels,
-    );
-    members_if(rows, level, first, stamp, index, u, kind == 8, v, sels);
-    members_if(rows, level, first, stamp, index, u, kind == 9, v, sels);
+    methods(rows, level, first, stamp, index, u, sels);
+    parts(rows, level, first, stamp, index, u, v, sels);
 }
 
 // ---- a level
 
-fn at_type(
-    rows: &[u32],
-    level: &[u32],
-    first: &[u32],
-    stamp: u32,
-    index: &[u32],
-    u: TypeKey,
-    sels: &mut [u32],
-)
-    requires { ⌜ Laid (now rows) × Small (now rows) (now index) × (u .0 < typeCount (now rows)) × (underRead (now rows) u .0 < typeCount (now rows)) × (selWords ≤ length (now sels)) ⌝ }
-    ensures { λ _. ⌜ now (sels .exit) ≡ atType (now (rows .entry)) (now (level .entry)) (now (first .entry)) stamp (now (index .entry)) u (now (sels .entry)) ⌝ }
-{
-    if word(level, u.0 as usize) == 0 {
-        return;
-    }
-    owned(rows, level, first, stamp, index, u, sels);
-}
-
+// Types outside the span of the level hit nothing.
 pub fn at_types(
     rows: &[u32],
     level: &[u32],
+    span: Span,
     first: &[u32],
     stamp: u32,
     index: &[u32],
     sels: &mut [u32],
 )
-    requires { ⌜ Laid (now rows) × Small (now rows) (now index) × Under (now rows) × (maxTypes ≤ length (now level)) × (selWords ≤ length (now sels)) ⌝ }
+    requires { ⌜ Laid (now rows) × Small (now rows) (now index) × Under (now rows) × (maxTypes ≤ length (now level)) × (selWords ≤ length (now sels)) × Spans (now level) (typeCount (now rows)) span × (span .lo < span .hi) ⌝ }
     ensures { λ _. ⌜ now (sels .exit) ≡ atTypes (now (rows .entry)) (now (level .entry)) (now (first .entry)) stamp (now (index .entry)) (typeCount (now (rows .entry))) (now (sels .entry)) ⌝ }
 {
-    let n = type_count(rows);
-    let mut u = next_reached(level, 0, n);
-    while u < n {
-        at_type(rows, level, first, stamp, index, TypeKey(u), sels);
-        u = next_reached(level, u + 1, n);
+    let hi = span.hi;
+    let mut u = next_reached(level, span.lo, hi);
+    while u < hi {
+        owned(rows, level, first, stamp, index, TypeKey(u), sels);
+        u = next_reached(level, u + 1, hi);
     }
 }

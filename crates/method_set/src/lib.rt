@@ -96,8 +96,18 @@ pub fn new(
     let n = method_names(text, rows, &wanted, &mut names, &mut index);
     let mut level = [0u32; 256];
     let mut next = [0u32; 256];
-    first_level(text, rows, t, &mut level, first);
-    levels(text, rows, t, &index, &mut level, &mut next, sels, first);
+    let span = first_level(text, rows, t, &mut level, first);
+    levels(
+        text,
+        rows,
+        t,
+        &index,
+        span,
+        &mut level,
+        &mut next,
+        sels,
+        first,
+    );
     listed(&names, n, sels, given)
 }
 

@@ -4,9 +4,6 @@ use borrow.Author.Needs.{needs}
 use Rattle.method_levels.proofs.field_total.Statement.{statement}
 use Rattle.method_levels.proofs.field_total.Tie as tie
 
-under-requires : tie.Need-under-requires
-under-requires c κs = search needs
-
 kind-number-requires : tie.Need-kind-number-requires
 kind-number-requires c κs = search needs
 
@@ -14,16 +11,15 @@ member-total-requires : tie.Need-member-total-requires
 member-total-requires c κs = search needs
 
 returns : tie.Need-returns
-returns c = total-struct _ _ (c .before .before .before .under .ensures) (c .before .before .kind-number .ensures) (c .before .if1 .taken) (c .member-total .ensures)
+returns c = total-struct _ _ (c .before .before .kind-number .ensures) (c .before .if1 .taken) (c .member-total .ensures)
 
 returns-2 : tie.Need-returns-2
-returns-2 c = total-none _ _ (c .before .before .under .ensures) (c .before .kind-number .ensures) (c .if1 .left)
+returns-2 c = total-none _ _ (c .before .kind-number .ensures) (c .if1 .left)
 
 pub field-total-spec : {M : Type 1} → statement M
 field-total-spec =
     tie.close
     (tie.spec
-    under-requires
     kind-number-requires
     member-total-requires
     returns

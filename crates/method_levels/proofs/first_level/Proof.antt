@@ -1,7 +1,8 @@
 -- `method_levels::first_level` meets its contract.
 use native.Mathlib.Omega.{arith}
 use lib.ListN.{length-set}
-use Rattle.method_levels.proofs.StartLaws.{start-small, level-first}
+use Rattle.method_levels.proofs.SpanLaws.{span-one}
+use Rattle.method_levels.proofs.StartLaws.{zero-blank, start-in, start-small, level-first}
 use borrow.Author.Needs.{needs}
 use Rattle.method_levels.proofs.first_level.Statement.{statement}
 use Rattle.method_levels.proofs.first_level.Tie as tie
@@ -27,6 +28,9 @@ slice-write-level c = omega (arith, (c .before .before .before .before .before .
 put-row-requires : tie.Need-put-row-requires
 put-row-requires c κs = (start-small _ _ (c .before .before .before .before .before .before .before .before .before .pre .0) _ (c .before .before .before .before .before .before .before .before .before .pre .1) (c .before .before .before .before .bare .ensures), (c .before .before .before .before .before .before .before .before .before .pre .3))
 
+add-t15 : tie.Need-add-t15
+add-t15 c = omega (arith, start-small _ _ (c .before .before .before .before .before .before .before .before .before .before .before .before .before .pre .0) _ (c .before .before .before .before .before .before .before .before .before .before .before .before .before .pre .1) (c .before .before .before .before .before .before .before .before .bare .ensures))
+
 same-length : tie.Need-same-length
 same-length c = simp length-set
 
@@ -34,7 +38,7 @@ same-length-2 : tie.Need-same-length-2
 same-length-2 c = search needs
 
 returns : tie.Need-returns
-returns c = level-first _ _ (c .before .before .before .before .before .before .before .before .before .before .before .before .pre .0) _ (c .before .before .before .before .before .before .before .before .before .before .before .before .pre .1) (c .before .before .before .before .before .before .before .bare .ensures) _ _ (c .before .before .before .before .before .before .before .before .before .before .before .before .pre .2) (c .before .before .before .before .before .before .before .before .before .before .before .before .pre .3) (c .before .before .before .before .before .before .before .before .before .before .before .before .pre .4) (c .before .before .before .before .before .before .before .before .before .before .before .before .pre .5) (c .before .before .before .before .before .before .pointer-at .ensures) (c .before .before .before .before .before .bit-of .ensures) (c .before .before .put-row .ensures)
+returns c = (level-first _ _ (c .before .before .before .before .before .before .before .before .before .before .before .before .before .pre .0) _ (c .before .before .before .before .before .before .before .before .before .before .before .before .before .pre .1) (c .before .before .before .before .before .before .before .before .bare .ensures) _ _ (c .before .before .before .before .before .before .before .before .before .before .before .before .before .pre .2) (c .before .before .before .before .before .before .before .before .before .before .before .before .before .pre .3) (c .before .before .before .before .before .before .before .before .before .before .before .before .before .pre .4) (c .before .before .before .before .before .before .before .before .before .before .before .before .before .pre .5) (c .before .before .before .before .before .before .before .pointer-at .ensures) (c .before .before .before .before .before .before .bit-of .ensures) (c .before .before .before .put-row .ensures), span-one _ _ _ _ (zero-blank _ (c .before .before .before .before .before .before .before .before .before .before .before .before .before .pre .4)) (start-in _ _ (c .before .before .before .before .before .before .before .before .before .before .before .before .before .pre .0) _ (c .before .before .before .before .before .before .before .before .before .before .before .before .before .pre .1) (c .before .before .before .before .before .before .before .before .bare .ensures)), omega arith)
 
 pub first-level-spec : {M : Type 1} → statement M
 first-level-spec =
@@ -47,6 +51,7 @@ first-level-spec =
     mul-level
     slice-write-level
     put-row-requires
+    add-t15
     same-length
     same-length-2
     returns)

@@ -1,19 +1,17 @@
-use mathlib.Core.Path.{_∙_, sym}
 use native.Mathlib.Omega.{arith}
-use Rattle.objects.proofs.RowLaws.{size-read}
-use Rattle.method_set.proofs.DoingLaws.{copied-level}
+use Rattle.method_set.proofs.CarryLaws.{span-at, copied-level, copied-span}
 use borrow.Author.Needs.{needs}
 use Rattle.method_set.proofs.levels.advance.Statement.{statement}
 use Rattle.method_set.proofs.levels.advance.Tie as tie
 
-below-requires : tie.Need-below-requires
-below-requires c κs = ((c .before .before .before .before .before .before .before .before .pre .0), (c .before .before .before .before .before .before .before .before .pre .1), omega (arith, (c .before .before .before .before .before .before .before .before .pre .2), (c .before .before .before .before .before .before .before .before .pre .0 .laid .types)), (c .before .before .before .before .before .before .before .before .pre .3), (c .before .before .before .before .before .before .before .before .pre .4), (c .before .before .before .before .before .before .before .before .pre .5), (c .before .before .before .before .before .before .before .before .pre .6))
-
 type-count-requires : tie.Need-type-count-requires
 type-count-requires c κs = search needs
 
-copy-requires : tie.Need-copy-requires
-copy-requires c κs = (omega (arith, (c .before .type-count .ensures), (c .before .before .before .before .before .before .before .before .before .before .before .before .before .before .before .before .pre .0 .laid .types), (c .before .before .before .before .before .before .before .before .before .before .before .before .before .before .before .before .pre .5)), omega (arith, (c .before .type-count .ensures), (c .before .before .before .before .before .before .before .before .before .before .before .before .before .before .before .before .pre .0 .laid .types), (c .before .before .before .before .before .before .before .before .before .before .before .before .before .before .before .before .pre .4)))
+below-requires : tie.Need-below-requires
+below-requires c κs = ((c .before .before .before .before .before .before .before .before .before .pre .0), (c .before .before .before .before .before .before .before .before .before .pre .1), omega (arith, (c .before .before .before .before .before .before .before .before .before .pre .2), (c .before .before .before .before .before .before .before .before .before .pre .0 .laid .types)), (c .before .before .before .before .before .before .before .before .before .pre .3), (c .before .before .before .before .before .before .before .before .before .pre .4), (c .before .before .before .before .before .before .before .before .before .pre .5), (c .before .before .before .before .before .before .before .before .before .pre .6), (c .before .before .before .before .before .before .before .before .before .pre .7), (c .before .before .before .before .before .before .before .before .before .pre .8), (c .before .before .before .before .before .before .before .before .before .pre .9))
+
+carry-requires : tie.Need-carry-requires
+carry-requires c κs = (span-at (c .before .before .before .before .before .before .before .before .before .before .before .before .type-count .ensures) (c .before .before .before .before .before .before .before .before .below .ensures .1), (c .before .before .before .before .before .before .before .before .below .ensures .2), omega (arith, (c .before .before .before .before .before .before .before .before .before .before .before .before .type-count .ensures), (c .before .before .before .before .before .before .before .before .before .before .before .before .before .before .before .before .before .before .pre .0 .laid .types), (c .before .before .before .before .before .before .before .before .before .before .before .before .before .before .before .before .before .before .pre .5)), omega (arith, (c .before .before .before .before .before .before .before .before .before .before .before .before .type-count .ensures), (c .before .before .before .before .before .before .before .before .before .before .before .before .before .before .before .before .before .before .pre .0 .laid .types), (c .before .before .before .before .before .before .before .before .before .before .before .before .before .before .before .before .before .before .pre .4)))
 
 same-length : tie.Need-same-length
 same-length c = search needs
@@ -25,15 +23,15 @@ same-length-3 : tie.Need-same-length-3
 same-length-3 c = search needs
 
 returns : tie.Need-returns
-returns c = (copied-level _ _ _ _ ((c .before .before .before .before .type-count .ensures) ∙ sym (size-read _ _)) ((c .before .before .before .before .before .before .before .before .before .before .below .ensures .0)) ((c .before .before .copy .ensures)), (c .before .before .before .before .before .before .before .before .before .before .below .ensures .1))
+returns c = (copied-level _ _ _ (c .before .before .before .before .before .before .before .before .before .before .before .before .before .below .ensures .0) (c .before .before .before .before .carry .ensures .0), copied-span _ _ (c .before .before .before .before .before .before .before .before .before .before .before .before .before .below .ensures .1) (c .before .before .before .before .carry .ensures .0), (c .before .before .before .before .carry .ensures .1), (c .before .before .before .before .before .before .before .before .before .before .before .before .before .below .ensures .3))
 
 pub advance-spec : {M : Type 1} → statement M
 advance-spec =
     tie.close
     (tie.spec
-    below-requires
     type-count-requires
-    copy-requires
+    below-requires
+    carry-requires
     same-length
     same-length-2
     same-length-3

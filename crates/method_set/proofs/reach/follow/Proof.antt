@@ -1,7 +1,6 @@
 use native.Mathlib.Omega.{arith}
 use borrow.Author.Tests.{eq-eqb}
-use Rattle.method_set.proofs.CodeLaws.{under-within}
-use Rattle.method_set.proofs.QueueLaws.{few-members, longer-none, leads-none, leads-fields, fields-lead}
+use Rattle.method_set.proofs.QueueLaws.{under-few, longer-none, leads-none, leads-fields, fields-lead}
 use borrow.Author.Needs.{needs}
 use Rattle.method_set.proofs.reach.follow.Statement.{statement}
 use Rattle.method_set.proofs.reach.follow.Tie as tie
@@ -22,7 +21,7 @@ member-total-requires : tie.Need-member-total-requires
 member-total-requires c κs = search needs
 
 follow-fields-requires : tie.Need-follow-fields-requires
-follow-fields-requires c κs = (omega (arith, few-members _ _ (c .before .before .before .before .before .before .before .before .before .before .pre .0) (under-within _ _ _ _ 8 (c .before .before .before .before .before .before .before .before .before .before .pre .0) (c .before .before .before .before .before .before .before .before .before .before .pre .1) (c .before .before .before .before .before .before .under .ensures) (c .before .before .before .before .before .kind-number .ensures) (omega arith) (eq-eqb _ _ (c .before .before .before .before .if1 .left))), (c .before .before .before .first-member .ensures), (c .before .before .member-total .ensures)), leads-fields _ _ (c .before .before .before .before .before .before .under .ensures) (c .before .before .before .before .before .kind-number .ensures) (c .before .before .before .first-member .ensures) (c .before .before .member-total .ensures) _ (c .before .before .before .before .if1 .left) (c .before .before .before .before .before .before .before .before .before .before .pre .2), (c .before .before .before .before .before .before .before .before .before .before .pre .3), (c .before .before .before .before .before .before .before .before .before .before .pre .4), (c .before .before .before .before .before .before .before .before .before .before .pre .5))
+follow-fields-requires c κs = (omega (arith, under-few _ _ _ _ 8 (c .before .before .before .before .before .before .before .before .before .before .pre .0) (c .before .before .before .before .before .before .before .before .before .before .pre .1) (c .before .before .before .before .before .before .under .ensures) (c .before .before .before .before .before .kind-number .ensures) (omega arith) (eq-eqb _ _ (c .before .before .before .before .if1 .left)), (c .before .before .before .first-member .ensures), (c .before .before .member-total .ensures)), leads-fields _ _ (c .before .before .before .before .before .before .under .ensures) (c .before .before .before .before .before .kind-number .ensures) (c .before .before .before .first-member .ensures) (c .before .before .member-total .ensures) _ (c .before .before .before .before .if1 .left) (c .before .before .before .before .before .before .before .before .before .before .pre .2), (c .before .before .before .before .before .before .before .before .before .before .pre .3), (c .before .before .before .before .before .before .before .before .before .before .pre .4), (c .before .before .before .before .before .before .before .before .before .before .pre .5))
 
 same-length : tie.Need-same-length
 same-length c = search needs

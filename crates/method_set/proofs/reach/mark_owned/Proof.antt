@@ -1,6 +1,6 @@
 use native.Mathlib.Omega.{arith}
-use Rattle.method_set.proofs.CodeLaws.{owned-within, under-within}
-use Rattle.method_set.proofs.QueueLaws.{few-members, owned-marks}
+use Rattle.method_set.proofs.CodeLaws.{owned-within}
+use Rattle.method_set.proofs.QueueLaws.{few-members, under-few, owned-marks}
 use borrow.Author.Needs.{needs}
 use Rattle.method_set.proofs.reach.mark_owned.Statement.{statement}
 use Rattle.method_set.proofs.reach.mark_owned.Tie as tie
@@ -18,10 +18,10 @@ mark-if-requires : tie.Need-mark-if-requires
 mark-if-requires c κs = (λ h. few-members _ _ (c .before .before .before .before .before .before .pre .0) (owned-within _ _ _ (c .before .before .before .before .before .before .pre .0) (c .before .before .before .before .before .before .pre .1) (c .before .named-at .ensures) h), (c .before .before .before .before .before .before .pre .3))
 
 mark-if-requires-2 : tie.Need-mark-if-requires-2
-mark-if-requires-2 c κs = (λ h. few-members _ _ (c .before .before .before .before .before .before .before .before .before .before .pre .0) (under-within _ _ _ _ 8 (c .before .before .before .before .before .before .before .before .before .before .pre .0) (c .before .before .before .before .before .before .before .before .before .before .pre .2) (c .before .before .before .before .before .before .before .under .ensures) (c .before .before .before .before .before .before .kind-number .ensures) (omega arith) h), omega (arith, (c .before .before .before .before .before .before .before .before .before .before .pre .3), (c .before .before .before .mark-if .kept)))
+mark-if-requires-2 c κs = (λ h. under-few _ _ _ _ 8 (c .before .before .before .before .before .before .before .before .before .before .pre .0) (c .before .before .before .before .before .before .before .before .before .before .pre .2) (c .before .before .before .before .before .before .before .under .ensures) (c .before .before .before .before .before .before .kind-number .ensures) (omega arith) h, omega (arith, (c .before .before .before .before .before .before .before .before .before .before .pre .3), (c .before .before .before .mark-if .kept)))
 
 mark-if-requires-3 : tie.Need-mark-if-requires-3
-mark-if-requires-3 c κs = (λ h. few-members _ _ (c .before .before .before .before .before .before .before .before .before .before .before .before .before .before .pre .0) (under-within _ _ _ _ 9 (c .before .before .before .before .before .before .before .before .before .before .before .before .before .before .pre .0) (c .before .before .before .before .before .before .before .before .before .before .before .before .before .before .pre .2) (c .before .before .before .before .before .before .before .before .before .before .before .under .ensures) (c .before .before .before .before .before .before .before .before .before .before .kind-number .ensures) (omega arith) h), omega (arith, (c .before .before .before .before .before .before .before .before .before .before .before .before .before .before .pre .3), (c .before .before .before .before .before .before .before .mark-if .kept), (c .before .before .before .mark-if2 .kept)))
+mark-if-requires-3 c κs = (λ h. under-few _ _ _ _ 9 (c .before .before .before .before .before .before .before .before .before .before .before .before .before .before .pre .0) (c .before .before .before .before .before .before .before .before .before .before .before .before .before .before .pre .2) (c .before .before .before .before .before .before .before .before .before .before .before .under .ensures) (c .before .before .before .before .before .before .before .before .before .before .kind-number .ensures) (omega arith) h, omega (arith, (c .before .before .before .before .before .before .before .before .before .before .before .before .before .before .pre .3), (c .before .before .before .before .before .before .before .mark-if .kept), (c .before .before .before .mark-if2 .kept)))
 
 same-length : tie.Need-same-length
 same-length c = search needs

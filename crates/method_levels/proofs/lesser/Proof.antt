@@ -1,0 +1,17 @@
+-- `method_levels::lesser` meets its contract.
+use native.Mathlib.Omega.{arith}
+use Rattle.method_levels.proofs.lesser.Statement.{statement}
+use Rattle.method_levels.proofs.lesser.Tie as tie
+
+returns : tie.Need-returns
+returns c = (omega arith, omega arith)
+
+returns-2 : tie.Need-returns-2
+returns-2 c = (omega arith, omega arith)
+
+pub lesser-spec : {M : Type 1} → statement M
+lesser-spec =
+    tie.close
+    (tie.spec
+    returns
+    returns-2)
