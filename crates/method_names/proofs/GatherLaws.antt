@@ -10,23 +10,22 @@ use lib.ListN.{length, getD, take, drop, set, replicate}
 use lib.Seq.{length-take-le, getD-take}
 use Rattle.objects.specs.Bounds.{maxMembers}
 use Rattle.objects.specs.Lists.{Bytes, In, Sorted}
-use Rattle.objects.specs.Table.{Member, objKey, isMethod}
+use Rattle.objects.specs.Table.{objKey}
 use Rattle.objects.specs.Rows.{Words, wordAt, memberCountOf, memberAt, tableOf}
 use Rattle.objects.specs.Types.{methodRead}
 use Rattle.objects.proofs.ListLaws.{clash, either, In-map, map-In-to}
 use Rattle.objects.proofs.PartLaws.{getD-In}
 use Rattle.objects.proofs.RowLaws.{method-meant}
-use Rattle.objects.proofs.SortedLaws.{sorted-same}
 use Rattle.text.specs.Bytes.{belowBytes}
-use Rattle.text.proofs.ByteLaws.{below-irrefl, below-trans}
+use Rattle.text.proofs.ByteLaws.{below-irrefl}
 use Rattle.rules.specs.Library.{Library}
-use Rattle.rules.specs.Members.{Identity, identityOf, idBytes}
+use Rattle.rules.specs.Members.{Identity}
 use Rattle.rules.specs.MethodSet.{methodNames}
-use Rattle.rules.proofs.MethodNames.{Lower, names-listed, names-ascend}
+use Rattle.rules.proofs.MethodNames.{Lower, names-listed}
 use Rattle.method_names.specs.declared.Place.{Place}
 use Rattle.method_names.specs.Names.{identityAt, NamesHeld, Indexed}
 use Rattle.method_names.specs.Search.{idAt, Listed, Placed, Worded, Known, Gathered, Filled}
-use Rattle.method_names.proofs.KeyMembers.{member-is, key-below, stands-at, sound-rows}
+use Rattle.method_names.proofs.KeyMembers.{stands-at}
 use Rattle.method_names.proofs.SortedParts.{In-put, put-In, put-In-self, In-parts, sorted-put, sorted-map}
 use Rattle.method_names.proofs.SearchLaws.{found-at, new-at, same-identity, other-identity, by-word}
 
@@ -63,6 +62,7 @@ module _ (text : Bytes) (rows : Words) where
   pub known-word : (l : List ℕ) (index : Words) (m x : ℕ) → m < length index → Worded text rows l m x → Known text rows l index → Known text rows l (set index m x)
   known-word l index m x h s known j k hj e = by-word index m x h j (λ q w. rw q (s .some k (sym w ∙ e))) (λ q w. known j k hj (sym w ∙ e))
 
+module _ (text : Bytes) (rows wanted : Words) where
   -- ---- no name yet
 
   zeros : (n i : ℕ) → _≡_ {A = ℕ} (getD (replicate n 0) i 0) 0
@@ -70,32 +70,43 @@ module _ (text : Bytes) (rows : Words) where
   zeros (suc n) zero = refl
   zeros (suc n) (suc i) = zeros n i
 
-  pub gather-start : (names index : Words) → index ≡ replicate (length index) 0 → {c : ℕ} → c ≡ memberCountOf rows → Gathered text rows names 0 index c
+  pub gather-start : (names index : Words) → index ≡ replicate (length index) 0 → {c : ℕ} → c ≡ memberCountOf rows → Gathered text rows wanted names 0 index c
   unfolding wordAt
   gather-start names index e p = record {
     listed = record { sorted = tt; keys = λ k i. absurd i; methods = λ k i. absurd i };
     room = (omega arith, omega arith);
     known = λ m k h f. let z : getD index m 0 ≡ 0 = ap (λ l. getD l m 0) e ∙ zeros (length index) m in absurd (omega arith);
-    done = λ k a b. absurd (omega arith);
+    done = λ k a b _. absurd (omega arith);
   }
 
   -- before the next member, and after the last
-  pub gather-on : (names : Words) (n : ℕ) (index : Words) (m : ℕ) → 0 < m → Gathered text rows names n index m → Gathered text rows names n index (m - 1 + 1)
-  gather-on names n index m h g = let z : m - 1 + 1 ≡ m = omega arith in subst (Gathered text rows names n index) (sym z) g
+  pub gather-on : (names : Words) (n : ℕ) (index : Words) (m : ℕ) → 0 < m → Gathered text rows wanted names n index m → Gathered text rows wanted names n index (m - 1 + 1)
+  gather-on names n index m h g = let z : m - 1 + 1 ≡ m = omega arith in subst (Gathered text rows wanted names n index) (sym z) g
 
-  pub gather-end : (names : Words) (n : ℕ) (index : Words) (m : ℕ) → m ≤ 0 → Gathered text rows names n index m → Gathered text rows names n index 0
-  gather-end names n index m h g = let z : m ≡ 0 = omega arith in subst (Gathered text rows names n index) z g
+  pub gather-end : (names : Words) (n : ℕ) (index : Words) (m : ℕ) → m ≤ 0 → Gathered text rows wanted names n index m → Gathered text rows wanted names n index 0
+  gather-end names n index m h g = let z : m ≡ 0 = omega arith in subst (Gathered text rows wanted names n index) z g
 
-  module _ (names : Words) (n : ℕ) (index : Words) (m : ℕ) (g : Gathered text rows names n index (m + 1)) where
+  module _ (names : Words) (n : ℕ) (index : Words) (m : ℕ) (g : Gathered text rows wanted names n index (m + 1)) where
     -- a member that is no method
-    pub gather-skip : methodRead rows (objKey m) ≡ false → Gathered text rows names n index m
+    pub gather-skip : methodRead rows (objKey m) ≡ false → Gathered text rows wanted names n index m
     gather-skip e =
         let r = g .room in
         record {
           listed = g .listed;
           room = (r .0, omega arith);
           known = g .known;
-          done = λ k a b f. either (eq-or-lt-of-le a) (λ q. clash f (subst (λ i. methodRead rows (objKey i) ≡ false) q e)) (λ l. g .done k (omega arith) b f);
+          done = λ k a b w f. either (eq-or-lt-of-le a) (λ q. clash f (subst (λ i. methodRead rows (objKey i) ≡ false) q e)) (λ l. g .done k (omega arith) b w f);
+        }
+
+    -- a member that is not wanted
+    pub gather-pass : wordAt wanted m ≡ 0 → Gathered text rows wanted names n index m
+    gather-pass e =
+        let r = g .room in
+        record {
+          listed = g .listed;
+          room = (r .0, omega arith);
+          known = g .known;
+          done = λ k a b w f. either (eq-or-lt-of-le a) (λ q. let z : wordAt wanted k ≡ 0 = subst (λ i. wordAt wanted i ≡ 0) q e in absurd (omega (arith, w, z))) (λ l. g .done k (omega arith) b w f);
         }
 
     pub left : m < memberCountOf rows
@@ -103,23 +114,23 @@ module _ (text : Bytes) (rows : Words) where
 
     module _ (lib : Library text rows) (e : methodRead rows (objKey m) ≡ true) (i : ℕ) {r : Place} (s : Placed text rows (take n names) (idAt text rows m) r) where
       -- its name is there
-      pub gather-found : r ≡ Place.Found i → maxMembers ≤ length index → Gathered text rows names n (set index m (getD names i 0 + 1)) m
+      pub gather-found : r ≡ Place.Found i → maxMembers ≤ length index → Gathered text rows wanted names n (set index m (getD names i 0 + 1)) m
       gather-found p h =
           let w = g .room in
           let lm = lib .laid .members in
           record {
             listed = g .listed;
             room = (w .0, omega arith);
-            known = known-word (take n names) index m (getD names i 0 + 1) (omega arith) (word-found lib names n (w .0) (g .listed) m left s i p) (g .known);
-            done = λ k x y z. by-word index m (getD names i 0 + 1) (omega arith) k
+            known = known-word text rows (take n names) index m (getD names i 0 + 1) (omega arith) (word-found text rows lib names n (w .0) (g .listed) m left s i p) (g .known);
+            done = λ k x y o z. by-word index m (getD names i 0 + 1) (omega arith) k
                 (λ q v u. absurd (omega arith))
-                (λ q v u. g .done k (omega arith) y z (sym v ∙ u));
+                (λ q v u. g .done k (omega arith) y o z (sym v ∙ u));
           }
 
       -- it is a new one
       pub gather-new : r ≡ Place.At i → maxMembers ≤ length index → maxMembers ≤ length names → (after : Words) → length after ≡ length names
           → take (n + 1) after ≡ take i (take n names) ++ (m ∷ drop i (take n names))
-          → Gathered text rows after (n + 1) (set index m (m + 1)) m
+          → Gathered text rows wanted after (n + 1) (set index m (m + 1)) m
       gather-new p h hn after len put =
           let w = g .room in
           let lm = lib .laid .members in
@@ -129,7 +140,7 @@ module _ (text : Bytes) (rows : Words) where
             sorted = sorted-put (λ (a b : ℕ). belowBytes (idAt text rows a) (idAt text rows b) ≡ true) i l m (g .listed .sorted) (f .1) (f .2);
             keys = λ k j. either (In-put i l m k j) (λ q. rw q left) (λ q. g .listed .keys k q);
             methods = λ k j. either (In-put i l m k j) (λ q. rw q e) (λ q. g .listed .methods k q);
-          }) (known-word (take i l ++ (m ∷ drop i l)) index m (m + 1) (omega arith) own (λ j y a b. let v = g .known j y a b in (put-In i l m y (v .0), v .1)))
+          }) (known-word text rows (take i l ++ (m ∷ drop i l)) index m (m + 1) (omega arith) own (λ j y a b. let v = g .known j y a b in (put-In i l m y (v .0), v .1)))
         where
           own : Worded text rows (take i (take n names) ++ (m ∷ drop i (take n names))) m (m + 1)
           own = record {
@@ -138,7 +149,7 @@ module _ (text : Bytes) (rows : Words) where
           }
 
           -- the names after it, whatever list they are
-          gathered : {q : List ℕ} → take (n + 1) after ≡ q → Listed text rows q → Known text rows q (set index m (m + 1)) → Gathered text rows after (n + 1) (set index m (m + 1)) m
+          gathered : {q : List ℕ} → take (n + 1) after ≡ q → Listed text rows q → Known text rows q (set index m (m + 1)) → Gathered text rows wanted after (n + 1) (set index m (m + 1)) m
           gathered {q} eq li kn =
               let w = g .room in
               let lm = lib .laid .members in
@@ -146,42 +157,50 @@ module _ (text : Bytes) (rows : Words) where
                 listed = subst (Listed text rows) (sym eq) li;
                 room = (omega arith, omega arith);
                 known = subst (λ x. Known text rows x (set index m (m + 1))) (sym eq) kn;
-                done = λ k x y z. by-word index m (m + 1) (omega arith) k
+                done = λ k x y o z. by-word index m (m + 1) (omega arith) k
                     (λ q v u. absurd (omega arith))
-                    (λ q v u. g .done k (omega arith) y z (sym v ∙ u));
+                    (λ q v u. g .done k (omega arith) y o z (sym v ∙ u));
               }
 
   -- ---- fields
 
-  pub fill-start : (names : Words) (n : ℕ) (index : Words) → Gathered text rows names n index 0 → Filled text rows (take n names) index 0
+  pub fill-start : (names : Words) (n : ℕ) (index : Words) → Gathered text rows wanted names n index 0 → Filled text rows wanted (take n names) index 0
   fill-start names n index g = record {
     known = g .known;
-    none = λ j k h c w i. either c (λ l. absurd (omega arith)) (λ e. absurd (g .done j (omega arith) h e w));
+    none = λ j k h o c w i. either c (λ l. absurd (omega arith)) (λ e. absurd (g .done j (omega arith) h o e w));
   }
 
-  pub fill-end : (l : List ℕ) (index : Words) (m : ℕ) {count : ℕ} → count ≡ memberCountOf rows → m ≤ count → count ≤ m → Filled text rows l index m → Filled text rows l index (memberCountOf rows)
-  fill-end l index m p a b f = let z : m ≡ memberCountOf rows = omega arith in subst (Filled text rows l index) z f
+  pub fill-end : (l : List ℕ) (index : Words) (m : ℕ) {count : ℕ} → count ≡ memberCountOf rows → m ≤ count → count ≤ m → Filled text rows wanted l index m → Filled text rows wanted l index (memberCountOf rows)
+  fill-end l index m p a b f = let z : m ≡ memberCountOf rows = omega arith in subst (Filled text rows wanted l index) z f
 
-  module _ (l : List ℕ) (index : Words) (m : ℕ) (g : Filled text rows l index m) where
-    pub fill-method : m < memberCountOf rows → methodRead rows (objKey m) ≡ true → Filled text rows l index (m + 1)
+  module _ (l : List ℕ) (index : Words) (m : ℕ) (g : Filled text rows wanted l index m) where
+    pub fill-method : m < memberCountOf rows → methodRead rows (objKey m) ≡ true → Filled text rows wanted l index (m + 1)
     fill-method h e = record {
       known = g .known;
-      none = λ j k hj c w i. either c
-          (λ a. let b : j ≤ m = omega arith in either (eq-or-lt-of-le b) (λ q. rw q (g .none m k h (inr e) (subst (λ x. wordAt index x ≡ 0) q w) i)) (λ q. g .none j k hj (inl q) w i))
-          (λ f. g .none j k hj (inr f) w i);
+      none = λ j k hj o c w i. either c
+          (λ a. let b : j ≤ m = omega arith in either (eq-or-lt-of-le b) (λ q. g .none j k hj o (inr (subst (λ x. methodRead rows (objKey x) ≡ true) (sym q) e)) w i) (λ q. g .none j k hj o (inl q) w i))
+          (λ f. g .none j k hj o (inr f) w i);
     }
 
-    pub fill-field : (x : ℕ) → Worded text rows l m x → m < length index → Filled text rows l (set index m x) (m + 1)
+    pub fill-pass : wordAt wanted m ≡ 0 → Filled text rows wanted l index (m + 1)
+    fill-pass e = record {
+      known = g .known;
+      none = λ j k hj o c w i. either c
+          (λ a. let b : j ≤ m = omega arith in either (eq-or-lt-of-le b) (λ q. let z : wordAt wanted j ≡ 0 = subst (λ x. wordAt wanted x ≡ 0) (sym q) e in absurd (omega (arith, o, z))) (λ q. g .none j k hj o (inl q) w i))
+          (λ f. g .none j k hj o (inr f) w i);
+    }
+
+    pub fill-field : (x : ℕ) → Worded text rows l m x → m < length index → Filled text rows wanted l (set index m x) (m + 1)
     fill-field x s h = record {
-      known = known-word l index m x h s (g .known);
-      none = λ j k hj c e i. by-word index m x h j
+      known = known-word text rows l index m x h s (g .known);
+      none = λ j k hj o c e i. by-word index m x h j
           (λ q w. rw q (s .none k (sym w ∙ e) i))
-          (λ q w. g .none j k hj (either c (λ a. inl (omega arith)) (λ a. inr a)) (sym w ∙ e) i);
+          (λ q w. g .none j k hj o (either c (λ a. inl (omega arith)) (λ a. inr a)) (sym w ∙ e) i);
     }
 
   -- ---- the end
 
-  module _ (lib : Library text rows) (names : Words) (n : ℕ) (index : Words) (g : Gathered text rows names n index 0) where
+  module _ (lib : Library text rows) (names : Words) (n : ℕ) (index : Words) (g : Gathered text rows wanted names n index 0) where
     named-method : (x : Identity) → In x (map (identityAt text rows) (take n names)) → In x (methodNames (tableOf text rows))
     unfolding identityAt
     named-method x i =
@@ -200,38 +219,30 @@ module _ (text : Bytes) (rows : Words) where
     not-zero zero h = absurd (h refl)
     not-zero (suc k) h = (k, refl)
 
-    method-named : (x : Identity) → In x (methodNames (tableOf text rows)) → In x (map (identityAt text rows) (take n names))
-    unfolding identityAt
-    method-named x i =
-        let h = names-listed (tableOf text rows) x .0 i in
-        let k = h .method .key .0 in
-        let e : h .method ≡ memberAt text rows (objKey k) = member-is text rows (h .type) (h .method) (h .stands) in
-        let b = key-below text rows lib (h .type) (h .method) (h .stands) in
-        let isOne : methodRead rows (objKey k) ≡ true = sym (method-meant text rows (objKey k)) ∙ ap (λ (m : Member). isMethod (m .entity)) (sym e) ∙ h .isOne in
-        let w = not-zero (wordAt index k) (g .done k (omega arith) b isOne) in
-        let v = g .known k (w .0) b (w .1) in
-        let q : identityAt text rows (w .0) ≡ x = v .1 ∙ ap (identityOf (tableOf text rows)) (sym e) ∙ sym (h .named) in
-        subst (λ y. In y (map (identityAt text rows) (take n names))) q (map-In-to (identityAt text rows) (take n names) (w .0) (v .0))
+    method-named : (m : ℕ) → m < memberCountOf rows → 0 < wordAt wanted m → methodRead rows (objKey m) ≡ true → In (identityAt text rows m) (map (identityAt text rows) (take n names))
+    method-named m h o e =
+        let w = not-zero (wordAt index m) (g .done m (omega arith) h o e) in
+        let v = g .known m (w .0) h (w .1) in
+        subst (λ y. In y (map (identityAt text rows) (take n names))) (v .1) (map-In-to (identityAt text rows) (take n names) (w .0) (v .0))
 
     ascends : Sorted Lower (map (identityAt text rows) (take n names))
     unfolding idAt
     ascends = sorted-map (identityAt text rows) Lower (take n names) (g .listed .sorted)
 
-    pub names-held : NamesHeld text rows names n
+    pub names-held : NamesHeld text rows wanted names n
     names-held =
         let r = g .room in
         let lm = lib .laid .members in
         record {
-          all = sorted-same Lower
-              (λ x e. clash e (below-irrefl (idBytes x)))
-              (λ x y z a b. below-trans (idBytes x) (idBytes y) (idBytes z) a b)
-              (map (identityAt text rows) (take n names)) (methodNames (tableOf text rows)) ascends (names-ascend (tableOf text rows) (sound-rows text rows lib)) named-method method-named;
+          ascend = ascends;
+          methods = named-method;
+          all = method-named;
           fits = (omega arith, r .0);
           keys = g .listed .keys;
         }
 
-  pub indexed : (names : Words) (n : ℕ) (index : Words) → Filled text rows (take n names) index (memberCountOf rows) → Indexed text rows names n index
+  pub indexed : (names : Words) (n : ℕ) (index : Words) → Filled text rows wanted (take n names) index (memberCountOf rows) → Indexed text rows wanted names n index
   indexed names n index f = record {
-    none = λ m k h w i. f .none m k h (inl h) w i;
+    none = λ m k h o w i. f .none m k h o (inl h) w i;
     some = λ m k h w. f .known m k h w;
   }

@@ -46,15 +46,15 @@ module _ (text : Bytes) (rows : Words) where
   abbrev pub Known : List ℕ → Words → Type 0
   Known l index = (m k : ℕ) → m < memberCountOf rows → wordAt index m ≡ suc k → In k l × (identityAt text rows k ≡ identityAt text rows m)
 
-  -- The methods among the members from m on have their name.
-  pub record Gathered (names : Words) (n : ℕ) (index : Words) (m : ℕ) : Type 0 where
+  -- The wanted methods among the members from m on have their name.
+  pub record Gathered (wanted names : Words) (n : ℕ) (index : Words) (m : ℕ) : Type 0 where
     pub listed : Listed (take n names)
     pub room : (n ≤ length names) × (n + m ≤ memberCountOf rows)
     pub known : Known (take n names) index
-    pub done : (k : ℕ) → m ≤ k → k < memberCountOf rows → methodRead rows (objKey k) ≡ true → wordAt index k ≡ 0 → ⊥
+    pub done : (k : ℕ) → m ≤ k → k < memberCountOf rows → 0 < wordAt wanted k → methodRead rows (objKey k) ≡ true → wordAt index k ≡ 0 → ⊥
 
-  -- The fields before m have theirs too, if there is one.
-  pub record Filled (l : List ℕ) (index : Words) (m : ℕ) : Type 0 where
+  -- The wanted fields before m have theirs too, if there is one.
+  pub record Filled (wanted : Words) (l : List ℕ) (index : Words) (m : ℕ) : Type 0 where
     pub known : Known l index
-    pub none : (j k : ℕ) → j < memberCountOf rows → (j < m) ⊎ (methodRead rows (objKey j) ≡ true) → wordAt index j ≡ 0 → In k l
+    pub none : (j k : ℕ) → j < memberCountOf rows → 0 < wordAt wanted j → (j < m) ⊎ (methodRead rows (objKey j) ≡ true) → wordAt index j ≡ 0 → In k l
         → sameId (identityAt text rows k) (identityAt text rows j) ≡ false

@@ -1,4 +1,4 @@
-// The names that a table's methods have, ascending by id, and for each member which of them it has.
+// The names that the methods among the wanted members have, ascending by id, and for each wanted member which of them it has.
 ghost use mathlib.Core.Path.{_≡_};
 ghost use mathlib.Core.List.{_∷_, _++_};
 ghost use Prim.Native.Nat.{_+_, _-_, _≤_, _<_};
@@ -15,6 +15,7 @@ use obj::order_ids;
 use objects::ObjKey;
 use objects::rows::is_method;
 use objects::rows::member_count;
+use objects::rows::word;
 use text::Order;
 
 // Where an id stands in a sorted list, or would stand.
@@ -73,18 +74,22 @@ fn put_name(names: &mut [u32], n: usize, i: usize, k: u32)
 
 // ---- methods
 
-// Member m: the name of a method is found, or is a new one.
+// Member m, if it is wanted: the name of a method is found, or is a new one.
 fn gather_one(
     text: &[u8],
     rows: &[u32],
+    wanted: &[u32],
     names: &mut [u32],
     n: usize,
     index: &mut [u32],
     m: u32,
 ) -> usize
-    requires { ⌜ Library (now text) (now rows) × (maxMembers ≤ length (now names)) × (maxMembers ≤ length (now index)) × Gathered (now text) (now rows) (now names) n (now index) (m + 1) ⌝ }
-    ensures { λ r. ⌜ Gathered (now (text .entry)) (now (rows .entry)) (now (names .exit)) r (now (index .exit)) m ⌝ }
+    requires { ⌜ Library (now text) (now rows) × (maxMembers ≤ length (now names)) × (maxMembers ≤ length (now index)) × Gathered (now text) (now rows) (now wanted) (now names) n (now index) (m + 1) ⌝ }
+    ensures { λ r. ⌜ Gathered (now (text .entry)) (now (rows .entry)) (now (wanted .entry)) (now (names .exit)) r (now (index .exit)) m ⌝ }
 {
+    if word(wanted, m as usize) == 0 {
+        return n;
+    }
     if !is_method(rows, ObjKey(m)) {
         return n;
     }
@@ -103,15 +108,15 @@ fn gather_one(
 }
 
 // From the last member to the first.
-fn gather(text: &[u8], rows: &[u32], names: &mut [u32], index: &mut [u32]) -> usize
+fn gather(text: &[u8], rows: &[u32], wanted: &[u32], names: &mut [u32], index: &mut [u32]) -> usize
     requires { ⌜ Library (now text) (now rows) × (maxMembers ≤ length (now names)) × (maxMembers ≤ length (now index)) × (now index ≡ replicate (length (now index)) 0) ⌝ }
-    ensures { λ r. ⌜ Gathered (now (text .entry)) (now (rows .entry)) (now (names .exit)) r (now (index .exit)) 0 ⌝ }
+    ensures { λ r. ⌜ Gathered (now (text .entry)) (now (rows .entry)) (now (wanted .entry)) (now (names .exit)) r (now (index .exit)) 0 ⌝ }
 {
     let mut m = member_count(rows);
     let mut n: usize = 0;
     while 0 < m {
         m -= 1;
-        n = gather_one(text, rows, names, n, index, m);
+        n = gather_one(text, rows, wanted, names, n, index, m);
     }
     n
 }
@@ -130,37 +135,62 @@ fn name_word(text: &[u8], rows: &[u32], names: &[u32], n: usize, m: u32) -> u32
     }
 }
 
-// Member m, if it is a field.
-fn index_field(text: &[u8], rows: &[u32], names: &[u32], n: usize, index: &mut [u32], m: u32)
-    requires { ⌜ Library (now text) (now rows) × Listed (now text) (now rows) (take n (now names)) × (n ≤ length (now names)) × (maxMembers ≤ length (now index)) × (m < memberCountOf (now rows)) × Filled (now text) (now rows) (take n (now names)) (now index) m ⌝ }
-    ensures { λ _. ⌜ Filled (now (text .entry)) (now (rows .entry)) (take n (now (names .entry))) (now (index .exit)) (m + 1) ⌝ }
+// Member m, if it is a field that is wanted.
+fn index_field(
+    text: &[u8],
+    rows: &[u32],
+    wanted: &[u32],
+    names: &[u32],
+    n: usize,
+    index: &mut [u32],
+    m: u32,
+)
+    requires { ⌜ Library (now text) (now rows) × Listed (now text) (now rows) (take n (now names)) × (n ≤ length (now names)) × (maxMembers ≤ length (now index)) × (m < memberCountOf (now rows)) × Filled (now text) (now rows) (now wanted) (take n (now names)) (now index) m ⌝ }
+    ensures { λ _. ⌜ Filled (now (text .entry)) (now (rows .entry)) (now (wanted .entry)) (take n (now (names .entry))) (now (index .exit)) (m + 1) ⌝ }
 {
+    if word(wanted, m as usize) == 0 {
+        return;
+    }
     if is_method(rows, ObjKey(m)) {
         return;
     }
     index[m as usize] = name_word(text, rows, names, n, m);
 }
 
-fn index_fields(text: &[u8], rows: &[u32], names: &[u32], n: usize, index: &mut [u32])
-    requires { ⌜ Library (now text) (now rows) × Listed (now text) (now rows) (take n (now names)) × (n ≤ length (now names)) × (maxMembers ≤ length (now index)) × Filled (now text) (now rows) (take n (now names)) (now index) 0 ⌝ }
-    ensures { λ _. ⌜ Filled (now (text .entry)) (now (rows .entry)) (take n (now (names .entry))) (now (index .exit)) (memberCountOf (now (rows .entry))) ⌝ }
+fn index_fields(
+    text: &[u8],
+    rows: &[u32],
+    wanted: &[u32],
+    names: &[u32],
+    n: usize,
+    index: &mut [u32],
+)
+    requires { ⌜ Library (now text) (now rows) × Listed (now text) (now rows) (take n (now names)) × (n ≤ length (now names)) × (maxMembers ≤ length (now index)) × Filled (now text) (now rows) (now wanted) (take n (now names)) (now index) 0 ⌝ }
+    ensures { λ _. ⌜ Filled (now (text .entry)) (now (rows .entry)) (now (wanted .entry)) (take n (now (names .entry))) (now (index .exit)) (memberCountOf (now (rows .entry))) ⌝ }
 {
     let count = member_count(rows);
     let mut m = 0;
     while m < count {
-        index_field(text, rows, names, n, index, m);
+        index_field(text, rows, wanted, names, n, index, m);
         m += 1;
     }
 }
 
 // ---- both
 
-pub fn method_names(text: &[u8], rows: &[u32], names: &mut [u32], index: &mut [u32]) -> usize
+// A member is wanted if its word is not 0.
+pub fn method_names(
+    text: &[u8],
+    rows: &[u32],
+    wanted: &[u32],
+    names: &mut [u32],
+    index: &mut [u32],
+) -> usize
     requires { ⌜ Library (now text) (now rows) × (maxMembers ≤ length (now names)) × (maxMembers ≤ length (now index)) × (now index ≡ replicate (length (now index)) 0) ⌝ }
-    ensures { λ r. ⌜ NamesHeld (now (text .entry)) (now (rows .entry)) (now (names .exit)) r ⌝ }
-    ensures { λ r. ⌜ Indexed (now (text .entry)) (now (rows .entry)) (now (names .exit)) r (now (index .exit)) ⌝ }
+    ensures { λ r. ⌜ NamesHeld (now (text .entry)) (now (rows .entry)) (now (wanted .entry)) (now (names .exit)) r ⌝ }
+    ensures { λ r. ⌜ Indexed (now (text .entry)) (now (rows .entry)) (now (wanted .entry)) (now (names .exit)) r (now (index .exit)) ⌝ }
 {
-    let n = gather(text, rows, names, index);
-    index_fields(text, rows, names, n, index);
+    let n = gather(text, rows, wanted, names, index);
+    index_fields(text, rows, wanted, names, n, index);
     n
 }

@@ -39,7 +39,7 @@ under-table text rows lib = record {
 
 pub record Doing (text : Bytes) (rows : Words) (t : TypeKey) (index sels level first : Words) (d : ℕ) : Type 0 where
   pub on : OnLevel (tableOf text rows) t d level first
-  pub stands : (k : ℕ) → Key text rows index k → Stands (tableOf text rows) t (selWord sels (objKey k)) d (soFar (tableOf text rows) (identityAt text rows k) t d) none
+  pub stands : (k : ℕ) → Key text rows t index k → Stands (tableOf text rows) t (selWord sels (objKey k)) d (soFar (tableOf text rows) (identityAt text rows k) t d) none
 
 zero-word : (n i : ℕ) → wordAt (replicate n 0) i ≡ 0
 unfolding wordAt
@@ -73,7 +73,7 @@ module _ (text : Bytes) (rows : Words) (lib : Library text rows) (t : TypeKey) (
       let s : d + 1 ≡ suc d = omega arith in
       rw s (record { on = on′; stands = λ k key. row k key (rw s at e) })
     where
-      row : (k : ℕ) → Key text rows index k → sels′ ≡ model.atTypes rows level first (suc d) index (typeCount rows) sels
+      row : (k : ℕ) → Key text rows t index k → sels′ ≡ model.atTypes rows level first (suc d) index (typeCount rows) sels
           → Stands T t (selWord sels′ (objKey k)) (suc d) (soFar T (identityAt text rows k) t (suc d)) none
       row k key e =
           let q = identityAt text rows k in

@@ -27,6 +27,7 @@ use Rattle.method_names.specs.Names.{identityAt}
 use Rattle.method_set.specs.Sets.{selWord}
 use Rattle.method_set.specs.Hits as model
 use Rattle.method_set.specs.Hits.{isSettled, flagAt, Small}
+use Rattle.method_set.specs.Reach.{Met}
 use Rattle.method_set.specs.Standings.{Key}
 use Rattle.method_set.proofs.Tallies.{Tally, none, many, one, plus, plus-none, two-many, gather}
 use Rattle.method_set.proofs.LevelTally.{way, atPlace}
@@ -40,7 +41,7 @@ flag-bit b true f e = ap bit (sym (or-true b))
 flag-bit b false f e = e ∙ ap bit (sym (or-false b))
 
 module _ (text : Bytes) (rows : Words) (t : TypeKey) (d : ℕ) (level first index : Words)
-    (on : OnLevel (tableOf text rows) t d level first) (small : Small rows index) (k : ℕ) (key : Key text rows index k) where
+    (on : OnLevel (tableOf text rows) t d level first) (small : Small rows index) (k : ℕ) (key : Key text rows t index k) where
   abbrev T : Table
   T = tableOf text rows
 
@@ -159,15 +160,32 @@ module _ (text : Bytes) (rows : Words) (t : TypeKey) (d : ℕ) (level first inde
         unfolding identityAt
         not-mine e = ap (λ b. cond b (gather (λ w. one (way w place)) (levels.standing u W)) none) e
 
+        -- the level comes to the member
+        met : Met text rows t m
+        met = go (levels.standing u W) refl
+          where
+            go : (S : List Walk) → levels.standing u W ≡ S → Met text rows t m
+            go [] e = absurd (some (walks-zero u sized e))
+            go (w ∷ S) e =
+                let i = In-keep (λ v. sameType u (v .at)) W w (subst (In w) (sym e) (inl refl)) in
+                record {
+                  level = d;
+                  walk = w;
+                  at = place;
+                  stands = i .0;
+                  owns = subst (λ z. In place (owned T z)) (same-key u (w .at) (i .1)) own;
+                  key = ap (λ o. o .0) (member-key text rows (objKey m));
+                }
+
         -- A MEMBER: the ways that end in it, if it has the name
         pub member-adds : (i : ℕ) → wordAt index m ≡ i → (sels : Words) (x : Tally Way) → selWords ≤ length sels → Row sels x
             → Row (model.named rows level first (suc d) index u n (objKey m) i sels) (plus x (atPlace T q (levels.standing u W) place))
         unfolding model.named identityAt
-        member-adds zero e sels x l r = none-added sels x _ (not-mine (key .misses m there (λ f. absurd (omega (arith, sym e ∙ f))))) r
+        member-adds zero e sels x l r = none-added sels x _ (not-mine (key .misses m there met (λ f. absurd (omega (arith, sym e ∙ f))))) r
         member-adds (suc j) e sels x l r =
             cases (eqb j k)
             (λ h. let s = eqb-true j k h in hit-mine s)
-            (λ h. let s = eqb-false j k h in none-added _ x _ (not-mine (key .misses m there (λ f. s (suc-inj (sym e ∙ f)))))
+            (λ h. let s = eqb-false j k h in none-added _ x _ (not-mine (key .misses m there met (λ f. s (suc-inj (sym e ∙ f)))))
             (stands-kept T t (selWord sels (objKey k)) _ (hit-other rows level first sels (suc d) u n (objKey m) k j s) d (soFar T q t d) x r))
           where
             suc-inj : suc j ≡ suc k → j ≡ k

@@ -9,5 +9,8 @@ pub mod HitLaws
 pub mod TypeHits
 pub mod CarryLaws
 pub mod DoingLaws
+pub mod QueueLaws
+pub mod ReachLaws
 pub mod ListedLaws
+pub mod GivenLaws
 pub mod SetLaws

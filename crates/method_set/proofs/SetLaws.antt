@@ -23,7 +23,7 @@ use Rattle.rules.specs.Sound.{Sound}
 use Rattle.rules.proofs.Sounds.{loads-sound}
 use Rattle.rules.specs.Members.{Identity, sameId, idBytes}
 use Rattle.rules.proofs.MemberLaws.{sameId-true, sameId-eq}
-use Rattle.rules.proofs.MethodNames.{Lower, names-ascend}
+use Rattle.rules.proofs.MethodNames.{Lower}
 use Rattle.rules.specs.Ways.{Way}
 use Rattle.rules.specs.MethodSet.{Standing, absent, hidden, given, listed, standing, emptySet, methodSet}
 use Rattle.rules.specs.Answer.{selOf}
@@ -31,8 +31,10 @@ use Rattle.ways.proofs.TableLaws.{bare-in}
 use Rattle.method_names.specs.Names.{identityAt, NamesHeld, Indexed}
 use Rattle.method_set.specs.Sets.{selWord, selAt, selNumbers, SetHeld}
 use Rattle.method_set.specs.Hits.{Small, emptyRead, isGiven}
+use Rattle.method_set.specs.Reach.{Met, Wanted}
 use Rattle.method_set.specs.Standings.{GivenRow, Shows, Key, Settled}
 use Rattle.method_set.proofs.DoingLaws.{under-table}
+use Rattle.method_set.proofs.GivenLaws.{names-enough}
 
 -- ---- the keys of names
 
@@ -51,10 +53,7 @@ module _ (text : Bytes) (rows : Words) where
       clash (subst (λ (i : Identity). Lower i (identityAt text rows j)) (ap (identityAt text rows) (sym b) ∙ sym e) low) (below-irrefl (idBytes (identityAt text rows j)))
   distinct (x ∷ l) s j k (inr a) (inr b) e = distinct l (s .1) j k a b e
 
-  module _ (lib : Library text rows) (names index : Words) (n : ℕ) (held : NamesHeld text rows names n) (indexed : Indexed text rows names n index) where
-    sound : Sound T
-    sound = loads-sound text T (lib .loads)
-
+  module _ (lib : Library text rows) (wanted names index : Words) (n : ℕ) (held : NamesHeld text rows wanted names n) (indexed : Indexed text rows wanted names n index) where
     pub keys-small : Small rows index
     keys-small = record { keys = λ m l. go m l (wordAt index m) refl }
       where
@@ -63,14 +62,14 @@ module _ (text : Bytes) (rows : Words) where
         go m l (suc j) e = let k = held .keys j (indexed .some m j l e .0) in let b = lib .laid .members in omega (arith, e, k, b)
 
     one-key : (j k : ℕ) → In j (take n names) → In k (take n names) → identityAt text rows j ≡ identityAt text rows k → j ≡ k
-    one-key = distinct (take n names) (subst (Sorted Lower) (sym (held .all)) (names-ascend T sound))
+    one-key = distinct (take n names) (held .ascend)
 
-    pub key-of : (k : ℕ) → In k (take n names) → Key text rows index k
-    key-of k i = record { hits = λ m l e. indexed .some m k l e .1; misses = λ m l ne. go m l ne (wordAt index m) refl }
+    pub key-of : (t : TypeKey) → Wanted text rows t wanted → (k : ℕ) → In k (take n names) → Key text rows t index k
+    key-of t want k i = record { hits = λ m l e. indexed .some m k l e .1; misses = λ m l met ne. go m l met ne (wordAt index m) refl }
       where
-        go : (m : ℕ) → m < memberCountOf rows → (wordAt index m ≡ suc k → ⊥) → (j : ℕ) → wordAt index m ≡ j → sameId (identityAt text rows m) (identityAt text rows k) ≡ false
-        go m l ne zero e = false-of _ (λ h. clash (sameId-eq _ _ (sym (sameId-true (identityAt text rows m) (identityAt text rows k) h))) (indexed .none m k l e i))
-        go m l ne (suc j) e =
+        go : (m : ℕ) → m < memberCountOf rows → Met text rows t m → (wordAt index m ≡ suc k → ⊥) → (j : ℕ) → wordAt index m ≡ j → sameId (identityAt text rows m) (identityAt text rows k) ≡ false
+        go m l met ne zero e = false-of _ (λ h. clash (sameId-eq _ _ (sym (sameId-true (identityAt text rows m) (identityAt text rows k) h))) (indexed .none m k l (want .all m met) e i))
+        go m l met ne (suc j) e =
             let r = indexed .some m j l e in
             false-of _ (λ h. ne (e ∙ ap suc (one-key j k (r .0) i (r .1 ∙ sameId-true (identityAt text rows m) (identityAt text rows k) h))))
 
@@ -86,7 +85,7 @@ module _ (text : Bytes) (rows : Words) where
         let s : suc (g .level) - 1 ≡ g .level = omega arith in
         rw (g .stamp, g .at, g .place, g .member, g .flag, s, came .places)
 
-    lines : (l : List ℕ) → ((k : ℕ) → In k l → Key text rows index k)
+    lines : (l : List ℕ) → ((k : ℕ) → In k l → Key text rows t index k)
         → map (λ k. selAt sels first (objKey k)) (keep (isGiven sels) l) ≡ map selNumbers (map (selOf T) (flat (λ q. listed (standing T q t)) (map (identityAt text rows) l)))
     unfolding isGiven
     lines [] keys = refl
@@ -100,7 +99,7 @@ module _ (text : Bytes) (rows : Words) where
         go (given w) e h ih = let z : (selWord sels (objKey k) 0 ≡ 2) × GivenRow T t (selWord sels (objKey k)) (settled .last) w = rw e at h in rw (z .0, e) (ap₂ (λ x y. x ∷ y) (line k w (z .1)) ih)
 
     -- what is given has its level
-    given-stamp : (k : ℕ) → Key text rows index k → isGiven sels k ≡ true → (1 ≤ selWord sels (objKey k) 1) × (selWord sels (objKey k) 1 ≤ settled .last)
+    given-stamp : (k : ℕ) → Key text rows t index k → isGiven sels k ≡ true → (1 ≤ selWord sels (objKey k) 1) × (selWord sels (objKey k) 1 ≤ settled .last)
     unfolding isGiven
     given-stamp k key y = go (standing T (identityAt text rows k) t) refl (settled .shows k key)
       where
@@ -143,22 +142,23 @@ module _ (text : Bytes) (rows : Words) (lib : Library text rows) (t : TypeKey) (
     short = λ k i. absurd i;
   }
 
-  pub set-held : {b : Bool} (names index keys sels first : Words) (n r : ℕ) → b ≡ emptyRead rows t → b ≡ false → NamesHeld text rows names n → Indexed text rows names n index
-      → Settled text rows t index sels first → take r keys ≡ keep (isGiven sels) (take n names) → r ≤ n → maxMembers ≤ length keys → SetHeld text rows t keys sels first r
+  pub set-held : {b : Bool} (wanted names index keys sels first : Words) (n r : ℕ) → b ≡ emptyRead rows t → b ≡ false → Wanted text rows t wanted → NamesHeld text rows wanted names n
+      → Indexed text rows wanted names n index → Settled text rows t index sels first → take r keys ≡ keep (isGiven sels) (take n names) → r ≤ n → maxMembers ≤ length keys
+      → SetHeld text rows t keys sels first r
   unfolding methodSet
-  set-held names index keys sels first n r e out held indexed settled list l room = record {
+  set-held wanted names index keys sels first n r e out want held indexed settled list l room = record {
     lines =
         let z : emptySet U t ≡ false = empty-is ∙ sym e ∙ out in
         ap (map (λ k. selAt sels first (objKey k))) list
-        ∙ lines text rows t index sels first settled (take n names) (key-of text rows lib names index n held indexed)
-        ∙ rw z (ap (λ qs. map selNumbers (map (selOf U) (flat (λ q. listed (standing U q t)) qs))) (held .all));
+        ∙ lines text rows t index sels first settled (take n names) (key-of text rows lib wanted names index n held indexed t want)
+        ∙ rw z (ap (λ ws. map selNumbers (map (selOf U) ws)) (names-enough text rows lib t there wanted names n want held));
     fits = let f = held .fits .0 in (omega arith, omega arith);
     short = λ k i. near k (In-keep (isGiven sels) (take n names) k (subst (In k) list i));
   }
     where
       near : (k : ℕ) → In k (take n names) × (isGiven sels k ≡ true) → (1 ≤ selWord sels (objKey k) 1) × (selWord sels (objKey k) 1 ≤ maxPlaces)
       near k i =
-          let g = given-stamp text rows t index sels first settled k (key-of text rows lib names index n held indexed k (i .0)) (i .1) in
+          let g = given-stamp text rows t index sels first settled k (key-of text rows lib wanted names index n held indexed t want k (i .0)) (i .1) in
           let few : settled .last ≤ typeCount rows = rw (← size-read text rows) (settled .few) in
           let small = lib .laid .types in
           let g1 = g .1 in

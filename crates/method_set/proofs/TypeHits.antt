@@ -102,11 +102,11 @@ module _ (text : Bytes) (rows : Words) (start : ℕ) where
 
 module _ (text : Bytes) (rows : Words) where
   -- the members under a type, or none
-  abbrev listIf : Bool → TypeKey → List Place
+  abbrev pub listIf : Bool → TypeKey → List Place
   listIf has v = placesFrom 0 (cond has (membersFrom text rows (firstRead rows v) (totalRead rows v)) [])
 
   -- what a type owns, as the rows say it
-  owned-read : (u : TypeKey) → u .0 < typeCount rows → underRead rows u .0 < typeCount rows
+  pub owned-read : (u : TypeKey) → u .0 < typeCount rows → underRead rows u .0 < typeCount rows
       → owned (tableOf text rows) u ≡ listIf (namedRead rows u) u ++ listIf (eqb (numberRead rows (underRead rows u)) 8) (underRead rows u) ++ listIf (eqb (numberRead rows (underRead rows u)) 9) (underRead rows u)
   unfolding owned ifaceRead
   owned-read u i b =
@@ -117,7 +117,7 @@ module _ (text : Bytes) (rows : Words) where
 -- ---- the row of a name
 
 module _ (text : Bytes) (rows : Words) (laid : Laid rows) (t : TypeKey) (d : ℕ) (level first index : Words)
-    (on : OnLevel (tableOf text rows) t d level first) (small : Small rows index) (k : ℕ) (key : Key text rows index k) where
+    (on : OnLevel (tableOf text rows) t d level first) (small : Small rows index) (k : ℕ) (key : Key text rows t index k) where
   abbrev T : Table
   T = tableOf text rows
 

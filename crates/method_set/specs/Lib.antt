@@ -1,3 +1,4 @@
 pub mod Sets
 pub mod Hits
+pub mod Reach
 pub mod Standings

@@ -14,6 +14,7 @@ use Rattle.method_levels.specs.Levels as levels
 use Rattle.method_levels.specs.Levels.{levelAt, Came}
 use Rattle.method_names.specs.Names.{identityAt}
 use Rattle.method_set.specs.Sets.{selWord}
+use Rattle.method_set.specs.Reach.{Met}
 
 -- ---- one row
 
@@ -39,15 +40,15 @@ module _ (T : Table) (t : TypeKey) where
 -- ---- all rows
 
 module _ (text : Bytes) (rows : Words) where
-  -- k stands for a name: its row is the one that the members with the name hit, and no others
-  pub record Key (index : Words) (k : ℕ) : Type 0 where
+  -- k stands for a name: its row is the one that the members with the name hit, of those that the levels come to, and no others
+  pub record Key (t : TypeKey) (index : Words) (k : ℕ) : Type 0 where
     pub hits : (m : ℕ) → m < memberCountOf rows → wordAt index m ≡ suc k → identityAt text rows k ≡ identityAt text rows m
-    pub misses : (m : ℕ) → m < memberCountOf rows → (wordAt index m ≡ suc k → ⊥) → sameId (identityAt text rows m) (identityAt text rows k) ≡ false
+    pub misses : (m : ℕ) → m < memberCountOf rows → Met text rows t m → (wordAt index m ≡ suc k → ⊥) → sameId (identityAt text rows m) (identityAt text rows k) ≡ false
 
   -- As many levels are done as it takes, and how each type was first reached is known of them.
   pub record Settled (t : TypeKey) (index sels first : Words) : Type 0 where
     pub last : ℕ
     pub few : last ≤ size (tableOf text rows)
-    pub shows : (k : ℕ) → Key index k → Shows (tableOf text rows) t (selWord sels (objKey k)) last (standing (tableOf text rows) (identityAt text rows k) t)
+    pub shows : (k : ℕ) → Key t index k → Shows (tableOf text rows) t (selWord sels (objKey k)) last (standing (tableOf text rows) (identityAt text rows k) t)
     pub came : (e : ℕ) (w : Walk) → e ≤ last → levels.standing (w .at) (levelAt (tableOf text rows) t e .walks) ≡ w ∷ []
         → any (sameType (w .at)) (levelAt (tableOf text rows) t e .reached) ≡ false → Came first e w

@@ -10,6 +10,7 @@ ghost use Rattle.rules.specs.Library.{Library};
 ghost use Rattle.method_set.specs.Sets.{selWord, selAt, SetHeld};
 ghost use Rattle.method_set.specs.Hits.{emptyRead, isGiven, pushed};
 use crate::levels::levels;
+use crate::reach::reach;
 use crate::words::put;
 use crate::words::sel_word;
 use method_levels::first_level;
@@ -25,6 +26,7 @@ use objects::rows::word;
 
 mod hits;
 mod levels;
+mod reach;
 mod words;
 
 // ---- what is given
@@ -87,9 +89,11 @@ pub fn new(
     if empty_set(rows, t) {
         return 0;
     }
+    let mut wanted = [0u32; 1024];
+    reach(text, rows, t, &mut wanted);
     let mut names = [0u32; 1024];
     let mut index = [0u32; 1024];
-    let n = method_names(text, rows, &mut names, &mut index);
+    let n = method_names(text, rows, &wanted, &mut names, &mut index);
     let mut level = [0u32; 256];
     let mut next = [0u32; 256];
     let span = first_level(text, rows, t, &mut level, first);

@@ -10,19 +10,19 @@ use Rattle.method_names.proofs.index_fields.Statement.{statement}
 use Rattle.method_names.proofs.index_fields.Tie as tie
 
 abbrev Inv-loop : tie.InvT-loop
-Inv-loop text rows names n index₀ count m₀ index m = (length index ≡ length index₀) × (m ≤ count) × Filled text rows (take n names) index m
+Inv-loop text rows wanted names n index₀ count m₀ index m = (length index ≡ length index₀) × (m ≤ count) × Filled text rows wanted (take n names) index m
 
 abbrev μ-loop : tie.MeasureT-loop
-μ-loop text rows names n index₀ count m₀ index m = count - m
+μ-loop text rows wanted names n index₀ count m₀ index m = count - m
 
 member-count-requires : tie.Need-member-count-requires Inv-loop μ-loop
 member-count-requires c κs = search needs
 
 loop-holds : tie.Need-loop-holds Inv-loop μ-loop
-loop-holds c = (refl, omega arith, (c .before .before .before .before .before .pre) .4)
+loop-holds c = (refl, omega arith, (c .before .before .before .before .before .before .pre) .4)
 
 index-field-requires : tie.Need-index-field-requires Inv-loop μ-loop
-index-field-requires c κs = ((c .before .before .before .before .before .before .before .before .pre) .0, (c .before .before .before .before .before .before .before .before .pre) .1, (c .before .before .before .before .before .before .before .before .pre) .2, omega (arith, (c .before .before .loop .inv) .0, (c .before .before .before .before .before .before .before .before .pre) .3), omega (arith, (c .before .loop-test .taken), (c .before .before .before .member-count .ensures)), (c .before .before .loop .inv) .2)
+index-field-requires c κs = ((c .before .before .before .before .before .before .before .before .before .pre) .0, (c .before .before .before .before .before .before .before .before .before .pre) .1, (c .before .before .before .before .before .before .before .before .before .pre) .2, omega (arith, (c .before .before .loop .inv) .0, (c .before .before .before .before .before .before .before .before .before .pre) .3), omega (arith, (c .before .loop-test .taken), (c .before .before .before .member-count .ensures)), (c .before .before .loop .inv) .2)
 
 add-m : tie.Need-add-m Inv-loop μ-loop
 add-m c = search needs
@@ -31,13 +31,13 @@ loop-less : tie.Need-loop-less Inv-loop μ-loop
 loop-less c = omega arith
 
 loop-again : tie.Need-loop-again Inv-loop μ-loop
-loop-again c = ((c .before .before .index-field .kept .1 .1 .1 .1 .0) ∙ (c .before .before .before .before .before .loop .inv) .0, omega (arith, (c .before .before .before .before .loop-test .taken)), (c .before .before .index-field .ensures))
+loop-again c = ((c .before .before .index-field .kept .1 .1 .1 .1 .1 .0) ∙ (c .before .before .before .before .before .loop .inv) .0, omega (arith, (c .before .before .before .before .loop-test .taken)), (c .before .before .index-field .ensures))
 
 same-length : tie.Need-same-length Inv-loop μ-loop
 same-length c = search needs
 
 returns : tie.Need-returns Inv-loop μ-loop
-returns c = fill-end (c .before .before .before .before .before .before .before .args .text .now) (c .before .before .before .before .before .before .before .args .rows .now) (take (c .before .before .before .before .before .before .before .args .n) (c .before .before .before .before .before .before .before .args .names .now)) (c .before .loop .index) (c .before .loop .m) (c .before .before .member-count .ensures) ((c .before .loop .inv) .1) (c .loop-test .left) ((c .before .loop .inv) .2)
+returns c = fill-end (c .before .before .before .before .before .before .before .before .args .text .now) (c .before .before .before .before .before .before .before .before .args .rows .now) (c .before .before .before .before .before .before .before .before .args .wanted .now) (take (c .before .before .before .before .before .before .before .before .args .n) (c .before .before .before .before .before .before .before .before .args .names .now)) (c .before .loop .index) (c .before .loop .m) (c .before .before .member-count .ensures) ((c .before .loop .inv) .1) (c .loop-test .left) ((c .before .loop .inv) .2)
 
 pub index-fields-spec : {M : Type 1} → statement M
 index-fields-spec =
