@@ -22,6 +22,9 @@ use Rattle.text.proofs.PartLaws.{drop-at}
 pub same-length : (a b : Bytes) → (length a ≡ length b → ⊥) → sameBytes a b ≡ false
 same-length a b n = cases (sameBytes a b) (λ e. absurd (n (ap length (same-true a b e)))) (λ e. e)
 
+pub parts-length : {a b u v : Bytes} → a ≡ u → b ≡ v → (length a ≡ length b → ⊥) → sameBytes u v ≡ false
+parts-length {a} {b} p q n = rw (← p, ← q) (same-length a b n)
+
 pub same-not : (a b : Bytes) (k : ℕ) → (getD a k 0 ≡ getD b k 0 → ⊥) → sameBytes a b ≡ false
 same-not a b k n = cases (sameBytes a b) (λ e. absurd (n (ap (λ x. getD x k 0) (same-true a b e)))) (λ e. e)
 

@@ -77,7 +77,7 @@ fn same_bytes(a: &[u8], b: &[u8]) -> bool
     true
 }
 
-// The length and the last byte tell most names apart, also those that begin alike, and are compared in the caller's code.
+// The length and the last byte tell most names apart, also those that begin alike.
 pub fn same(a: &[u8], b: &[u8]) -> bool
     ensures { λ r. ⌜ r ≡ sameBytes (now (a .entry)) (now (b .entry)) ⌝ }
 {
@@ -155,16 +155,22 @@ pub fn span(s: &[u8], at: usize, n: usize) -> &[u8]
     }
 }
 
+// The lengths come first, so that parts of different lengths are told apart without a call.
 pub fn same_across(s: &[u8], a: usize, an: usize, t: &[u8], b: usize, bn: usize) -> bool
     ensures { λ r. ⌜ r ≡ sameBytes (take an (drop a (now (s .entry)))) (take bn (drop b (now (t .entry)))) ⌝ }
 {
-    same(span(s, a, an), span(t, b, bn))
+    let x = span(s, a, an);
+    let y = span(t, b, bn);
+    if x.len() != y.len() {
+        return false;
+    }
+    same(x, y)
 }
 
 pub fn same_part(s: &[u8], a: usize, an: usize, b: usize, bn: usize) -> bool
     ensures { λ r. ⌜ r ≡ sameBytes (take an (drop a (now (s .entry)))) (take bn (drop b (now (s .entry)))) ⌝ }
 {
-    same(span(s, a, an), span(s, b, bn))
+    same_across(s, a, an, s, b, bn)
 }
 
 pub fn compare_part(s: &[u8], a: usize, an: usize, b: usize, bn: usize) -> Order

@@ -1,27 +1,17 @@
--- `text::compare::same_part` meets its contract. The parts are what `span` ensures.
-use mathlib.Core.Path.{ap₂, _∙_}
-use Rattle.text.specs.Bytes.{sameBytes}
+-- `text::compare::same_part` meets its contract.
 use borrow.Author.Needs.{needs}
 use Rattle.text.proofs.compare.same_part.Statement.{statement}
 use Rattle.text.proofs.compare.same_part.Tie as tie
 
-span-requires : tie.Need-span-requires
-span-requires c κs = search needs
-
-span-requires-2 : tie.Need-span-requires-2
-span-requires-2 c κs = search needs
-
-same-requires : tie.Need-same-requires
-same-requires c κs = search needs
+same-across-requires : tie.Need-same-across-requires
+same-across-requires c κs = search needs
 
 returns : tie.Need-returns
-returns c = (c .same .ensures) ∙ ap₂ sameBytes (c .before .before .span .ensures) (c .before .span2 .ensures)
+returns c = (c .same-across .ensures)
 
 pub same-part-spec : {M : Type 1} → statement M
 same-part-spec =
     tie.close
     (tie.spec
-    span-requires
-    span-requires-2
-    same-requires
+    same-across-requires
     returns)
