@@ -10,8 +10,8 @@ use Rattle.objects.specs.declared.TypeKey.{TypeKey}
 use Rattle.objects.specs.Bounds.{maxReference, maxTypes, maxElements}
 use Rattle.objects.specs.Lists.{Bytes, empty, lastOr, onLast, when, mapped}
 use Rattle.objects.specs.Table.{Table, Kind, Basic, Array, Slice, Pointer, Map, Chan, Tuple, Func, Struct, Iface, Named, typeKey, kindNumber}
-use Rattle.objects.specs.Rows.{Words, typeCount, elementCount, typeWord, kindOf, elementsFrom, tableOf}
-use Rattle.objects.specs.Laid.{Laid, Holds, lastType, elementAdded, plusType, plusElement}
+use Rattle.objects.specs.Rows.{Words, typeCount, memberCountOf, elementCount, typeWord, kindOf, elementsFrom, tableOf}
+use Rattle.objects.specs.Laid.{used, Laid, Holds, lastType, elementAdded, plusType, plusElement}
 use Rattle.objects.proofs.ListLaws.{cases, clash}
 use Rattle.objects.proofs.Numbers.{onLast-at}
 use Rattle.text.specs.declared.Cursor.{Cursor}
@@ -26,9 +26,9 @@ use Rattle.lines.specs.declared.Form.{Form}
 use Rattle.lines.specs.declared.Verdict.{Verdict}
 use Rattle.lines.specs.Steps.{numbered, allRead, elementsRead, tupleOf}
 use Rattle.lines.specs.Forms.{smallRead, formMeant}
-use Rattle.lines.specs.Adding.{tupleSize, lineElements, elementsOf, withElements, Grown}
+use Rattle.lines.specs.Adding.{tupleSize, lineMembers, membersIn, lineElements, elementsOf, withElements, Grown}
 use Rattle.lines.proofs.AboveLaws.{lastOr-snoc, tuple-last}
-use Rattle.lines.proofs.AddLaws.{refusing, type-full, kind-added}
+use Rattle.lines.proofs.AddLaws.{refusing, members-kept, type-full, kind-added}
 
 -- ---- reading
 
@@ -119,6 +119,10 @@ with-elements T line ds (e ∷ es) =
 
 -- one turn of the loop
 module _ (s : Bytes) (rows after : Words) (e : TypeKey) (held : Holds after (λ text. plusElement (tableOf text rows) e)) where
+  pub element-members : memberCountOf after ≡ memberCountOf rows
+  unfolding plusElement
+  element-members = members-kept s rows after (λ text. plusElement (tableOf text rows) e) held refl
+
   pub still-tuple : kindNumber (lastKind (tableOf s rows)) ≡ 6 → kindNumber (lastKind (tableOf s after)) ≡ 6
   still-tuple h = ap (λ T. kindNumber (lastKind T)) (held .held s) ∙ plus-number (tableOf s rows) e ∙ h
 
@@ -131,9 +135,9 @@ unfolding withElements
 turn-end T q = rw q
 
 -- what the writer asks
-pub element-ready : (s : Bytes) (rows : Words) → Laid rows → kindNumber (lastKind (tableOf s rows)) ≡ 6 → elementCount rows < maxElements
-    → Laid rows × (elementCount rows < maxElements) × (0 < typeCount rows) × (typeWord rows (lastType rows) 0 ≡ 6)
-element-ready s rows laid h few = (laid, few, tuple-last s rows h .0, tuple-last s rows h .1)
+pub element-ready : (s : Bytes) (rows : Words) → Laid rows → kindNumber (lastKind (tableOf s rows)) ≡ 6 → elementCount rows < maxElements → used rows < length rows
+    → Laid rows × (elementCount rows < maxElements) × (0 < typeCount rows) × (typeWord rows (lastType rows) 0 ≡ 6) × (used rows < length rows)
+element-ready s rows laid h few w = (laid, few, tuple-last s rows h .0, tuple-last s rows h .1, w)
 
 -- ---- the line of a tuple
 
@@ -148,6 +152,10 @@ elements-brought fs p e = rw (sym p ∙ e)
 tuple-brings : (es : List TypeKey) {x y z : ℕ} → y ≡ x → z ≡ y + length es → z ≤ x + elementsOf (some (typeLine (Tuple es)))
 unfolding elementsOf lineElements tupleSize
 tuple-brings es a b = omega arith
+
+pub tuple-members : (rows mid : Words) (line : ℕ) → Holds mid (λ x. plusType (tableOf x rows) line (kindOf x rows 6 0 0 0 0 0)) → memberCountOf mid ≡ memberCountOf rows
+unfolding plusType
+tuple-members rows mid line held = members-kept [] rows mid (λ x. plusType (tableOf x rows) line (kindOf x rows 6 0 0 0 0 0)) held refl
 
 module _ (s : Bytes) (rows : Words) (line : ℕ) (laid : Laid rows) (fs : List Bytes) {t : Bool} (p : t ≡ allRead fs) where
   pub tuple-wrong : t ≡ false → Grown s rows line (tupleOf fs) rows (Verdict.Refused 4)
@@ -182,6 +190,10 @@ module _ (s : Bytes) (rows : Words) (line : ℕ) (r : Form) {o : Option Line} (p
   pub grown-form : {f : Form} {after : Words} {v : Verdict} → r ≡ f → Grown s rows line (formMeant s f) after v → Grown s rows line o after v
   grown-form {f} {after} {v} q g = subst (λ x. Grown s rows line x after v) (sym (ap (formMeant s) q) ∙ p) g
 
-  pub tuple-line : {d : Cursor} → r ≡ Form.Tuple d → elementsOf (tupleOf (fieldsLeft s d)) ≡ elementsOf o
+  pub tuple-line : {d : Cursor} → r ≡ Form.Tuple d → tupleOf (fieldsLeft s d) ≡ o
   unfolding formMeant
-  tuple-line q = ap elementsOf (sym (ap (formMeant s) q) ∙ p)
+  tuple-line q = sym (ap (formMeant s) q) ∙ p
+
+  pub member-line : {name count pkg t form tag width : ℕ} → r ≡ Form.Member name count pkg t form tag width → membersIn o ≡ 1
+  unfolding formMeant membersIn lineMembers
+  member-line q = ap membersIn (sym (sym (ap (formMeant s) q) ∙ p))

@@ -3,16 +3,16 @@ use mathlib.Core.Path.{_≡_}
 use mathlib.Core.Bool.{Bool, cond, _&&_, _||_}
 use mathlib.Core.List.{List, [], _∷_}
 use mathlib.Core.Option.{Option, none, some}
-use Prim.Native.Nat.{ℕ, suc, _+_, _≤_}
+use Prim.Native.Nat.{ℕ, _+_, _*_, _≤_}
 use lib.Dec.{eqb, ltb}
 use lib.ListN.{length}
 use Rattle.objects.specs.declared.TypeKey.{TypeKey}
-use Rattle.objects.specs.Bounds.{maxMembers, maxPerType}
+use Rattle.objects.specs.Bounds.{maxMembers, maxPerType, rowWords}
 use Rattle.objects.specs.Lists.{Bytes}
 use Rattle.objects.specs.Table.{Table, Kind, Basic, Array, Slice, Pointer, Map, Chan, Tuple, Func, Struct, Iface, Named}
 use Rattle.objects.specs.Rows.{Words, memberCountOf, elementCount, tableOf}
 use Rattle.objects.specs.Types.{totalRead}
-use Rattle.objects.specs.Laid.{Laid, lastType, plusElement}
+use Rattle.objects.specs.Laid.{used, Laid, lastType, plusElement}
 use Rattle.rules.specs.Forms.{Line, packageLine, typeLine, memberLine}
 use Rattle.rules.specs.Load.{Loaded, refused, loaded, lineAdded}
 use Rattle.lines.specs.declared.Verdict.{Verdict}
@@ -21,7 +21,7 @@ unfoldable pub verdictMeant : Bytes → Words → ℕ → Verdict → Loaded
 verdictMeant text rows line Verdict.Added = loaded (tableOf text rows)
 verdictMeant text rows line (Verdict.Refused n) = refused n line
 
--- ---- elements of tuples
+-- ---- members, and elements of tuples
 
 unfoldable pub tupleSize : Kind → ℕ
 tupleSize (Basic k) = 0
@@ -36,7 +36,16 @@ tupleSize (Struct ms) = 0
 tupleSize (Iface ms) = 0
 tupleSize (Named u ms) = 0
 
--- how many elements a line brings
+-- how many members and elements a line brings
+unfoldable pub lineMembers : Line → ℕ
+lineMembers (packageLine path) = 0
+lineMembers (typeLine k) = 0
+lineMembers (memberLine name pkg type e) = 1
+
+unfoldable pub membersIn : Option Line → ℕ
+membersIn none = 0
+membersIn (some l) = lineMembers l
+
 unfoldable pub lineElements : Line → ℕ
 lineElements (packageLine path) = 0
 lineElements (typeLine k) = tupleSize k
@@ -45,6 +54,14 @@ lineElements (memberLine name pkg type e) = 0
 unfoldable pub elementsOf : Option Line → ℕ
 elementsOf none = 0
 elementsOf (some l) = lineElements l
+
+-- the words that the rows use with what a line brings
+abbrev pub usedWith : Words → Option Line → ℕ
+usedWith rows o = used rows + rowWords * membersIn o + elementsOf o
+
+-- the bytes that the lines of all members and elements have at least: a member's more than 8, an element a tab and a digit
+abbrev pub bytesTaken : Words → ℕ
+bytesTaken rows = 8 * memberCountOf rows + 2 * elementCount rows
 
 -- the table with more elements of its last type, a tuple
 unfoldable pub withElements : Table → List TypeKey → Table

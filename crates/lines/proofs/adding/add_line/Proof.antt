@@ -1,7 +1,7 @@
 -- `lines::adding::add_line` meets its contract.
 use mathlib.Core.Path.{refl}
 use mathlib.Core.Option.{none}
-use Rattle.lines.proofs.TupleLaws.{grown-form, tuple-line}
+use Rattle.lines.proofs.TupleLaws.{grown-form, tuple-line, member-line}
 use Rattle.lines.proofs.AddLaws.{refusing}
 use native.Mathlib.Omega.{arith}
 use Rattle.lines.specs.Forms.{formMeant}
@@ -28,13 +28,13 @@ enum-known-d : tie.Need-enum-known-d
 enum-known-d c = search needs
 
 add-tuple-requires : tie.Need-add-tuple-requires
-add-tuple-requires c κs = ((c .before .before .before .before .before .before .before .pre .1), omega (arith, tuple-line (c .before .before .before .before .before .before .before .args .s .now) (c .before .before .before .before .before .before .before .args .rows .now) (c .before .before .before .before .before .before .before .args .line) _ (c .before .before .before .before .parse .ensures) (c .before .before .d .given .1), (c .before .before .before .before .before .before .before .pre .2)))
+add-tuple-requires c κs = ((c .before .before .before .before .before .before .before .pre .1), rw (tuple-line (c .before .before .before .before .before .before .before .args .s .now) (c .before .before .before .before .before .before .before .args .rows .now) (c .before .before .before .before .before .before .before .args .line) _ (c .before .before .before .before .parse .ensures) (c .before .before .d .given .1)) (c .before .before .before .before .before .before .before .pre .2), rw (tuple-line (c .before .before .before .before .before .before .before .args .s .now) (c .before .before .before .before .before .before .before .args .rows .now) (c .before .before .before .before .before .before .before .args .line) _ (c .before .before .before .before .parse .ensures) (c .before .before .d .given .1)) (c .before .before .before .before .before .before .before .pre .3))
 
 enum-known-name : tie.Need-enum-known-name
 enum-known-name c = search needs
 
 add-member-requires : tie.Need-add-member-requires
-add-member-requires c κs = (c .before .before .before .before .before .before .before .pre .1)
+add-member-requires c κs = ((c .before .before .before .before .before .before .before .pre .1), omega (arith, member-line (c .before .before .before .before .before .before .before .args .s .now) (c .before .before .before .before .before .before .before .args .rows .now) (c .before .before .before .before .before .before .before .args .line) _ (c .before .before .before .before .parse .ensures) (c .before .before .name .given .1), (c .before .before .before .before .before .before .before .pre .3)))
 
 enum-told : tie.Need-enum-told
 enum-told c = search needs

@@ -1,5 +1,5 @@
 -- `lines::adding::add_tuple` meets its contract.
-use Rattle.lines.proofs.TupleLaws.{elements-brought, new-tuple, tuple-wrong, tuple-full, tuple-added}
+use Rattle.lines.proofs.TupleLaws.{elements-brought, tuple-members, new-tuple, tuple-wrong, tuple-full, tuple-added}
 use native.Mathlib.Omega.{arith}
 use Rattle.text.specs.Cursors.{fieldsLeft}
 use borrow.Author.Needs.{needs}
@@ -16,7 +16,7 @@ put-type-requires : tie.Need-put-type-requires
 put-type-requires c κs = ((c .before .before .before .before .before .before .before .before .pre .0), omega (arith, (c .before .before .type-count .ensures), (c .before .if2 .taken)))
 
 put-elements-requires : tie.Need-put-elements-requires
-put-elements-requires c κs = ((c .before .before .before .put-type .ensures .0 .laid), new-tuple _ _ _ (c .before .before .before .before .before .before .before .before .before .before .before .before .pre .0) _ (c .before .before .before .before .before .before .before .before .before .listed .ensures) (c .before .before .before .before .before .before .before .before .if1 .taken) (c .before .before .before .before .before .before .type-count .ensures) _ (c .before .before .before .put-type .ensures .0), omega (arith, elements-brought (fieldsLeft (c .before .before .before .before .before .before .before .before .before .before .before .before .args .s .now) (c .before .before .before .before .before .before .before .before .before .before .before .before .args .c)) (c .before .before .before .before .before .before .before .before .before .listed .ensures) (c .before .before .before .before .before .before .before .before .if1 .taken), (c .before .before .before .put-type .ensures .1), (c .before .before .before .before .before .before .before .before .before .before .before .before .pre .1)))
+put-elements-requires c κs = ((c .before .before .before .put-type .ensures .0 .laid), new-tuple _ _ _ (c .before .before .before .before .before .before .before .before .before .before .before .before .pre .0) _ (c .before .before .before .before .before .before .before .before .before .listed .ensures) (c .before .before .before .before .before .before .before .before .if1 .taken) (c .before .before .before .before .before .before .type-count .ensures) _ (c .before .before .before .put-type .ensures .0), omega (arith, elements-brought (fieldsLeft (c .before .before .before .before .before .before .before .before .before .before .before .before .args .s .now) (c .before .before .before .before .before .before .before .before .before .before .before .before .args .c)) (c .before .before .before .before .before .before .before .before .before .listed .ensures) (c .before .before .before .before .before .before .before .before .if1 .taken), (c .before .before .before .put-type .ensures .1), (c .before .before .before .before .before .before .before .before .before .before .before .before .pre .1)), omega (arith, elements-brought (fieldsLeft (c .before .before .before .before .before .before .before .before .before .before .before .before .args .s .now) (c .before .before .before .before .before .before .before .before .before .before .before .before .args .c)) (c .before .before .before .before .before .before .before .before .before .listed .ensures) (c .before .before .before .before .before .before .before .before .if1 .taken), tuple-members _ _ _ (c .before .before .before .put-type .ensures .0), (c .before .before .before .put-type .ensures .1), (c .before .before .before .put-type .kept .0), (c .before .before .before .before .before .before .before .before .before .before .before .before .pre .2)))
 
 same-length : tie.Need-same-length
 same-length c = search needs

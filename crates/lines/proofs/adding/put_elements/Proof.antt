@@ -1,16 +1,16 @@
 -- `lines::adding::put_elements` meets its contract.
 use mathlib.Core.Path.{_≡_, refl, sym, ap, _∙_}
-use Prim.Native.Nat.{_+_}
+use Prim.Native.Nat.{_+_, _≤_}
 use lib.ListN.{length}
 use native.Mathlib.Omega.{arith}
 use Rattle.objects.specs.Table.{kindNumber}
 use Rattle.objects.specs.Rows.{elementCount, tableOf}
-use Rattle.objects.specs.Laid.{Laid}
+use Rattle.objects.specs.Laid.{used, Laid}
 use Rattle.text.specs.Cursors.{fieldsLeft}
 use Rattle.rules.specs.Load.{lastKind}
 use Rattle.lines.specs.Steps.{elementsRead}
 use Rattle.lines.specs.Adding.{withElements}
-use Rattle.lines.proofs.TupleLaws.{elements-end, elements-more, still-tuple, turn, turn-end, element-ready}
+use Rattle.lines.proofs.TupleLaws.{elements-end, elements-more, element-members, still-tuple, turn, turn-end, element-ready}
 use borrow.Author.Needs.{needs}
 use Rattle.lines.proofs.adding.put_elements.Statement.{statement}
 use Rattle.lines.proofs.adding.put_elements.Tie as tie
@@ -20,12 +20,13 @@ Inv-loop s rows₀ c rows d = Laid rows × (kindNumber (lastKind (tableOf s rows
     × (withElements (tableOf s rows₀) (elementsRead (fieldsLeft s c)) ≡ withElements (tableOf s rows) (elementsRead (fieldsLeft s d)))
     × (elementCount rows + length (elementsRead (fieldsLeft s d)) ≡ elementCount rows₀ + length (elementsRead (fieldsLeft s c)))
     × (length rows ≡ length rows₀)
+    × (used rows + length (elementsRead (fieldsLeft s d)) ≤ length rows)
 
 abbrev μ-loop : tie.MeasureT-loop
 μ-loop s rows₀ c rows d = length (elementsRead (fieldsLeft s d))
 
 loop-holds : tie.Need-loop-holds Inv-loop μ-loop
-loop-holds c = ((c .before .before .pre .0), (c .before .before .pre .1), refl, refl, refl)
+loop-holds c = ((c .before .before .pre .0), (c .before .before .pre .1), refl, refl, refl, (c .before .before .pre .3))
 
 small-requires : tie.Need-small-requires Inv-loop μ-loop
 small-requires c κs = search needs
@@ -34,13 +35,13 @@ enum-known-v : tie.Need-enum-known-v Inv-loop μ-loop
 enum-known-v c = search needs
 
 put-element-requires : tie.Need-put-element-requires Inv-loop μ-loop
-put-element-requires c κs = element-ready (c .before .before .before .before .before .before .before .before .args .s .now) _ (c .before .before .before .before .before .loop .inv .0) (c .before .before .before .before .before .loop .inv .1) (omega (arith, ap length (elements-more (c .before .before .before .before .before .before .before .before .args .s .now) (c .before .before .before .before .before .loop .d) _ (c .before .before .before .before .small .ensures) (c .before .before .v .given .1)), (c .before .before .before .before .before .loop .inv .3), (c .before .before .before .before .before .before .before .before .pre .2)))
+put-element-requires c κs = element-ready (c .before .before .before .before .before .before .before .before .args .s .now) _ (c .before .before .before .before .before .loop .inv .0) (c .before .before .before .before .before .loop .inv .1) (omega (arith, ap length (elements-more (c .before .before .before .before .before .before .before .before .args .s .now) (c .before .before .before .before .before .loop .d) _ (c .before .before .before .before .small .ensures) (c .before .before .v .given .1)), (c .before .before .before .before .before .loop .inv .3), (c .before .before .before .before .before .before .before .before .pre .2))) (omega (arith, ap length (elements-more (c .before .before .before .before .before .before .before .before .args .s .now) (c .before .before .before .before .before .loop .d) _ (c .before .before .before .before .small .ensures) (c .before .before .v .given .1)), (c .before .before .before .before .before .loop .inv .5)))
 
 loop-less : tie.Need-loop-less Inv-loop μ-loop
 loop-less c = omega (arith, ap length (elements-more (c .before .before .before .before .before .before .before .before .before .before .before .args .s .now) (c .before .before .before .before .before .before .before .before .loop .d) _ (c .before .before .before .before .before .before .before .small .ensures) (c .before .before .before .before .before .v .given .1)))
 
 loop-again : tie.Need-loop-again Inv-loop μ-loop
-loop-again c = ((c .before .before .put-element .ensures .0 .laid), still-tuple _ _ _ _ (c .before .before .put-element .ensures .0) (c .before .before .before .before .before .before .before .before .loop .inv .1), (c .before .before .before .before .before .before .before .before .loop .inv .2) ∙ turn _ _ _ _ (c .before .before .put-element .ensures .0) _ (elements-more (c .before .before .before .before .before .before .before .before .before .before .before .args .s .now) (c .before .before .before .before .before .before .before .before .loop .d) _ (c .before .before .before .before .before .before .before .small .ensures) (c .before .before .before .before .before .v .given .1)), omega (arith, ap length (elements-more (c .before .before .before .before .before .before .before .before .before .before .before .args .s .now) (c .before .before .before .before .before .before .before .before .loop .d) _ (c .before .before .before .before .before .before .before .small .ensures) (c .before .before .before .before .before .v .given .1)), (c .before .before .put-element .ensures .1), (c .before .before .before .before .before .before .before .before .loop .inv .3)), (c .before .before .put-element .kept .0) ∙ (c .before .before .before .before .before .before .before .before .loop .inv .4))
+loop-again c = ((c .before .before .put-element .ensures .0 .laid), still-tuple _ _ _ _ (c .before .before .put-element .ensures .0) (c .before .before .before .before .before .before .before .before .loop .inv .1), (c .before .before .before .before .before .before .before .before .loop .inv .2) ∙ turn _ _ _ _ (c .before .before .put-element .ensures .0) _ (elements-more (c .before .before .before .before .before .before .before .before .before .before .before .args .s .now) (c .before .before .before .before .before .before .before .before .loop .d) _ (c .before .before .before .before .before .before .before .small .ensures) (c .before .before .before .before .before .v .given .1)), omega (arith, ap length (elements-more (c .before .before .before .before .before .before .before .before .before .before .before .args .s .now) (c .before .before .before .before .before .before .before .before .loop .d) _ (c .before .before .before .before .before .before .before .small .ensures) (c .before .before .before .before .before .v .given .1)), (c .before .before .put-element .ensures .1), (c .before .before .before .before .before .before .before .before .loop .inv .3)), (c .before .before .put-element .kept .0) ∙ (c .before .before .before .before .before .before .before .before .loop .inv .4), omega (arith, ap length (elements-more (c .before .before .before .before .before .before .before .before .before .before .before .args .s .now) (c .before .before .before .before .before .before .before .before .loop .d) _ (c .before .before .before .before .before .before .before .small .ensures) (c .before .before .before .before .before .v .given .1)), element-members (c .before .before .before .before .before .before .before .before .before .before .before .args .s .now) _ _ _ (c .before .before .put-element .ensures .0), (c .before .before .put-element .ensures .1), (c .before .before .put-element .kept .0), (c .before .before .before .before .before .before .before .before .loop .inv .5)))
 
 enum-told : tie.Need-enum-told Inv-loop μ-loop
 enum-told c = search needs
