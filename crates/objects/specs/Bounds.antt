@@ -113,3 +113,10 @@ allWords = 26_760
 -- for each byte is enough, and never more than all are used.
 abbrev pub roomFor : ℕ → ℕ
 roomFor n = allWords - (sharedWords - n)
+
+-- a call has an array of its own for texts of at most so many bytes, and one for all others
+abbrev pub smallText : ℕ
+smallText = 1_024
+
+abbrev pub middleText : ℕ
+middleText = 6_144
