@@ -26,10 +26,10 @@ use Rattle.lines.proofs.AboveLaws.{no-types, no-tuple, stands-at, stand
 -- ---- a line of right form, by its place and its room
 
 module _ (text : Bytes) (rows : Words) (line : ℕ) where
-  -- nothing is written where the line is refused
-  pub refusing : (o : Option Line) (n : ℕ) → Laid rows → lineAdded (tableOf text rows) line o ≡ refused n line → Grown text rows line o rows (Verdict.Refused n)
+  -- what is written where the line is refused is of no account
+  pub refusing : {after : Words} (o : Option Line) (n : ℕ) → Laid after → lineAdded (tableOf text rows) line o ≡ refused n line → Grown text rows line o after (Verdict.Refused n)
   unfolding verdictMeant
-  refusing o n laid e = record { meant = e; laid = laid; few = omega arith }
+  refusing o n laid e = record { meant = e; laid = laid; few = tt }
 
   module _ (l : Line) where
     pub misplaced : Laid rows → inPlace (tableOf text rows) l ≡ false → Grown text rows line (some l) rows (Verdict.Refused 5)

@@ -9,7 +9,7 @@ use native.Mathlib.Omega.{arith}
 use lib.Dec.{eqb, ltb}
 use lib.ListN.{length, getD, take, drop, replicate, getD-replicate, length-take, length-drop, length-append, take-append-drop}
 use borrow.Author.Tests.{eq-eqb, ne-eqb, eqb-true, lt-ltb, le-ltb}
-use Rattle.objects.specs.Bounds.{maxText, maxElements, membersAt, roomFor}
+use Rattle.objects.specs.Bounds.{maxText, membersAt}
 use Rattle.objects.specs.Lists.{Bytes, empty, any}
 use Rattle.objects.specs.Table.{Table, memberCount}
 use Rattle.objects.specs.Rows.{Words, wordAt, memberCountOf, elementCount, tableOf}
@@ -28,9 +28,10 @@ use Rattle.rules.specs.Forms.{Line, packageLine, typeLine, memberLine, lineOf}
 use Rattle.rules.specs.Load.{Loaded, refused, loaded, added, inPlace, hasRoom, lineAdded, linesFrom, thenChecked, noTable, headed, load}
 use Rattle.lines.specs.declared.Verdict.{Verdict}
 use Rattle.lines.specs.declared.Read.{Read}
-use Rattle.lines.specs.Adding.{verdictMeant, lineMembers, membersIn, elementsOf, usedWith, bytesTaken, Grown}
+use Rattle.lines.specs.Forms.{weight}
+use Rattle.lines.specs.Adding.{verdictMeant, lineMembers, membersIn, elementsOf, bytesTaken, Grown}
 use Rattle.lines.specs.Reading.{readMeant, header}
-use Rattle.lines.proofs.Weights.{weight, fields-weight, brought}
+use Rattle.lines.proofs.Weights.{fields-weight, brought}
 
 -- ---- the header
 
@@ -95,13 +96,6 @@ module _ (text : Bytes) where
         rw (le-ltb maxText (length text) short, i, r .2)
 
 -- ---- what a line brings
-
-pub one-member : (o : Option Line) → membersIn o ≤ 1
-unfolding membersIn lineMembers
-one-member none = omega arith
-one-member (some (packageLine path)) = omega arith
-one-member (some (typeLine k)) = omega arith
-one-member (some (memberLine name pkg type e)) = omega arith
 
 -- the members of a table that was loaded
 abbrev membersLoaded : Loaded → ℕ
@@ -189,20 +183,15 @@ module _ (text : Bytes) (at line : ℕ) (T : Table) (within : at ≤ length text
     unfolding fieldsLeft
     line-left = rw q
 
-    -- what it brings has room
-    pub line-room : (rows : Words) → Laid rows → bytesTaken rows ≤ at → length text ≤ maxText → roomFor (length text) ≤ length rows
-        → (elementCount rows + elementsOf (lineOf (fieldsLeft text c)) ≤ maxElements) × (usedWith rows (lineOf (fieldsLeft text c)) ≤ length rows)
-    line-room rows laid h short room =
-        let w = brought (fieldsLeft text c) in
-        let one = one-member (lineOf (fieldsLeft text c)) in
-        let m = laid .members in
+    pub line-room : (rows : Words) → bytesTaken rows ≤ at → bytesTaken rows + weight (fieldsLeft text c) ≤ length text
+    line-room rows h =
         let f = fields-weight (part text at end) in
         let e : weight (fieldsLeft text c) ≡ weight (fields (part text at end)) = ap weight line-left in
         let l = part-length in
         let b = end-within in
         let d = end-behind in
         let n : end < length text = omega (arith, ne) in
-        (omega arith, omega arith)
+        omega arith
 
     pub line-brings : (rows after : Words) → bytesTaken rows ≤ at → Grown text rows line (lineOf (fieldsLeft text c)) after Verdict.Added → bytesTaken after ≤ end + 1
     line-brings rows after h g =

@@ -21,13 +21,9 @@ use Rattle.text.proofs.AnswerLaws.{none-some}
 use Rattle.text.proofs.Gives.{Holds}
 use Rattle.rules.specs.Forms.{Line, typeLine, packageRef, fieldName, methodName, lineOf}
 use Rattle.lines.specs.Steps.{next, ended, tried, numbered, packaged, named, methodNamed, typedRest, bareKind, noneRest, oneRest, twoRest, funcRest, allRead, elementsRead, tupleOf, tupleRest, lastKinds, nextKinds, typeRest, packageRest, fieldRest, methodRest, lineRest}
+use Rattle.lines.specs.Forms.{weight}
 use Rattle.lines.specs.Adding.{tupleSize, lineMembers, membersIn, lineElements, elementsOf}
 use Rattle.lines.proofs.StepLaws.{line-steps}
-
--- the bytes of the fields, and a separator for each
-abbrev pub weight : List Bytes → ℕ
-weight [] = 0
-weight (b ∷ fs) = suc (length b) + weight fs
 
 split-weight : (sep : ℕ) (s : Bytes) → weight (split sep s) ≡ suc (length s)
 unfolding split

@@ -7,12 +7,12 @@ use Prim.Native.Nat.{ℕ, _+_, _*_, _≤_}
 use lib.Dec.{eqb, ltb}
 use lib.ListN.{length}
 use Rattle.objects.specs.declared.TypeKey.{TypeKey}
-use Rattle.objects.specs.Bounds.{maxMembers, maxPerType, rowWords}
+use Rattle.objects.specs.Bounds.{maxMembers, maxPerType}
 use Rattle.objects.specs.Lists.{Bytes}
 use Rattle.objects.specs.Table.{Table, Kind, Basic, Array, Slice, Pointer, Map, Chan, Tuple, Func, Struct, Iface, Named}
 use Rattle.objects.specs.Rows.{Words, memberCountOf, elementCount, tableOf}
 use Rattle.objects.specs.Types.{totalRead}
-use Rattle.objects.specs.Laid.{used, Laid, lastType, plusElement}
+use Rattle.objects.specs.Laid.{Laid, lastType, plusElement}
 use Rattle.rules.specs.Forms.{Line, packageLine, typeLine, memberLine}
 use Rattle.rules.specs.Load.{Loaded, refused, loaded, lineAdded}
 use Rattle.lines.specs.declared.Verdict.{Verdict}
@@ -55,10 +55,6 @@ unfoldable pub elementsOf : Option Line → ℕ
 elementsOf none = 0
 elementsOf (some l) = lineElements l
 
--- the words that the rows use with what a line brings
-abbrev pub usedWith : Words → Option Line → ℕ
-usedWith rows o = used rows + rowWords * membersIn o + elementsOf o
-
 -- the bytes that the lines of all members and elements have at least: a member's more than 8, an element a tab and a digit
 abbrev pub bytesTaken : Words → ℕ
 bytesTaken rows = 8 * memberCountOf rows + 2 * elementCount rows
@@ -70,11 +66,16 @@ withElements T (e ∷ es) = withElements (plusElement T e) es
 
 -- ---- one line
 
+-- no more elements than the line brings, if it was added
+abbrev pub Brings : Words → Option Line → Words → Verdict → Type 0
+Brings rows o after Verdict.Added = elementCount after ≤ elementCount rows + elementsOf o
+Brings rows o after (Verdict.Refused n) = Unit {0}
+
 -- The rows behind a line: what the rules give for it, rows in order, and no more elements than it brings.
 pub record Grown (text : Bytes) (rows : Words) (line : ℕ) (o : Option Line) (after : Words) (v : Verdict) : Type 0 where
   pub meant : lineAdded (tableOf text rows) line o ≡ verdictMeant text after line v
   pub laid : Laid after
-  pub few : elementCount after ≤ elementCount rows + elementsOf o
+  pub few : Brings rows o after v
 
 -- 5: a field stands under a struct, a method under a named type or interface
 unfoldable pub standsAt : ℕ → ℕ → Bool

@@ -46,7 +46,7 @@ line-requires : tie.Need-line-requires Inv-loop μ-loop
 line-requires c κs = search needs
 
 add-line-requires : tie.Need-add-line-requires Inv-loop μ-loop
-add-line-requires c κs = ((c .before .before .before .before .before .before .before .pre .0), (c .before .before .before .before .loop .inv .1), (line-room (c .before .before .before .before .before .before .before .args .text .now) (c .before .before .before .before .loop .at) (c .before .before .before .before .loop .line) (tableOf (c .before .before .before .before .before .before .before .args .text .now) (c .before .before .before .before .loop .rows)) (c .before .before .before .before .loop .inv .3) (c .before .before .before .line-end .ensures) (c .before .before .if1 .left) (c .line .ensures) (c .before .before .before .before .loop .rows) (c .before .before .before .before .loop .inv .1) (c .before .before .before .before .loop .inv .2) (c .before .before .before .before .before .before .before .pre .0) (omega (arith, (c .before .before .before .before .loop .inv .5), (c .before .before .before .before .before .before .before .pre .5)))) .0, (line-room (c .before .before .before .before .before .before .before .args .text .now) (c .before .before .before .before .loop .at) (c .before .before .before .before .loop .line) (tableOf (c .before .before .before .before .before .before .before .args .text .now) (c .before .before .before .before .loop .rows)) (c .before .before .before .before .loop .inv .3) (c .before .before .before .line-end .ensures) (c .before .before .if1 .left) (c .line .ensures) (c .before .before .before .before .loop .rows) (c .before .before .before .before .loop .inv .1) (c .before .before .before .before .loop .inv .2) (c .before .before .before .before .before .before .before .pre .0) (omega (arith, (c .before .before .before .before .loop .inv .5), (c .before .before .before .before .before .before .before .pre .5)))) .1)
+add-line-requires c κs = ((c .before .before .before .before .before .before .before .pre .0), (c .before .before .before .before .loop .inv .1), line-room (c .before .before .before .before .before .before .before .args .text .now) (c .before .before .before .before .loop .at) (c .before .before .before .before .loop .line) (tableOf (c .before .before .before .before .before .before .before .args .text .now) (c .before .before .before .before .loop .rows)) (c .before .before .before .before .loop .inv .3) (c .before .before .before .line-end .ensures) (c .before .before .if1 .left) (c .line .ensures) (c .before .before .before .before .loop .rows) (c .before .before .before .before .loop .inv .2), omega (arith, (c .before .before .before .before .loop .inv .5), (c .before .before .before .before .before .before .before .pre .5)))
 
 enum-known-n : tie.Need-enum-known-n Inv-loop μ-loop
 enum-known-n c = search needs
