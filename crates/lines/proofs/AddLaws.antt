@@ -10,11 +10,11 @@ use lib.Dec.{eqb, ltb}
 use lib.ListN.{length}
 use borrow.Author.Tests.{eq-eqb, ne-eqb, lt-ltb, le-ltb}
 use Rattle.objects.specs.declared.TypeKey.{TypeKey}
-use Rattle.objects.specs.Bounds.{maxPackages, maxTypes, maxMembers}
+use Rattle.objects.specs.Bounds.{maxPackages, maxTypes, maxMembers, rowWords}
 use Rattle.objects.specs.Lists.{Bytes}
 use Rattle.objects.specs.Table.{Table, Member, Kind, Basic, typeKey, objKey, kindNumber, memberCount}
 use Rattle.objects.specs.Rows.{Words, packageCount, typeCount, memberCountOf, elementCount, typeWord, bytesAt, pkgOf, entityOf, kindOf, membersFrom, elementsFrom, tableOf}
-use Rattle.objects.specs.Laid.{Laid, Holds, lastType, memberOf, plusPackage, plusType, plusMember}
+use Rattle.objects.specs.Laid.{used, Laid, Holds, lastType, memberOf, plusPackage, plusType, plusMember}
 use Rattle.objects.proofs.RowLaws.{size-read, member-count-read, package-count-read}
 use Rattle.rules.specs.Forms.{Line, packageLine, typeLine, memberLine}
 use Rattle.rules.specs.Load.{Loaded, refused, loaded, lastKind, added, inPlace, hasRoom, placed, lineAdded}
@@ -26,10 +26,10 @@ use Rattle.lines.proofs.AboveLaws.{no-types, no-tuple, stands-at, stand
 -- ---- a line of right form, by its place and its room
 
 module _ (text : Bytes) (rows : Words) (line : ℕ) where
-  -- nothing is written where the line is refused
-  pub refusing : (o : Option Line) (n : ℕ) → Laid rows → lineAdded (tableOf text rows) line o ≡ refused n line → Grown text rows line o rows (Verdict.Refused n)
+  -- what is written where the line is refused is of no account
+  pub refusing : {after : Words} (o : Option Line) (n : ℕ) → Laid after → lineAdded (tableOf text rows) line o ≡ refused n line → Grown text rows line o after (Verdict.Refused n)
   unfolding verdictMeant
-  refusing o n laid e = record { meant = e; laid = laid; few = omega arith }
+  refusing o n laid e = record { meant = e; laid = laid; few = tt }
 
   module _ (l : Line) where
     pub misplaced : Laid rows → inPlace (tableOf text rows) l ≡ false → Grown text rows line (some l) rows (Verdict.Refused 5)
@@ -42,6 +42,10 @@ module _ (text : Bytes) (rows : Words) (line : ℕ) where
         → elementCount after ≤ elementCount rows + elementsOf (some l) → Grown text rows line (some l) after Verdict.Added
     unfolding verdictMeant
     adding after laid e h t few = record { meant = rw (e, h) (ap loaded (sym t)); laid = laid; few = few }
+
+-- the members, where the table has as many as before
+pub members-kept : (text : Bytes) (rows after : Words) (table : Bytes → Table) → Holds after table → memberCount (table text) ≡ memberCount (tableOf text rows) → memberCountOf after ≡ memberCountOf rows
+members-kept text rows after table held e = sym (member-count-read text after) ∙ ap memberCount (held .held text) ∙ e ∙ member-count-read text rows
 
 -- ---- P
 
@@ -117,8 +121,9 @@ module _ (rows : Words) (line name count pkg t form tag width : ℕ) (laid : Lai
     member-crowded f text = crowded text rows line (member text) laid (place-is text ∙ e) (room-is text ∙ f)
 
     -- what the writer asks
-    pub member-ready : u ≡ true → Laid rows × (memberCountOf rows < maxMembers) × (0 < typeCount rows) × (typeWord rows (lastType rows) 0 ≢ 6)
-    member-ready f = (laid, room-count rows (sym r ∙ f), no-tuple [] rows (kind-big []) .0, no-tuple [] rows (kind-big []) .1)
+    pub member-ready : used rows + rowWords ≤ length rows → u ≡ true
+        → Laid rows × (memberCountOf rows < maxMembers) × (0 < typeCount rows) × (typeWord rows (lastType rows) 0 ≢ 6) × (used rows + rowWords ≤ length rows)
+    member-ready w f = (laid, room-count rows (sym r ∙ f), no-tuple [] rows (kind-big []) .0, no-tuple [] rows (kind-big []) .1, w)
 
     pub member-added : u ≡ true → (after : Words) → Holds after (λ x. plusMember (tableOf x rows) line (memberOf x (memberCountOf rows) name count pkg t form tag width))
         → elementCount after ≡ elementCount rows → (text : Bytes) → Grown text rows line (some (member text)) after Verdict.Added

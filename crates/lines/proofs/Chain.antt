@@ -3,7 +3,8 @@ use mathlib.Core.Path.{_≡_, refl, sym, ap, _∙_}
 use mathlib.Core.Bool.{Bool, true, false, not}
 use mathlib.Core.List.{List, [], _∷_}
 use mathlib.Core.Option.{Option, none, some}
-use Prim.Native.Nat.{ℕ}
+use Prim.Native.Nat.{ℕ, _≤_}
+use native.Mathlib.Omega.{arith}
 use Rattle.objects.specs.declared.TypeKey.{TypeKey}
 use Rattle.objects.specs.declared.PackageKey.{PackageKey}
 use Rattle.objects.specs.Lists.{Bytes, empty, mapped}
@@ -24,7 +25,7 @@ use Rattle.lines.specs.declared.Piece.{Piece}
 use Rattle.lines.specs.declared.Typed.{Typed}
 use Rattle.lines.specs.declared.Form.{Form}
 use Rattle.lines.specs.Steps.{next, ended, tried}
-use Rattle.lines.specs.Forms.{smallRead, pieceRead, packageRead, typedRead, formMeant, formRead}
+use Rattle.lines.specs.Forms.{weight, smallRead, pieceRead, packageRead, typedRead, formMeant, formRead}
 
 -- ---- one step
 
@@ -107,6 +108,10 @@ module _ (s : Bytes) {A : Type 0} (w : Bytes) (fs : List Bytes) (on : List Bytes
       go : (l : List Bytes) → exactly w l ≡ none → tried w l on off ≡ off
       go [] h = refl
       go (b ∷ l) h = cases (sameBytes b w) (λ e. none-some (sym (rw e at h))) (λ e. rw e)
+
+-- what stands behind it weighs less
+pub word-less : (s w : Bytes) (fs : List Bytes) {r : Past} → pastRead s r ≡ exactly w fs → {c : Cursor} → r ≡ Past.To c → weight (fieldsLeft s c) ≤ weight fs
+word-less s w fs {r} p {c} q = let e = ap weight (exactly-some w fs (past-on s r p q)) in omega arith
 
 -- ---- a form
 

@@ -7,14 +7,15 @@ use Prim.Native.Nat.{ℕ, suc, _+_, _*_, _-_, _≤_, _<_}
 use native.Mathlib.Numerals.{add-one}
 use native.Mathlib.Omega.{arith}
 use lib.Dec.{eqb, ltb}
-use lib.ListN.{length, getD, take, drop, replicate, getD-replicate, length-take, length-drop, take-append-drop}
+use lib.ListN.{length, getD, take, drop, replicate, getD-replicate, length-take, length-drop, length-append, take-append-drop}
 use borrow.Author.Tests.{eq-eqb, ne-eqb, eqb-true, lt-ltb, le-ltb}
-use Rattle.objects.specs.Bounds.{maxText, maxElements, allWords}
+use Rattle.objects.specs.Bounds.{maxText, membersAt}
 use Rattle.objects.specs.Lists.{Bytes, empty, any}
-use Rattle.objects.specs.Table.{Table}
-use Rattle.objects.specs.Rows.{Words, wordAt, elementCount, tableOf}
+use Rattle.objects.specs.Table.{Table, memberCount}
+use Rattle.objects.specs.Rows.{Words, wordAt, memberCountOf, elementCount, tableOf}
 use Rattle.objects.specs.Laid.{Laid, Holds}
 use Rattle.objects.proofs.ListLaws.{cases, clash, or-l, or-r}
+use Rattle.objects.proofs.RowLaws.{member-count-read}
 use Rattle.objects.proofs.Writing.{emptyTable, zeros-hold}
 use Rattle.text.specs.declared.Cursor.{Cursor}
 use Rattle.text.specs.Bytes.{ascii, sameBytes}
@@ -23,13 +24,14 @@ use Rattle.text.specs.Cursors.{part, lineEnd, fieldsLeft}
 use Rattle.text.proofs.ByteLaws.{same-true, same-refl}
 use Rattle.text.proofs.LineLaws.{Free, split-at, split-first}
 use Rattle.text.proofs.LineEnds.{pieces-at, line-within}
-use Rattle.rules.specs.Forms.{lineOf}
-use Rattle.rules.specs.Load.{Loaded, refused, loaded, lineAdded, linesFrom, thenChecked, noTable, headed, load}
+use Rattle.rules.specs.Forms.{Line, packageLine, typeLine, memberLine, lineOf}
+use Rattle.rules.specs.Load.{Loaded, refused, loaded, added, inPlace, hasRoom, lineAdded, linesFrom, thenChecked, noTable, headed, load}
 use Rattle.lines.specs.declared.Verdict.{Verdict}
 use Rattle.lines.specs.declared.Read.{Read}
-use Rattle.lines.specs.Adding.{verdictMeant, elementsOf, Grown}
+use Rattle.lines.specs.Forms.{weight}
+use Rattle.lines.specs.Adding.{verdictMeant, lineMembers, membersIn, elementsOf, bytesTaken, Grown}
 use Rattle.lines.specs.Reading.{readMeant, header}
-use Rattle.lines.proofs.Weights.{weight, fields-weight, brought}
+use Rattle.lines.proofs.Weights.{fields-weight, brought}
 
 -- ---- the header
 
@@ -93,6 +95,35 @@ module _ (text : Bytes) where
         let r = split-first 10 (drop 12 text) in
         rw (le-ltb maxText (length text) short, i, r .2)
 
+-- ---- what a line brings
+
+-- the members of a table that was loaded
+abbrev membersLoaded : Loaded → ℕ
+membersLoaded (refused n line) = 0
+membersLoaded (loaded T) = memberCount T
+
+members-added : (T : Table) (line : ℕ) (l : Line) → memberCount (added T line l) ≡ memberCount T + lineMembers l
+unfolding added lineMembers
+members-added T line (packageLine path) = omega arith
+members-added T line (typeLine k) = omega arith
+members-added T line (memberLine name pkg type e) = length-append (T .memberLines) (line ∷ [])
+
+members-few : (T : Table) (line : ℕ) (o : Option Line) → membersLoaded (lineAdded T line o) ≤ memberCount T + membersIn o
+unfolding membersIn
+members-few T line none = omega arith
+members-few T line (some l) =
+    let m = members-added T line l in
+    cases (inPlace T l) (λ e. cases (hasRoom T l) (λ h. rw (e, h) (omega arith)) (λ h. rw (e, h) (omega arith))) (λ e. rw e (omega arith))
+
+members-grown : (text : Bytes) (rows after : Words) (line : ℕ) (o : Option Line) → Grown text rows line o after Verdict.Added → memberCountOf after ≤ memberCountOf rows + membersIn o
+unfolding verdictMeant
+members-grown text rows after line o g =
+    let w = members-few (tableOf text rows) line o in
+    let e = ap membersLoaded (g .meant) in
+    let a = member-count-read text after in
+    let b = member-count-read text rows in
+    omega arith
+
 -- ---- what is left
 
 module _ (line : ℕ) (T : Table) (p x : Bytes) (r : List Bytes) where
@@ -152,9 +183,8 @@ module _ (text : Bytes) (at line : ℕ) (T : Table) (within : at ≤ length text
     unfolding fieldsLeft
     line-left = rw q
 
-    pub line-room : (rows : Words) → 2 * elementCount rows ≤ at → length text ≤ maxText → elementCount rows + elementsOf (lineOf (fieldsLeft text c)) ≤ maxElements
-    line-room rows h short =
-        let w = brought (fieldsLeft text c) in
+    pub line-room : (rows : Words) → bytesTaken rows ≤ at → bytesTaken rows + weight (fieldsLeft text c) ≤ length text
+    line-room rows h =
         let f = fields-weight (part text at end) in
         let e : weight (fieldsLeft text c) ≡ weight (fields (part text at end)) = ap weight line-left in
         let l = part-length in
@@ -163,9 +193,11 @@ module _ (text : Bytes) (at line : ℕ) (T : Table) (within : at ≤ length text
         let n : end < length text = omega (arith, ne) in
         omega arith
 
-    pub line-brings : (rows after : Words) → 2 * elementCount rows ≤ at → elementCount after ≤ elementCount rows + elementsOf (lineOf (fieldsLeft text c)) → 2 * elementCount after ≤ end + 1
+    pub line-brings : (rows after : Words) → bytesTaken rows ≤ at → Grown text rows line (lineOf (fieldsLeft text c)) after Verdict.Added → bytesTaken after ≤ end + 1
     line-brings rows after h g =
         let w = brought (fieldsLeft text c) in
+        let few = g .few in
+        let m = members-grown text rows after line (lineOf (fieldsLeft text c)) g in
         let f = fields-weight (part text at end) in
         let e : weight (fieldsLeft text c) ≡ weight (fields (part text at end)) = ap weight line-left in
         let l = part-length in
@@ -201,9 +233,12 @@ module _ (text : Bytes) (at line : ℕ) (T : Table) (within : at ≤ length text
 
 -- ---- before the first line
 
-pub none-held : (text : Bytes) (rows : Words) → rows ≡ replicate (length rows) 0 → allWords ≤ length rows → Laid rows × (tableOf text rows ≡ noTable)
+pub none-held : (text : Bytes) (rows : Words) → rows ≡ replicate (length rows) 0 → membersAt ≤ length rows → Laid rows × (tableOf text rows ≡ noTable)
 none-held text rows z h = let k = zeros-hold (length rows) h in (subst Laid (sym z) (k .laid), ap (tableOf text) z ∙ k .held text)
 
-pub none-elements : (rows : Words) → rows ≡ replicate (length rows) 0 → allWords ≤ length rows → elementCount rows ≡ 0
-unfolding elementCount wordAt
-none-elements rows z h = ap (λ r. getD r 3 0) z ∙ getD-replicate (length rows) 3 0 0 (omega arith)
+pub none-taken : (rows : Words) → rows ≡ replicate (length rows) 0 → membersAt ≤ length rows → bytesTaken rows ≡ 0
+unfolding memberCountOf elementCount wordAt
+none-taken rows z h = let m = zero-at 2 (omega arith) in let e = zero-at 3 (omega arith) in omega arith
+  where
+    zero-at : (i : ℕ) → i < 4 → getD rows i 0 ≡ 0
+    zero-at i l = ap (λ r. getD r i 0) z ∙ getD-replicate (length rows) i 0 0 (omega arith)

@@ -7,11 +7,11 @@ use Prim.Native.Nat.{ℕ, suc, _+_, _≤_, _<_}
 use native.Mathlib.Omega.{arith}
 use lib.ListN.{length}
 use Rattle.objects.specs.declared.TypeKey.{TypeKey}
-use Rattle.objects.specs.Bounds.{maxReference, maxTypes, maxElements}
+use Rattle.objects.specs.Bounds.{maxReference, maxText, maxTypes, maxElements, rowWords, roomFor}
 use Rattle.objects.specs.Lists.{Bytes, empty, lastOr, onLast, when, mapped}
 use Rattle.objects.specs.Table.{Table, Kind, Basic, Array, Slice, Pointer, Map, Chan, Tuple, Func, Struct, Iface, Named, typeKey, kindNumber}
-use Rattle.objects.specs.Rows.{Words, typeCount, elementCount, typeWord, kindOf, elementsFrom, tableOf}
-use Rattle.objects.specs.Laid.{Laid, Holds, lastType, elementAdded, plusType, plusElement}
+use Rattle.objects.specs.Rows.{Words, typeCount, memberCountOf, elementCount, typeWord, kindOf, elementsFrom, tableOf}
+use Rattle.objects.specs.Laid.{used, Laid, Holds, lastType, elementAdded, plusType, plusElement}
 use Rattle.objects.proofs.ListLaws.{cases, clash}
 use Rattle.objects.proofs.Numbers.{onLast-at}
 use Rattle.text.specs.declared.Cursor.{Cursor}
@@ -19,16 +19,17 @@ use Rattle.text.specs.Bytes.{number}
 use Rattle.text.specs.Cursors.{fieldsLeft}
 use Rattle.text.proofs.FieldLaws.{done-left}
 use Rattle.text.proofs.AnswerLaws.{none-some, field-some}
-use Rattle.rules.specs.Forms.{Line, typeLine}
+use Rattle.rules.specs.Forms.{Line, typeLine, lineOf}
 use Rattle.rules.specs.Load.{refused, lastKind, lineAdded}
 use Rattle.lines.specs.declared.Small.{Small}
 use Rattle.lines.specs.declared.Form.{Form}
 use Rattle.lines.specs.declared.Verdict.{Verdict}
 use Rattle.lines.specs.Steps.{numbered, allRead, elementsRead, tupleOf}
-use Rattle.lines.specs.Forms.{smallRead, formMeant}
-use Rattle.lines.specs.Adding.{tupleSize, lineElements, elementsOf, withElements, Grown}
+use Rattle.lines.specs.Forms.{weight, smallRead, formMeant, unread}
+use Rattle.lines.specs.Adding.{tupleSize, lineMembers, membersIn, lineElements, elementsOf, bytesTaken, withElements, Grown}
+use Rattle.lines.proofs.Weights.{elements-few, brought}
 use Rattle.lines.proofs.AboveLaws.{lastOr-snoc, tuple-last}
-use Rattle.lines.proofs.AddLaws.{refusing, type-full, kind-added}
+use Rattle.lines.proofs.AddLaws.{refusing, members-kept, type-full, kind-added}
 
 -- ---- reading
 
@@ -52,6 +53,14 @@ no-more (b ∷ fs) h = go (number maxReference b) refl h
     go (some n) e k = none-some (sym k)
 
 module _ (s : Bytes) (c : Cursor) where
+  pub elements-done : {t : Bool} → t ≡ not (c .more) → t ≡ true → elementsRead (fieldsLeft s c) ≡ []
+  unfolding elementsRead
+  elements-done p e = go (fieldsLeft s c) (done-left s c ∙ sym p ∙ e)
+    where
+      go : (l : List Bytes) → empty l ≡ true → elementsRead l ≡ []
+      go [] h = refl
+      go (b ∷ l) h = clash h refl
+
   pub all-done : {t : Bool} → t ≡ not (c .more) → t ≡ true → allRead (fieldsLeft s c) ≡ true
   unfolding allRead
   all-done p e = go (fieldsLeft s c) (done-left s c ∙ sym p ∙ e)
@@ -119,6 +128,10 @@ with-elements T line ds (e ∷ es) =
 
 -- one turn of the loop
 module _ (s : Bytes) (rows after : Words) (e : TypeKey) (held : Holds after (λ text. plusElement (tableOf text rows) e)) where
+  pub element-members : memberCountOf after ≡ memberCountOf rows
+  unfolding plusElement
+  element-members = members-kept s rows after (λ text. plusElement (tableOf text rows) e) held refl
+
   pub still-tuple : kindNumber (lastKind (tableOf s rows)) ≡ 6 → kindNumber (lastKind (tableOf s after)) ≡ 6
   still-tuple h = ap (λ T. kindNumber (lastKind T)) (held .held s) ∙ plus-number (tableOf s rows) e ∙ h
 
@@ -131,9 +144,9 @@ unfolding withElements
 turn-end T q = rw q
 
 -- what the writer asks
-pub element-ready : (s : Bytes) (rows : Words) → Laid rows → kindNumber (lastKind (tableOf s rows)) ≡ 6 → elementCount rows < maxElements
-    → Laid rows × (elementCount rows < maxElements) × (0 < typeCount rows) × (typeWord rows (lastType rows) 0 ≡ 6)
-element-ready s rows laid h few = (laid, few, tuple-last s rows h .0, tuple-last s rows h .1)
+pub element-ready : (s : Bytes) (rows : Words) → Laid rows → kindNumber (lastKind (tableOf s rows)) ≡ 6 → elementCount rows < maxElements → used rows < length rows
+    → Laid rows × (elementCount rows < maxElements) × (0 < typeCount rows) × (typeWord rows (lastType rows) 0 ≡ 6) × (used rows < length rows)
+element-ready s rows laid h few w = (laid, few, tuple-last s rows h .0, tuple-last s rows h .1, w)
 
 -- ---- the line of a tuple
 
@@ -141,18 +154,27 @@ tuple-kind : (text : Bytes) (rows : Words) → kindOf text rows 6 0 0 0 0 0 ≡ 
 unfolding kindOf elementsFrom
 tuple-kind text rows = refl
 
-pub elements-brought : (fs : List Bytes) {t : Bool} → t ≡ allRead fs → t ≡ true → elementsOf (tupleOf fs) ≡ length (elementsRead fs)
-unfolding tupleOf elementsOf lineElements tupleSize
-elements-brought fs p e = rw (sym p ∙ e)
-
 tuple-brings : (es : List TypeKey) {x y z : ℕ} → y ≡ x → z ≡ y + length es → z ≤ x + elementsOf (some (typeLine (Tuple es)))
 unfolding elementsOf lineElements tupleSize
 tuple-brings es a b = omega arith
 
+-- behind the new type, which has no elements yet
+module _ (s : Bytes) (rows mid : Words) (line : ℕ) (held : Holds mid (λ x. plusType (tableOf x rows) line (kindOf x rows 6 0 0 0 0 0))) where
+  mid-table : tableOf s mid ≡ plusType (tableOf s rows) line (Tuple [])
+  mid-table = held .held s ∙ ap (plusType (tableOf s rows) line) (tuple-kind s rows)
+
+  pub tuple-members : memberCountOf mid ≡ memberCountOf rows
+  unfolding plusType
+  tuple-members = members-kept s rows mid (λ x. plusType (tableOf x rows) line (kindOf x rows 6 0 0 0 0 0)) held refl
+
+  pub new-tuple : kindNumber (lastKind (tableOf s mid)) ≡ 6
+  unfolding plusType
+  new-tuple = ap (λ T. kindNumber (lastKind T)) mid-table ∙ ap kindNumber (lastOr-snoc (Basic 0) (tableOf s rows .types) (Tuple []))
+
 module _ (s : Bytes) (rows : Words) (line : ℕ) (laid : Laid rows) (fs : List Bytes) {t : Bool} (p : t ≡ allRead fs) where
-  pub tuple-wrong : t ≡ false → Grown s rows line (tupleOf fs) rows (Verdict.Refused 4)
+  pub tuple-wrong : {after : Words} → Laid after → t ≡ false → Grown s rows line (tupleOf fs) after (Verdict.Refused 4)
   unfolding tupleOf
-  tuple-wrong e = refusing s rows line (tupleOf fs) 4 laid (rw (sym p ∙ e))
+  tuple-wrong l e = refusing s rows line (tupleOf fs) 4 l (rw (sym p ∙ e))
 
   module _ (e : t ≡ true) {n : ℕ} (q : n ≡ typeCount rows) where
     tuple-is : tupleOf fs ≡ some (typeLine (Tuple (elementsRead fs)))
@@ -162,19 +184,12 @@ module _ (s : Bytes) (rows : Words) (line : ℕ) (laid : Laid rows) (fs : List B
     pub tuple-full : maxTypes ≤ n → Grown s rows line (tupleOf fs) rows (Verdict.Refused 6)
     tuple-full h = rw tuple-is (type-full rows line laid q s (Tuple (elementsRead fs)) h)
 
-    module _ (mid : Words) (held : Holds mid (λ x. plusType (tableOf x rows) line (kindOf x rows 6 0 0 0 0 0))) where
-      mid-table : tableOf s mid ≡ plusType (tableOf s rows) line (Tuple [])
-      mid-table = held .held s ∙ ap (plusType (tableOf s rows) line) (tuple-kind s rows)
-
-      pub new-tuple : kindNumber (lastKind (tableOf s mid)) ≡ 6
-      unfolding plusType
-      new-tuple = ap (λ T. kindNumber (lastKind T)) mid-table ∙ ap kindNumber (lastOr-snoc (Basic 0) (tableOf s rows .types) (Tuple []))
-
-      pub tuple-added : n < maxTypes → (after : Words) → Laid after → tableOf s after ≡ withElements (tableOf s mid) (elementsRead fs)
-          → elementCount mid ≡ elementCount rows → elementCount after ≡ elementCount mid + length (elementsRead fs) → Grown s rows line (tupleOf fs) after Verdict.Added
-      tuple-added h after l m a b =
-          rw tuple-is (kind-added rows line laid q s (Tuple (elementsRead fs)) h after l
-          (m ∙ ap (λ T. withElements T (elementsRead fs)) mid-table ∙ with-elements (tableOf s rows) line [] (elementsRead fs)) (tuple-brings (elementsRead fs) a b))
+    pub tuple-added : (mid : Words) → Holds mid (λ x. plusType (tableOf x rows) line (kindOf x rows 6 0 0 0 0 0)) → n < maxTypes
+        → (after : Words) → Laid after → tableOf s after ≡ withElements (tableOf s mid) (elementsRead fs)
+        → elementCount mid ≡ elementCount rows → elementCount after ≡ elementCount mid + length (elementsRead fs) → Grown s rows line (tupleOf fs) after Verdict.Added
+    tuple-added mid held h after l m a b =
+        rw tuple-is (kind-added rows line laid q s (Tuple (elementsRead fs)) h after l
+        (m ∙ ap (λ T. withElements T (elementsRead fs)) (mid-table s rows mid line held) ∙ with-elements (tableOf s rows) line [] (elementsRead fs)) (tuple-brings (elementsRead fs) a b))
 
 -- ---- a line by its form
 
@@ -182,6 +197,21 @@ module _ (s : Bytes) (rows : Words) (line : ℕ) (r : Form) {o : Option Line} (p
   pub grown-form : {f : Form} {after : Words} {v : Verdict} → r ≡ f → Grown s rows line (formMeant s f) after v → Grown s rows line o after v
   grown-form {f} {after} {v} q g = subst (λ x. Grown s rows line x after v) (sym (ap (formMeant s) q) ∙ p) g
 
-  pub tuple-line : {d : Cursor} → r ≡ Form.Tuple d → elementsOf (tupleOf (fieldsLeft s d)) ≡ elementsOf o
-  unfolding formMeant
-  tuple-line q = ap elementsOf (sym (ap (formMeant s) q) ∙ p)
+-- what the writers ask, from the bytes that are left
+module _ (s : Bytes) (rows : Words) (fs : List Bytes) (r : Form) (laid : Laid rows) (short : length s ≤ maxText) (taken : bytesTaken rows + weight fs ≤ length s) (room : roomFor (length s) ≤ length rows) where
+  pub member-space : formMeant s r ≡ lineOf fs → {name count pkg t form tag width : ℕ} → r ≡ Form.Member name count pkg t form tag width → used rows + rowWords ≤ length rows
+  unfolding formMeant membersIn lineMembers
+  member-space p q =
+      let one : 1 ≡ membersIn (lineOf fs) = ap membersIn (sym (ap (formMeant s) q) ∙ p) in
+      let w = brought fs in
+      let m = laid .members in
+      omega arith
+
+  pub tuple-space : unread s r ≤ weight fs → {d : Cursor} → r ≡ Form.Tuple d
+      → (elementCount rows + length (elementsRead (fieldsLeft s d)) ≤ maxElements) × (used rows + length (elementsRead (fieldsLeft s d)) ≤ length rows)
+  unfolding unread
+  tuple-space p {d} q =
+      let few = elements-few (fieldsLeft s d) in
+      let e : unread s r ≡ weight (fieldsLeft s d) = ap (unread s) q in
+      let m = laid .members in
+      (omega arith, omega arith)

@@ -3,7 +3,7 @@ use mathlib.Core.Path.{_≡_}
 use mathlib.Core.Bool.{Bool, cond, _&&_, _||_}
 use mathlib.Core.List.{List, [], _∷_}
 use mathlib.Core.Option.{Option, none, some}
-use Prim.Native.Nat.{ℕ, suc, _+_, _≤_}
+use Prim.Native.Nat.{ℕ, _+_, _*_, _≤_}
 use lib.Dec.{eqb, ltb}
 use lib.ListN.{length}
 use Rattle.objects.specs.declared.TypeKey.{TypeKey}
@@ -21,7 +21,7 @@ unfoldable pub verdictMeant : Bytes → Words → ℕ → Verdict → Loaded
 verdictMeant text rows line Verdict.Added = loaded (tableOf text rows)
 verdictMeant text rows line (Verdict.Refused n) = refused n line
 
--- ---- elements of tuples
+-- ---- members, and elements of tuples
 
 unfoldable pub tupleSize : Kind → ℕ
 tupleSize (Basic k) = 0
@@ -36,7 +36,16 @@ tupleSize (Struct ms) = 0
 tupleSize (Iface ms) = 0
 tupleSize (Named u ms) = 0
 
--- how many elements a line brings
+-- how many members and elements a line brings
+unfoldable pub lineMembers : Line → ℕ
+lineMembers (packageLine path) = 0
+lineMembers (typeLine k) = 0
+lineMembers (memberLine name pkg type e) = 1
+
+unfoldable pub membersIn : Option Line → ℕ
+membersIn none = 0
+membersIn (some l) = lineMembers l
+
 unfoldable pub lineElements : Line → ℕ
 lineElements (packageLine path) = 0
 lineElements (typeLine k) = tupleSize k
@@ -46,6 +55,10 @@ unfoldable pub elementsOf : Option Line → ℕ
 elementsOf none = 0
 elementsOf (some l) = lineElements l
 
+-- the bytes that the lines of all members and elements have at least: a member's more than 8, an element a tab and a digit
+abbrev pub bytesTaken : Words → ℕ
+bytesTaken rows = 8 * memberCountOf rows + 2 * elementCount rows
+
 -- the table with more elements of its last type, a tuple
 unfoldable pub withElements : Table → List TypeKey → Table
 withElements T [] = T
@@ -53,11 +66,16 @@ withElements T (e ∷ es) = withElements (plusElement T e) es
 
 -- ---- one line
 
+-- no more elements than the line brings, if it was added
+abbrev pub Brings : Words → Option Line → Words → Verdict → Type 0
+Brings rows o after Verdict.Added = elementCount after ≤ elementCount rows + elementsOf o
+Brings rows o after (Verdict.Refused n) = Unit {0}
+
 -- The rows behind a line: what the rules give for it, rows in order, and no more elements than it brings.
 pub record Grown (text : Bytes) (rows : Words) (line : ℕ) (o : Option Line) (after : Words) (v : Verdict) : Type 0 where
   pub meant : lineAdded (tableOf text rows) line o ≡ verdictMeant text after line v
   pub laid : Laid after
-  pub few : elementCount after ≤ elementCount rows + elementsOf o
+  pub few : Brings rows o after v
 
 -- 5: a field stands under a struct, a method under a named type or interface
 unfoldable pub standsAt : ℕ → ℕ → Bool

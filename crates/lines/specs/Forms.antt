@@ -1,7 +1,8 @@
 -- What the answers of the code mean: names, paths and tags are a place and a length in the text, keys and kinds are numbers of a row.
-use mathlib.Core.List.{List, []}
+use mathlib.Core.List.{List, [], _∷_}
 use mathlib.Core.Option.{Option, none, some}
-use Prim.Native.Nat.{ℕ}
+use Prim.Native.Nat.{ℕ, suc, _+_}
+use lib.ListN.{length}
 use Rattle.objects.specs.declared.TypeKey.{TypeKey}
 use Rattle.objects.specs.declared.PackageKey.{PackageKey}
 use Rattle.objects.specs.Lists.{Bytes, mapped}
@@ -14,6 +15,11 @@ use Rattle.lines.specs.declared.Piece.{Piece}
 use Rattle.lines.specs.declared.Typed.{Typed}
 use Rattle.lines.specs.declared.Form.{Form}
 use Rattle.lines.specs.Steps.{bareKind, tupleOf}
+
+-- the bytes of the fields, and a separator for each
+abbrev pub weight : List Bytes → ℕ
+weight [] = 0
+weight (b ∷ fs) = suc (length b) + weight fs
 
 module _ (text : Bytes) where
   unfoldable pub smallRead : Small → Option (ℕ × List Bytes)
@@ -41,6 +47,14 @@ module _ (text : Bytes) where
   formMeant (Form.Member name count pkg t form tag width) =
       some (memberLine (bytesAt text name count) (pkgOf pkg) (typeKey t) (entityOf form (bytesAt text tag width)))
   formMeant Form.Wrong = none
+
+  -- the weight of the fields that a tuple's elements are still to be read from
+  unfoldable pub unread : Form → ℕ
+  unread (Form.«Package» at count) = 0
+  unread (Form.«Type» kind a b c) = 0
+  unread (Form.Tuple c) = weight (fieldsLeft text c)
+  unread (Form.Member name count pkg t form tag width) = 0
+  unread Form.Wrong = 0
 
   -- as a reader gives it: a line that is read leaves no field
   unfoldable pub formRead : Form → Option (Line × List Bytes)

@@ -3,16 +3,17 @@ ghost use mathlib.Core.Path.{_≡_};
 ghost use mathlib.Core.Option.{some};
 ghost use Prim.Native.Nat.{_+_, _≤_};
 ghost use lib.ListN.{length};
-ghost use Rattle.objects.specs.Bounds.{maxText, maxElements};
+ghost use Rattle.objects.specs.Bounds.{maxText, maxElements, rowWords, roomFor};
 ghost use Rattle.objects.specs.Lists.{Bytes};
 ghost use Rattle.objects.specs.Table.{kindNumber, typeKey};
 ghost use Rattle.objects.specs.Rows.{elementCount, bytesAt, pkgOf, entityOf, tableOf};
-ghost use Rattle.objects.specs.Laid.{Laid, lastType};
+ghost use Rattle.objects.specs.Laid.{used, Laid, lastType};
 ghost use Rattle.text.specs.Cursors.{fieldsLeft};
 ghost use Rattle.rules.specs.Forms.{packageLine, typeLine, memberLine, lineOf};
 ghost use Rattle.rules.specs.Load.{lastKind};
 ghost use Rattle.lines.specs.Steps.{bareKind, allRead, elementsRead, tupleOf};
-ghost use Rattle.lines.specs.Adding.{Grown, elementsOf, withElements, standsAt, memberRoom};
+ghost use Rattle.lines.specs.Forms.{weight};
+ghost use Rattle.lines.specs.Adding.{Grown, bytesTaken, withElements, standsAt, memberRoom};
 use crate::Form;
 use crate::Small;
 use crate::Verdict;
@@ -118,7 +119,7 @@ fn add_member(
     width: u32,
     line: u32,
 ) -> Verdict
-    requires { ⌜ Laid (now rows) ⌝ }
+    requires { ⌜ Laid (now rows) × (used (now rows) + rowWords ≤ length (now rows)) ⌝ }
     ensures { λ r. ⌜ ((text : Bytes) → Grown text (now (rows .entry)) line (some (memberLine (bytesAt text name count) (pkgOf pkg) (typeKey t) (entityOf form (bytesAt text tag width)))) (now (rows .exit)) r) ⌝ }
 {
     if stands(form, above(rows)) {
@@ -131,7 +132,7 @@ fn add_member(
     Verdict::Refused(5)
 }
 
-// ---- tuples
+// ---- tuples, whose elements are put as they are read: a line that is refused may leave some
 
 // Whether each field that is left is a type's number.
 fn listed(s: &[u8], c: Cursor) -> bool
@@ -149,35 +150,43 @@ fn listed(s: &[u8], c: Cursor) -> bool
     }
 }
 
-// The types' numbers that are left become elements of the last type.
-fn put_elements(s: &[u8], rows: &mut [u32], c: Cursor)
-    requires { ⌜ Laid (now rows) × (kindNumber (lastKind (tableOf (now s) (now rows))) ≡ 6) × (elementCount (now rows) + length (elementsRead (fieldsLeft (now s) c)) ≤ maxElements) ⌝ }
+// The types' numbers that are left become elements of the last type, up to a field that is none. Whether each field is one.
+fn put_elements(s: &[u8], rows: &mut [u32], c: Cursor) -> bool
+    requires { ⌜ Laid (now rows) × (kindNumber (lastKind (tableOf (now s) (now rows))) ≡ 6) × (elementCount (now rows) + length (elementsRead (fieldsLeft (now s) c)) ≤ maxElements)
+        × (used (now rows) + length (elementsRead (fieldsLeft (now s) c)) ≤ length (now rows)) ⌝ }
+    ensures { λ r. ⌜ r ≡ allRead (fieldsLeft (now (s .entry)) c) ⌝ }
     ensures { λ _. ⌜ Laid (now (rows .exit)) ⌝ }
     ensures { λ _. ⌜ tableOf (now (s .entry)) (now (rows .exit)) ≡ withElements (tableOf (now (s .entry)) (now (rows .entry))) (elementsRead (fieldsLeft (now (s .entry)) c)) ⌝ }
     ensures { λ _. ⌜ elementCount (now (rows .exit)) ≡ elementCount (now (rows .entry)) + length (elementsRead (fieldsLeft (now (s .entry)) c)) ⌝ }
 {
     let mut d = c;
     loop {
+        if d.done() {
+            return true;
+        }
         match small(s, d, MAX_REFERENCE) {
             Small::Value(v, e) => {
                 put_element(rows, TypeKey(v));
                 d = e;
             }
-            Small::Wrong => return,
+            Small::Wrong => return false,
         }
     }
 }
 
 fn add_tuple(s: &[u8], rows: &mut [u32], c: Cursor, line: u32) -> Verdict
-    requires { ⌜ Laid (now rows) × (elementCount (now rows) + elementsOf (tupleOf (fieldsLeft (now s) c)) ≤ maxElements) ⌝ }
+    requires { ⌜ Laid (now rows) × (elementCount (now rows) + length (elementsRead (fieldsLeft (now s) c)) ≤ maxElements)
+        × (used (now rows) + length (elementsRead (fieldsLeft (now s) c)) ≤ length (now rows)) ⌝ }
     ensures { λ r. ⌜ Grown (now (s .entry)) (now (rows .entry)) line (tupleOf (fieldsLeft (now (s .entry)) c)) (now (rows .exit)) r ⌝ }
 {
-    if listed(s, c) {
-        if type_count(rows) < MAX_TYPES {
-            put_type(rows, 6, 0, 0, 0, line);
-            put_elements(s, rows, c);
+    if type_count(rows) < MAX_TYPES {
+        put_type(rows, 6, 0, 0, 0, line);
+        if put_elements(s, rows, c) {
             return Verdict::Added;
         }
+        return Verdict::Refused(4);
+    }
+    if listed(s, c) {
         return Verdict::Refused(6);
     }
     Verdict::Refused(4)
@@ -186,7 +195,7 @@ fn add_tuple(s: &[u8], rows: &mut [u32], c: Cursor, line: u32) -> Verdict
 // ---- any line
 
 pub fn add_line(s: &[u8], rows: &mut [u32], c: Cursor, line: u32) -> Verdict
-    requires { ⌜ (length (now s) ≤ maxText) × Laid (now rows) × (elementCount (now rows) + elementsOf (lineOf (fieldsLeft (now s) c)) ≤ maxElements) ⌝ }
+    requires { ⌜ (length (now s) ≤ maxText) × Laid (now rows) × (bytesTaken (now rows) + weight (fieldsLeft (now s) c) ≤ length (now s)) × (roomFor (length (now s)) ≤ length (now rows)) ⌝ }
     ensures { λ r. ⌜ Grown (now (s .entry)) (now (rows .entry)) line (lineOf (fieldsLeft (now (s .entry)) c)) (now (rows .exit)) r ⌝ }
 {
     match parse(s, c) {

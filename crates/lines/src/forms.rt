@@ -6,7 +6,7 @@ ghost use Rattle.objects.specs.Bounds.{maxText};
 ghost use Rattle.text.specs.Cursors.{fieldsLeft};
 ghost use Rattle.rules.specs.Forms.{lineOf};
 ghost use Rattle.lines.specs.Steps.{noneRest, oneRest, twoRest, funcRest, lastKinds, nextKinds, typeRest, packageRest, fieldRest, methodRest};
-ghost use Rattle.lines.specs.Forms.{formRead, formMeant};
+ghost use Rattle.lines.specs.Forms.{weight, formRead, formMeant, unread};
 use crate::Form;
 use crate::Piece;
 use crate::Small;
@@ -27,6 +27,7 @@ pub const MAX_ARRAY: u32 = 4_294_967_295;
 
 fn none(s: &[u8], c: Cursor, kind: u32) -> Form
     ensures { λ r. ⌜ formRead (now (s .entry)) r ≡ noneRest kind (fieldsLeft (now (s .entry)) c) ⌝ }
+    ensures { λ r. ⌜ unread (now (s .entry)) r ≡ 0 ⌝ }
 {
     if c.done() {
         Form::Type(kind, 0, 0, 0)
@@ -37,6 +38,7 @@ fn none(s: &[u8], c: Cursor, kind: u32) -> Form
 
 fn one(s: &[u8], c: Cursor, kind: u32, max: u32) -> Form
     ensures { λ r. ⌜ formRead (now (s .entry)) r ≡ oneRest kind max (fieldsLeft (now (s .entry)) c) ⌝ }
+    ensures { λ r. ⌜ unread (now (s .entry)) r ≡ 0 ⌝ }
 {
     let Small::Value(a, d) = small(s, c, max) else {
         return Form::Wrong;
@@ -50,6 +52,7 @@ fn one(s: &[u8], c: Cursor, kind: u32, max: u32) -> Form
 
 fn two(s: &[u8], c: Cursor, kind: u32, max: u32) -> Form
     ensures { λ r. ⌜ formRead (now (s .entry)) r ≡ twoRest kind max (fieldsLeft (now (s .entry)) c) ⌝ }
+    ensures { λ r. ⌜ unread (now (s .entry)) r ≡ 0 ⌝ }
 {
     let Small::Value(a, d) = small(s, c, max) else {
         return Form::Wrong;
@@ -66,6 +69,7 @@ fn two(s: &[u8], c: Cursor, kind: u32, max: u32) -> Form
 
 fn func(s: &[u8], c: Cursor) -> Form
     ensures { λ r. ⌜ formRead (now (s .entry)) r ≡ funcRest (fieldsLeft (now (s .entry)) c) ⌝ }
+    ensures { λ r. ⌜ unread (now (s .entry)) r ≡ 0 ⌝ }
 {
     let Small::Value(v, d) = small(s, c, 1) else {
         return Form::Wrong;
@@ -87,6 +91,7 @@ fn func(s: &[u8], c: Cursor) -> Form
 
 fn last_kinds(s: &[u8], c: Cursor) -> Form
     ensures { λ r. ⌜ formRead (now (s .entry)) r ≡ lastKinds (fieldsLeft (now (s .entry)) c) ⌝ }
+    ensures { λ r. ⌜ unread (now (s .entry)) r ≡ 0 ⌝ }
 {
     if let Past::To(d) = c.word(s, b"struct") {
         return none(s, d, 8);
@@ -102,6 +107,7 @@ fn last_kinds(s: &[u8], c: Cursor) -> Form
 
 fn next_kinds(s: &[u8], c: Cursor) -> Form
     ensures { λ r. ⌜ formRead (now (s .entry)) r ≡ nextKinds (fieldsLeft (now (s .entry)) c) ⌝ }
+    ensures { λ r. ⌜ unread (now (s .entry)) r ≤ weight (fieldsLeft (now (s .entry)) c) ⌝ }
 {
     if let Past::To(d) = c.word(s, b"map") {
         return two(s, d, 4, MAX_REFERENCE);
@@ -120,6 +126,7 @@ fn next_kinds(s: &[u8], c: Cursor) -> Form
 
 fn type_line(s: &[u8], c: Cursor) -> Form
     ensures { λ r. ⌜ formRead (now (s .entry)) r ≡ typeRest (fieldsLeft (now (s .entry)) c) ⌝ }
+    ensures { λ r. ⌜ unread (now (s .entry)) r ≤ weight (fieldsLeft (now (s .entry)) c) ⌝ }
 {
     if let Past::To(d) = c.word(s, b"basic") {
         return one(s, d, 0, MAX_BASIC);
@@ -141,6 +148,7 @@ fn type_line(s: &[u8], c: Cursor) -> Form
 fn package_line(s: &[u8], c: Cursor) -> Form
     requires { ⌜ length (now s) ≤ maxText ⌝ }
     ensures { λ r. ⌜ formRead (now (s .entry)) r ≡ packageRest (fieldsLeft (now (s .entry)) c) ⌝ }
+    ensures { λ r. ⌜ unread (now (s .entry)) r ≡ 0 ⌝ }
 {
     let Piece::Is(at, count, d) = placed(s, c.path(s)) else {
         return Form::Wrong;
@@ -155,6 +163,7 @@ fn package_line(s: &[u8], c: Cursor) -> Form
 fn field_line(s: &[u8], c: Cursor) -> Form
     requires { ⌜ length (now s) ≤ maxText ⌝ }
     ensures { λ r. ⌜ formRead (now (s .entry)) r ≡ fieldRest (fieldsLeft (now (s .entry)) c) ⌝ }
+    ensures { λ r. ⌜ unread (now (s .entry)) r ≡ 0 ⌝ }
 {
     let Piece::Is(name, count, d) = placed(s, c.name(s)) else {
         return Form::Wrong;
@@ -178,6 +187,7 @@ fn field_line(s: &[u8], c: Cursor) -> Form
 fn method_line(s: &[u8], c: Cursor) -> Form
     requires { ⌜ length (now s) ≤ maxText ⌝ }
     ensures { λ r. ⌜ formRead (now (s .entry)) r ≡ methodRest (fieldsLeft (now (s .entry)) c) ⌝ }
+    ensures { λ r. ⌜ unread (now (s .entry)) r ≡ 0 ⌝ }
 {
     let Piece::Is(name, count, d) = method_name(s, c) else {
         return Form::Wrong;
@@ -197,6 +207,7 @@ fn method_line(s: &[u8], c: Cursor) -> Form
 pub fn parse(s: &[u8], c: Cursor) -> Form
     requires { ⌜ length (now s) ≤ maxText ⌝ }
     ensures { λ r. ⌜ formMeant (now (s .entry)) r ≡ lineOf (fieldsLeft (now (s .entry)) c) ⌝ }
+    ensures { λ r. ⌜ unread (now (s .entry)) r ≤ weight (fieldsLeft (now (s .entry)) c) ⌝ }
 {
     if let Past::To(d) = c.word(s, b"P") {
         return package_line(s, d);

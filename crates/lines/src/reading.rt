@@ -1,12 +1,13 @@
 // The whole text: its length (2), its header (3), then line by line (4 to 6).
 ghost use mathlib.Core.Path.{_≡_};
-ghost use Prim.Native.Nat.{_*_, _≤_};
+ghost use Prim.Native.Nat.{_≤_};
 ghost use lib.ListN.{length, drop, replicate};
-ghost use Rattle.objects.specs.Bounds.{maxText, allWords};
-ghost use Rattle.objects.specs.Rows.{elementCount, tableOf};
+ghost use Rattle.objects.specs.Bounds.{maxText, roomFor};
+ghost use Rattle.objects.specs.Rows.{tableOf};
 ghost use Rattle.objects.specs.Laid.{Laid};
 ghost use Rattle.text.specs.Lines.{pieces};
 ghost use Rattle.rules.specs.Load.{linesFrom, thenChecked, load};
+ghost use Rattle.lines.specs.Adding.{bytesTaken};
 ghost use Rattle.lines.specs.Reading.{readMeant};
 use crate::Read;
 use crate::Verdict;
@@ -19,7 +20,8 @@ pub const MAX_TEXT: usize = 32_768;
 
 // The lines from a place on; the first is line 2.
 fn read_lines(text: &[u8], rows: &mut [u32], from: usize) -> Read
-    requires { ⌜ (length (now text) ≤ maxText) × (from ≤ length (now text)) × Laid (now rows) × (2 * elementCount (now rows) ≤ from) × (2 ≤ from) ⌝ }
+    requires { ⌜ (length (now text) ≤ maxText) × (from ≤ length (now text)) × Laid (now rows) × (bytesTaken (now rows) ≤ from) × (2 ≤ from)
+        × (roomFor (length (now text)) ≤ length (now rows)) ⌝ }
     ensures { λ r. ⌜ linesFrom 2 (tableOf (now (text .entry)) (now (rows .entry))) (pieces (drop from (now (text .entry)))) ≡ readMeant (now (text .entry)) (now (rows .exit)) r ⌝ }
     ensures { λ r. ⌜ Laid (now (rows .exit)) ⌝ }
 {
@@ -44,7 +46,7 @@ fn read_lines(text: &[u8], rows: &mut [u32], from: usize) -> Read
 }
 
 pub fn read(text: &[u8], rows: &mut [u32]) -> Read
-    requires { ⌜ (now rows ≡ replicate (length (now rows)) 0) × (allWords ≤ length (now rows)) ⌝ }
+    requires { ⌜ (now rows ≡ replicate (length (now rows)) 0) × (roomFor (length (now text)) ≤ length (now rows)) ⌝ }
     ensures { λ r. ⌜ load (now (text .entry)) ≡ thenChecked (readMeant (now (text .entry)) (now (rows .exit)) r) ⌝ }
     ensures { λ r. ⌜ Laid (now (rows .exit)) ⌝ }
 {

@@ -8,11 +8,11 @@ use native.Mathlib.Omega.{arith}
 use lib.ListN.{length, getD}
 use borrow.Author.Tests.{ne-eqb}
 use Rattle.objects.specs.declared.TypeKey.{TypeKey}
-use Rattle.objects.specs.Bounds.{maxTypes, maxPackages, maxMembers, maxElements, allWords}
+use Rattle.objects.specs.Bounds.{maxTypes, maxPackages, maxMembers, maxElements, rowWords}
 use Rattle.objects.specs.Lists.{Bytes, upTo, onLast}
 use Rattle.objects.specs.Table.{Member, Kind, Struct, Iface, Named, Tuple, typeKey, objKey, packageKey, withMember}
 use Rattle.objects.specs.Rows.{Words, packageCount, typeCount, memberCountOf, elementCount, typeWord, memberWord, packageWord, elementAt, bytesAt, memberAt, membersFrom, elementsFrom, kindOf, kindRead, pathRead, tableOf}
-use Rattle.objects.specs.Laid.{endOf, Laid, Holds, memberOf, elementAdded, plusPackage, plusType, plusMember, plusElement}
+use Rattle.objects.specs.Laid.{endOf, used, Laid, Holds, memberOf, elementAdded, plusPackage, plusType, plusMember, plusElement}
 use Rattle.objects.proofs.Numbers.{each-more, each-grown, each-onLast}
 use Rattle.objects.proofs.RowLaws.{by-kind, named-kind, members-more, elements-more}
 use Rattle.objects.proofs.Stores.{Kept}
@@ -37,7 +37,7 @@ ends-same rows after kind m e = rw (m, e)
 
 -- ---- P
 
-module _ (rows after : Words) (place len : ℕ) (laid : Laid rows) (long : allWords ≤ length after) (room : packageCount rows < maxPackages) (k : Kept (typeCount rows) rows after)
+module _ (rows after : Words) (place len : ℕ) (laid : Laid rows) (room : packageCount rows < maxPackages) (k : Kept (typeCount rows) rows after)
     (p-is : packageCount after ≡ suc (packageCount rows))
     (t-is : typeCount after ≡ typeCount rows)
     (m-is : memberCountOf after ≡ memberCountOf rows)
@@ -45,7 +45,7 @@ module _ (rows after : Words) (place len : ℕ) (laid : Laid rows) (long : allWo
     (word : (j : ℕ) → j < 2 → packageWord after (packageKey (packageCount rows)) j ≡ getD (place ∷ len ∷ []) j 0) where
   package-laid : Laid after
   package-laid = record {
-    long = long;
+    long = let l = k .long in let u = laid .long in omega arith;
     packages = rw p-is room;
     types = rw t-is (laid .types);
     members = rw m-is (laid .members);
@@ -70,7 +70,7 @@ module _ (rows after : Words) (place len : ℕ) (laid : Laid rows) (long : allWo
 
 -- ---- T
 
-module _ (rows after : Words) (kind a b c line : ℕ) (laid : Laid rows) (long : allWords ≤ length after) (room : typeCount rows < maxTypes) (k : Kept (typeCount rows) rows after)
+module _ (rows after : Words) (kind a b c line : ℕ) (laid : Laid rows) (room : typeCount rows < maxTypes) (k : Kept (typeCount rows) rows after)
     (p-is : packageCount after ≡ packageCount rows)
     (t-is : typeCount after ≡ suc (typeCount rows))
     (m-is : memberCountOf after ≡ memberCountOf rows)
@@ -80,7 +80,7 @@ module _ (rows after : Words) (kind a b c line : ℕ) (laid : Laid rows) (long :
   type-laid =
       laid-last k laid (le-refl _) (omega arith) (omega arith) t-is
       (rw (word 0 (omega arith), word 4 (omega arith), word 5 (omega arith)) (let e = ends-same rows after kind m-is e-is in omega arith))
-      long (rw p-is (laid .packages)) (rw t-is room) (rw m-is (laid .members)) (rw e-is (laid .elements))
+      (let l = k .long in let u = laid .long in omega arith) (rw p-is (laid .packages)) (rw t-is room) (rw m-is (laid .members)) (rw e-is (laid .elements))
 
   type-new : (text : Bytes) → kindRead text after (typeKey (typeCount rows)) ≡ kindOf text rows kind a b c 0 0
   unfolding kindRead kindOf membersFrom elementsFrom
@@ -114,7 +114,7 @@ element-kind : (text : Bytes) (rows after : Words) (a b c first n n' : ℕ) (t :
 unfolding kindOf
 element-kind text rows after a b c first n n' t e kind q = rw q (ap Tuple e)
 
-module _ (rows after : Words) (n : ℕ) (laid : Laid rows) (long : allWords ≤ length after) (n-is : typeCount rows ≡ suc n) (k : Kept n rows after)
+module _ (rows after : Words) (n : ℕ) (laid : Laid rows) (n-is : typeCount rows ≡ suc n) (k : Kept n rows after)
     (p-is : packageCount after ≡ packageCount rows)
     (t-is : typeCount after ≡ typeCount rows)
     (word : (j : ℕ) → j < 8 → j ≢ 5 → typeWord after (typeKey n) j ≡ typeWord rows (typeKey n) j)
@@ -142,17 +142,17 @@ module _ (rows after : Words) (n : ℕ) (laid : Laid rows) (long : allWords ≤ 
         count-is,
       )
 
-  last-laid : memberCountOf rows ≤ memberCountOf after → elementCount rows ≤ elementCount after → memberCountOf after ≤ maxMembers → elementCount after ≤ maxElements
+  last-laid : used after ≤ length rows → memberCountOf rows ≤ memberCountOf after → elementCount rows ≤ elementCount after → memberCountOf after ≤ maxMembers → elementCount after ≤ maxElements
       → suc (endOf rows (typeWord rows (typeKey n) 0)) ≡ endOf after (typeWord rows (typeKey n) 0) → Laid after
-  last-laid m e m-room e-room ends =
+  last-laid long m e m-room e-room ends =
       let was = laid .last (typeKey n) (sym n-is) in
       laid-last k laid (omega arith) m e (t-is ∙ n-is)
       (rw (word 0 (omega arith) (omega arith), word 4 (omega arith) (omega arith), count-is) (omega arith))
-      long (rw p-is (laid .packages)) (rw t-is (laid .types)) m-room e-room
+      (let l = k .long in omega arith) (rw p-is (laid .packages)) (rw t-is (laid .types)) m-room e-room
 
   -- ---- F and M
 
-  module _ (name len pkg type form tag tagLen line : ℕ) (room : memberCountOf rows < maxMembers) (kind : typeWord rows (typeKey n) 0 ≢ 6)
+  module _ (name len pkg type form tag tagLen line : ℕ) (room : memberCountOf rows < maxMembers) (kind : typeWord rows (typeKey n) 0 ≢ 6) (space : used rows + rowWords ≤ length rows)
       (m-is : memberCountOf after ≡ suc (memberCountOf rows))
       (e-is : elementCount after ≡ elementCount rows)
       (row : (j : ℕ) → j < 8 → memberWord after (objKey (memberCountOf rows)) j ≡ getD (name ∷ len ∷ pkg ∷ type ∷ form ∷ tag ∷ tagLen ∷ line ∷ []) j 0) where
@@ -183,13 +183,13 @@ module _ (rows after : Words) (n : ℕ) (laid : Laid rows) (long : allWords ≤ 
 
     pub member-grown : Holds after (λ text. plusMember (tableOf text rows) line (memberOf text (memberCountOf rows) name len pkg type form tag tagLen))
     member-grown = record {
-      laid = last-laid (omega arith) (omega arith) (rw m-is room) (rw e-is (laid .elements)) (ap suc (member-end rows) ∙ sym (member-end after ∙ m-is));
+      laid = last-laid (omega arith) (omega arith) (omega arith) (rw m-is room) (rw e-is (laid .elements)) (ap suc (member-end rows) ∙ sym (member-end after ∙ m-is));
       held = member-held;
     }
 
   -- ---- an element of a tuple
 
-  module _ (t : TypeKey) (room : elementCount rows < maxElements) (kind : typeWord rows (typeKey n) 0 ≡ 6)
+  module _ (t : TypeKey) (room : elementCount rows < maxElements) (kind : typeWord rows (typeKey n) 0 ≡ 6) (space : used rows < length rows)
       (m-is : memberCountOf after ≡ memberCountOf rows)
       (e-is : elementCount after ≡ suc (elementCount rows))
       (new : elementAt after (elementCount rows) ≡ t) where
@@ -214,6 +214,6 @@ module _ (rows after : Words) (n : ℕ) (laid : Laid rows) (long : allWords ≤ 
 
     pub element-grown : Holds after (λ text. plusElement (tableOf text rows) t)
     element-grown = record {
-      laid = last-laid (omega arith) (omega arith) (rw m-is (laid .members)) (rw e-is room) (ap suc (element-end rows) ∙ sym (element-end after ∙ e-is));
+      laid = last-laid (omega arith) (omega arith) (omega arith) (rw m-is (laid .members)) (rw e-is room) (ap suc (element-end rows) ∙ sym (element-end after ∙ e-is));
       held = element-held;
     }

@@ -10,11 +10,11 @@ use borrow.Author.Tests.{eqb-true}
 use Rattle.objects.specs.declared.TypeKey.{TypeKey}
 use Rattle.objects.specs.declared.ObjKey.{ObjKey}
 use Rattle.objects.specs.declared.PackageKey.{PackageKey}
-use Rattle.objects.specs.Bounds.{maxTypes, maxPackages, maxMembers, maxElements, allWords}
+use Rattle.objects.specs.Bounds.{maxTypes, maxPackages, maxMembers, maxElements}
 use Rattle.objects.specs.Lists.{Bytes, upTo}
 use Rattle.objects.specs.Table.{Table, Kind, Tuple, typeKey, objKey, packageKey}
 use Rattle.objects.specs.Rows.{Words, packageCount, typeCount, memberCountOf, elementCount, typeWord, memberWord, packageWord, elementAt, memberAt, membersFrom, elementsFrom, kindOf, kindRead, pathRead}
-use Rattle.objects.specs.Laid.{endOf, Laid}
+use Rattle.objects.specs.Laid.{endOf, used, Laid}
 use Rattle.objects.proofs.ListLaws.{cases, either}
 use Rattle.objects.proofs.Numbers.{each-same, run-same}
 use Rattle.objects.proofs.Stores.{Kept}
@@ -40,7 +40,7 @@ module _ {bound : ℕ} {rows after : Words} (k : Kept bound rows after) where
 
   pub kept-element : (i : ℕ) → i < elementCount rows → elementAt after i ≡ elementAt rows i
   unfolding elementAt
-  kept-element i h = ap typeKey (k .elements _ (omega arith) (omega arith))
+  kept-element i h = rw (k .long) (ap typeKey (k .elements _ (omega arith)))
 
   module _ (text : Bytes) where
     pub kept-memberAt : (m : ObjKey) → m .0 < memberCountOf rows → memberAt text after m ≡ memberAt text rows m
@@ -116,7 +116,7 @@ module _ {bound : ℕ} {rows after : Words} (k : Kept bound rows after) (laid : 
   -- with one type behind those that are kept, whose members end where all end
   pub laid-last : typeCount after ≡ suc bound
       → typeWord after (typeKey bound) 4 + typeWord after (typeKey bound) 5 ≡ endOf after (typeWord after (typeKey bound) 0)
-      → allWords ≤ length after → packageCount after ≤ maxPackages → typeCount after ≤ maxTypes → memberCountOf after ≤ maxMembers → elementCount after ≤ maxElements
+      → used after ≤ length after → packageCount after ≤ maxPackages → typeCount after ≤ maxTypes → memberCountOf after ≤ maxMembers → elementCount after ≤ maxElements
       → Laid after
   laid-last n-is ends long packages types members elements = record {
     long = long;

@@ -2,14 +2,14 @@
 use mathlib.Core.Path.{_≡_, refl, ap, _∙_}
 use mathlib.Core.List.{List, [], _∷_}
 use mathlib.Core.Logic.{_≢_}
-use Prim.Native.Nat.{ℕ, zero, suc, _+_, _*_, _<_, _≤_}
+use Prim.Native.Nat.{ℕ, zero, suc, _+_, _*_, _-_, _<_, _≤_}
 use native.Mathlib.Omega.{arith}
 use lib.ListN.{length, getD, set, length-set}
 use lib.Seq.{getD-set-same, getD-set-other, sets}
 use Rattle.objects.specs.declared.TypeKey.{TypeKey}
 use Rattle.objects.specs.declared.ObjKey.{ObjKey}
 use Rattle.objects.specs.declared.PackageKey.{PackageKey}
-use Rattle.objects.specs.Bounds.{rowWords, typesAt, membersAt, packagesAt, elementsAt}
+use Rattle.objects.specs.Bounds.{rowWords, typesAt, membersAt, packagesAt}
 use Rattle.objects.specs.Table.{typeKey}
 use Rattle.objects.specs.Rows.{Words, wordAt, packageCount, memberCountOf, elementCount, typeWord, memberWord, packageWord, elementAt}
 
@@ -36,9 +36,9 @@ module _ (rows : Words) (at v : ℕ) where
   unfolding packageWord
   package-kept p j ne = word-kept _ ne
 
-  pub element-kept : (i : ℕ) → elementsAt + i ≢ at → elementAt (set rows at v) i ≡ elementAt rows i
+  pub element-kept : (i : ℕ) → length rows - 1 - i ≢ at → elementAt (set rows at v) i ≡ elementAt rows i
   unfolding elementAt
-  element-kept i ne = ap typeKey (word-kept _ ne)
+  element-kept i ne = rw (length-set rows at v) (ap typeKey (word-kept _ ne))
 
 -- ---- a run of words
 
@@ -61,28 +61,30 @@ run-put (v ∷ vs) rows at (suc j) h l =
 
 -- Words of the first `bound` types and of all members, packages and elements of the one are in the other as they were.
 pub record Kept (bound : ℕ) (rows after : Words) : Type 0 where
+  pub long : length after ≡ length rows
   pub types : (i : ℕ) → typesAt ≤ i → i < typesAt + rowWords * bound → wordAt after i ≡ wordAt rows i
   pub members : (i : ℕ) → membersAt ≤ i → i < membersAt + rowWords * memberCountOf rows → wordAt after i ≡ wordAt rows i
   pub packages : (i : ℕ) → packagesAt ≤ i → i < packagesAt + 2 * packageCount rows → wordAt after i ≡ wordAt rows i
-  pub elements : (i : ℕ) → elementsAt ≤ i → i < elementsAt + elementCount rows → wordAt after i ≡ wordAt rows i
+  pub elements : (i : ℕ) → length rows ≤ i + elementCount rows → wordAt after i ≡ wordAt rows i
 
 -- a place that is none of theirs
 pub record Free (bound : ℕ) (rows : Words) (at : ℕ) : Type 0 where
   pub types : typesAt ≤ at → at < typesAt + rowWords * bound → ⊥
   pub members : membersAt ≤ at → at < membersAt + rowWords * memberCountOf rows → ⊥
   pub packages : packagesAt ≤ at → at < packagesAt + 2 * packageCount rows → ⊥
-  pub elements : elementsAt ≤ at → at < elementsAt + elementCount rows → ⊥
+  pub elements : at + elementCount rows < length rows
 
 module _ {bound : ℕ} {rows : Words} where
   pub kept-none : Kept bound rows rows
-  kept-none = record { types = λ i l h. refl; members = λ i l h. refl; packages = λ i l h. refl; elements = λ i l h. refl }
+  kept-none = record { long = refl; types = λ i l h. refl; members = λ i l h. refl; packages = λ i l h. refl; elements = λ i h. refl }
 
   pub kept-set : {after : Words} (at v : ℕ) → Kept bound rows after → Free bound rows at → Kept bound rows (set after at v)
   kept-set {after} at v k f = record {
+    long = length-set after at v ∙ k .long;
     types = λ i l h. word-kept after at v i (λ e. f .types (omega arith) (omega arith)) ∙ k .types i l h;
     members = λ i l h. word-kept after at v i (λ e. f .members (omega arith) (omega arith)) ∙ k .members i l h;
     packages = λ i l h. word-kept after at v i (λ e. f .packages (omega arith) (omega arith)) ∙ k .packages i l h;
-    elements = λ i l h. word-kept after at v i (λ e. f .elements (omega arith) (omega arith)) ∙ k .elements i l h;
+    elements = λ i h. word-kept after at v i (λ e. let z = f .elements in omega arith) ∙ k .elements i h;
   }
 
   pub kept-sets : {after : Words} (at : ℕ) (vs : List ℕ) → Kept bound rows after → ((i : ℕ) → at ≤ i → i < at + length vs → Free bound rows i) → Kept bound rows (sets after at vs)

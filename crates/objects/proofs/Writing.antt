@@ -9,10 +9,10 @@ use lib.Dec.{eqb}
 use lib.ListN.{length, getD, set, length-set, replicate, length-replicate, getD-replicate}
 use lib.Seq.{sets, length-sets}
 use Rattle.objects.specs.declared.TypeKey.{TypeKey}
-use Rattle.objects.specs.Bounds.{maxTypes, maxPackages, maxMembers, maxElements, rowWords, typesAt, membersAt, packagesAt, elementsAt, allWords}
+use Rattle.objects.specs.Bounds.{maxTypes, maxPackages, maxMembers, maxElements, rowWords, typesAt, membersAt, packagesAt}
 use Rattle.objects.specs.Table.{Table, typeKey}
 use Rattle.objects.specs.Rows.{Words, wordAt, packageCount, typeCount, memberCountOf, elementCount, typeWord, memberWord, packageWord, elementAt, bytesAt, kindOf, tableOf}
-use Rattle.objects.specs.Laid.{endOf, lastType, Laid, Holds, raised, memberOf, plusPackage, plusType, plusMember, plusElement}
+use Rattle.objects.specs.Laid.{endOf, lastType, used, Laid, Holds, raised, memberOf, plusPackage, plusType, plusMember, plusElement}
 use Rattle.objects.proofs.ListLaws.{cases}
 use Rattle.objects.proofs.Stores.{word-put, word-kept, run-put, run-kept, Kept, Free, kept-none, kept-set, kept-sets}
 use Rattle.objects.proofs.Growing.{package-grown, type-grown, member-grown, element-grown}
@@ -22,7 +22,7 @@ use Rattle.objects.proofs.Growing.{package-grown, type-grown, member-gr
 abbrev pub emptyTable : Table
 emptyTable = record { packages = []; types = []; typeLines = []; memberLines = [] }
 
-pub empty-holds : (rows : Words) → allWords ≤ length rows → ((i : ℕ) → i < 4 → wordAt rows i ≡ 0) → Holds rows (λ text. emptyTable)
+pub empty-holds : (rows : Words) → membersAt ≤ length rows → ((i : ℕ) → i < 4 → wordAt rows i ≡ 0) → Holds rows (λ text. emptyTable)
 unfolding packageCount typeCount memberCountOf elementCount tableOf
 empty-holds rows long zero =
     let p : wordAt rows 0 ≡ 0 = zero 0 (omega arith) in
@@ -31,7 +31,7 @@ empty-holds rows long zero =
     let e : wordAt rows 3 ≡ 0 = zero 3 (omega arith) in
     record {
       laid = record {
-        long = long;
+        long = omega arith;
         packages = omega arith;
         types = omega arith;
         members = omega arith;
@@ -43,17 +43,14 @@ empty-holds rows long zero =
     }
 
 -- as a local array of the code begins
-pub zeros-hold : (n : ℕ) → allWords ≤ n → Holds (replicate n 0) (λ text. emptyTable)
+pub zeros-hold : (n : ℕ) → membersAt ≤ n → Holds (replicate n 0) (λ text. emptyTable)
 unfolding wordAt
 zeros-hold n h = empty-holds (replicate n 0) (rw (length-replicate {A = ℕ} n 0) h) (λ i l. getD-replicate n i 0 0 (omega arith))
 
 -- ---- a run of words behind the counts, then a count
 
 module _ (rows : Words) (at : ℕ) (vs : List ℕ) (c v : ℕ) (behind : 4 ≤ at) (small : c < 4) where
-  stored-length : length (set (sets rows at vs) c v) ≡ length rows
-  stored-length = length-set (sets rows at vs) c v ∙ length-sets rows at vs
-
-  stored-count : allWords ≤ length rows → wordAt (set (sets rows at vs) c v) c ≡ v
+  stored-count : 4 ≤ length rows → wordAt (set (sets rows at vs) c v) c ≡ v
   stored-count h = word-put (sets rows at vs) c v (rw (length-sets rows at vs) (omega arith))
 
   stored-below : (i : ℕ) → i < at → i ≢ c → wordAt (set (sets rows at vs) c v) i ≡ wordAt rows i
@@ -76,9 +73,9 @@ module _ (rows : Words) (laid : Laid rows) (place len : ℕ) (room : packageCoun
       let v = packageCount rows + 1 in
       let kept : (i : ℕ) → i < 4 → i ≢ 0 → wordAt (set (sets rows at vs) 0 v) i ≡ wordAt rows i
       = λ i h. stored-below rows at vs 0 v (omega arith) (omega arith) i (omega arith) in
-      package-grown rows (set (sets rows at vs) 0 v) place len laid (rw (stored-length rows at vs 0 v (omega arith) (omega arith)) (laid .long)) room
+      package-grown rows (set (sets rows at vs) 0 v) place len laid room
       (kept-set 0 v (kept-sets at vs kept-none (λ i lo hi. omega arith)) (omega arith))
-      (stored-count rows at vs 0 v (omega arith) (omega arith) (laid .long) ∙ add-one _)
+      (stored-count rows at vs 0 v (omega arith) (omega arith) (let w = laid .long in omega arith) ∙ add-one _)
       (kept 1 (omega arith) (omega arith))
       (kept 2 (omega arith) (omega arith))
       (kept 3 (omega arith) (omega arith))
@@ -105,10 +102,10 @@ module _ (rows : Words) (laid : Laid rows) (kind a b c line : ℕ) (room : typeC
       let v = typeCount rows + 1 in
       let kept : (i : ℕ) → i < 4 → i ≢ 1 → wordAt (set (sets rows at vs) 1 v) i ≡ wordAt rows i
       = λ i h. stored-below rows at vs 1 v (omega arith) (omega arith) i (omega arith) in
-      type-grown rows (set (sets rows at vs) 1 v) kind a b c line laid (rw (stored-length rows at vs 1 v (omega arith) (omega arith)) (laid .long)) room
+      type-grown rows (set (sets rows at vs) 1 v) kind a b c line laid room
       (kept-set 1 v (kept-sets at vs kept-none (λ i lo hi. omega arith)) (omega arith))
       (kept 0 (omega arith) (omega arith))
-      (stored-count rows at vs 1 v (omega arith) (omega arith) (laid .long) ∙ add-one _)
+      (stored-count rows at vs 1 v (omega arith) (omega arith) (let w = laid .long in omega arith) ∙ add-one _)
       (kept 2 (omega arith) (omega arith))
       (kept 3 (omega arith) (omega arith))
       (stored-word rows at vs 1 v (omega arith) (omega arith) (omega arith))
@@ -133,14 +130,14 @@ module _ (rows : Words) {n w : ℕ} (n-is : n ≡ typeCount rows) (w-is : w ≡ 
       let e : w ≡ typeWord rows (lastType rows) 5 = w-is ∙ rw n-is in
       cases (eqb (typeWord rows (lastType rows) 0) 6) (λ q. let g = rw q at h in omega arith) (λ q. let g = rw q at h in omega arith)
 
-module _ (rows : Words) (laid : Laid rows) (some : 0 < typeCount rows) (at : ℕ) (vs : List ℕ) (c v : ℕ) (behind : membersAt ≤ at) (small : c < 4) where
-  under-length : length (set (sets (raised rows) at vs) c v) ≡ length rows
-  unfolding raised
-  under-length = stored-length (raised rows) at vs c v (omega arith) small ∙ length-set rows _ _
+raised-long : (rows : Words) → length (raised rows) ≡ length rows
+unfolding raised
+raised-long rows = length-set rows _ _
 
+module _ (rows : Words) (laid : Laid rows) (some : 0 < typeCount rows) (at : ℕ) (vs : List ℕ) (c v : ℕ) (behind : membersAt ≤ at) (small : c < 4) where
   under-count : wordAt (set (sets (raised rows) at vs) c v) c ≡ v
   unfolding raised
-  under-count = stored-count (raised rows) at vs c v (omega arith) small (rw (length-set rows (typesAt + rowWords * (typeCount rows - 1) + 5) (typeWord rows (lastType rows) 5 + 1)) (laid .long))
+  under-count = stored-count (raised rows) at vs c v (omega arith) small (rw (length-set rows (typesAt + rowWords * (typeCount rows - 1) + 5) (typeWord rows (lastType rows) 5 + 1)) (let w = laid .long in omega arith))
 
   under-other : (i : ℕ) → i < 4 → i ≢ c → wordAt (set (sets (raised rows) at vs) c v) i ≡ wordAt rows i
   unfolding raised
@@ -172,7 +169,7 @@ abbrev memberRow : (name len pkg type form tag width line : ℕ) → List ℕ
 memberRow name len pkg type form tag width line = name ∷ len ∷ pkg ∷ type ∷ form ∷ tag ∷ width ∷ line ∷ []
 
 module _ (rows : Words) (laid : Laid rows) (name len pkg type form tag width line : ℕ)
-    (room : memberCountOf rows < maxMembers) (some : 0 < typeCount rows) (kind : typeWord rows (lastType rows) 0 ≢ 6) where
+    (room : memberCountOf rows < maxMembers) (some : 0 < typeCount rows) (kind : typeWord rows (lastType rows) 0 ≢ 6) (space : used rows + rowWords ≤ length rows) where
   member-stored : Holds (set (sets (raised rows) (membersAt + rowWords * memberCountOf rows) (memberRow name len pkg type form tag width line)) 2 (memberCountOf rows + 1))
       (λ text. plusMember (tableOf text rows) line (memberOf text (memberCountOf rows) name len pkg type form tag width))
   unfolding packageCount typeCount memberCountOf elementCount memberWord
@@ -183,52 +180,54 @@ module _ (rows : Words) (laid : Laid rows) (name len pkg type form tag width lin
       let l : membersAt ≤ at = omega arith in
       let s : 2 < 4 = omega arith in
       let kept = under-other rows laid some at vs 2 v l s in
-      member-grown rows (set (sets (raised rows) at vs) 2 v) (typeCount rows - 1) laid (rw (under-length rows laid some at vs 2 v l s) (laid .long)) (omega arith)
+      member-grown rows (set (sets (raised rows) at vs) 2 v) (typeCount rows - 1) laid (omega arith)
       (under-kept rows laid some at vs 2 v l s (λ i lo hi. omega arith))
       (kept 0 (omega arith) (omega arith))
       (kept 1 (omega arith) (omega arith))
       (under-word rows laid some at vs 2 v l s)
       (under-raised rows laid some at vs 2 v l s)
-      name len pkg type form tag width line room kind
+      name len pkg type form tag width line room kind space
       (under-count rows laid some at vs 2 v l s ∙ add-one _)
       (kept 3 (omega arith) (omega arith))
       (under-new rows laid some at vs 2 v l s (omega arith))
 
 pub member-holds : (rows : Words) (name len pkg type form tag width line : ℕ) {m : ℕ} {r r' : Words} → Laid rows → memberCountOf rows < maxMembers → 0 < typeCount rows
-    → typeWord rows (lastType rows) 0 ≢ 6 → m ≡ memberCountOf rows → r ≡ raised rows
+    → typeWord rows (lastType rows) 0 ≢ 6 → used rows + rowWords ≤ length rows → m ≡ memberCountOf rows → r ≡ raised rows
     → r' ≡ sets r (membersAt + rowWords * m) (memberRow name len pkg type form tag width line)
     → Holds (set r' 2 (m + 1)) (λ text. plusMember (tableOf text rows) line (memberOf text (memberCountOf rows) name len pkg type form tag width))
-member-holds rows name len pkg type form tag width line laid room some kind m-is r-is r'-is =
-    rw (r'-is, r-is, m-is) (member-stored rows laid name len pkg type form tag width line room some kind)
+member-holds rows name len pkg type form tag width line laid room some kind space m-is r-is r'-is =
+    rw (r'-is, r-is, m-is) (member-stored rows laid name len pkg type form tag width line room some kind space)
 
 -- ---- an element of a tuple
 
-module _ (rows : Words) (laid : Laid rows) (t : TypeKey) (room : elementCount rows < maxElements) (some : 0 < typeCount rows) (kind : typeWord rows (lastType rows) 0 ≡ 6) where
-  element-stored : Holds (set (set (raised rows) (elementsAt + elementCount rows) (t .0)) 3 (elementCount rows + 1)) (λ text. plusElement (tableOf text rows) t)
+module _ (rows : Words) (laid : Laid rows) (t : TypeKey) (room : elementCount rows < maxElements) (some : 0 < typeCount rows) (kind : typeWord rows (lastType rows) 0 ≡ 6)
+    (space : used rows < length rows) where
+  element-stored : Holds (set (set (raised rows) (length rows - 1 - elementCount rows) (t .0)) 3 (elementCount rows + 1)) (λ text. plusElement (tableOf text rows) t)
   unfolding packageCount typeCount memberCountOf elementCount elementAt
   element-stored =
-      let at = elementsAt + elementCount rows in
+      let at = length rows - 1 - elementCount rows in
       let vs : List ℕ = t .0 ∷ [] in
       let v = elementCount rows + 1 in
       let l : membersAt ≤ at = omega arith in
       let s : 3 < 4 = omega arith in
       let kept = under-other rows laid some at vs 3 v l s in
       let e : at + 0 ≡ at = omega arith in
-      element-grown rows (set (sets (raised rows) at vs) 3 v) (typeCount rows - 1) laid (rw (under-length rows laid some at vs 3 v l s) (laid .long)) (omega arith)
-      (under-kept rows laid some at vs 3 v l s (λ i lo hi. omega arith))
+      let others = under-kept rows laid some at vs 3 v l s (λ i lo hi. omega arith) in
+      element-grown rows (set (sets (raised rows) at vs) 3 v) (typeCount rows - 1) laid (omega arith)
+      others
       (kept 0 (omega arith) (omega arith))
       (kept 1 (omega arith) (omega arith))
       (under-word rows laid some at vs 3 v l s)
       (under-raised rows laid some at vs 3 v l s)
-      t room kind
+      t room kind space
       (kept 2 (omega arith) (omega arith))
       (under-count rows laid some at vs 3 v l s ∙ add-one _)
-      (ap typeKey (rw e at (under-new rows laid some at vs 3 v l s (omega arith) 0 (omega arith))))
+      (rw (others .long) (ap typeKey (rw e at (under-new rows laid some at vs 3 v l s (omega arith) 0 (omega arith)))))
 
 pub element-holds : (rows : Words) (t : TypeKey) {n : ℕ} {r : Words} → Laid rows → elementCount rows < maxElements → 0 < typeCount rows
-    → typeWord rows (lastType rows) 0 ≡ 6 → n ≡ elementCount rows → r ≡ raised rows
-    → Holds (set (set r (elementsAt + n) (t .0)) 3 (n + 1)) (λ text. plusElement (tableOf text rows) t)
-element-holds rows t laid room some kind n-is r-is = rw (r-is, n-is) (element-stored rows laid t room some kind)
+    → typeWord rows (lastType rows) 0 ≡ 6 → used rows < length rows → n ≡ elementCount rows → r ≡ raised rows
+    → Holds (set (set r (length r - 1 - n) (t .0)) 3 (n + 1)) (λ text. plusElement (tableOf text rows) t)
+element-holds rows t laid room some kind space n-is r-is = rw (r-is, n-is, raised-long rows) (element-stored rows laid t room some kind space)
 
 -- ---- the count of elements, which only an element raises
 
@@ -254,9 +253,9 @@ member-elements rows name len pkg type form tag width line {m} m-is r-is r'-is =
     rw (r'-is, r-is) (elements-kept (raised rows) (membersAt + rowWords * m) (memberRow name len pkg type form tag width line) 2 (m + 1) (omega arith) (omega arith) ∙ raised-elements rows)
 
 pub element-elements : (rows : Words) (t : ℕ) {n : ℕ} {r : Words} → Laid rows → n ≡ elementCount rows → r ≡ raised rows
-    → elementCount (set (set r (elementsAt + n) t) 3 (n + 1)) ≡ elementCount rows + 1
+    → elementCount (set (set r (length r - 1 - n) t) 3 (n + 1)) ≡ elementCount rows + 1
 unfolding elementCount raised
 element-elements rows t {n} {r} laid n-is r-is =
     let l : length r ≡ length rows = ap length r-is ∙ length-set rows _ _ in
-    let h : 3 < length (set r (elementsAt + n) t) = rw (length-set r (elementsAt + n) t, l) (let w = laid .long in omega arith) in
-    word-put (set r (elementsAt + n) t) 3 (n + 1) h ∙ ap (λ x. x + 1) n-is
+    let h : 3 < length (set r (length r - 1 - n) t) = rw (length-set r (length r - 1 - n) t, l) (let w = laid .long in omega arith) in
+    word-put (set r (length r - 1 - n) t) 3 (n + 1) h ∙ ap (λ x. x + 1) n-is

@@ -1,5 +1,5 @@
 -- Every number that document 01 bounds something by, once. Definitions, contracts and proofs use them by name.
-use Prim.Native.Nat.{ℕ}
+use Prim.Native.Nat.{ℕ, _-_}
 
 -- "256 types, 64 packages, 1,024 members, 255 per type, 256 places in a way."
 abbrev pub maxTypes : ℕ
@@ -83,7 +83,7 @@ firstRow = 4
 abbrev pub firstWords : ℕ
 firstWords = 1_024
 
--- ---- the rows of a loaded table: four counts, then a region for each kind of row (specs/Rows.antt)
+-- ---- the rows of a loaded table (specs/Rows.antt): four counts, packages, types, and then members from the front and elements of tuples from the back
 
 -- words of a type's row and of a member's
 abbrev pub rowWords : ℕ
@@ -93,17 +93,30 @@ rowWords = 8
 abbrev pub maxElements : ℕ
 maxElements = 16_384
 
+abbrev pub packagesAt : ℕ
+packagesAt = 8
+
 abbrev pub typesAt : ℕ
-typesAt = 8
+typesAt = 136
 
 abbrev pub membersAt : ℕ
-membersAt = 2_056
+membersAt = 2_184
 
-abbrev pub packagesAt : ℕ
-packagesAt = 10_248
-
-abbrev pub elementsAt : ℕ
-elementsAt = 10_376
+-- words of 1,024 members and 16,384 elements
+abbrev pub sharedWords : ℕ
+sharedWords = 24_576
 
 abbrev pub allWords : ℕ
 allWords = 26_760
+
+-- The words that a text of n bytes asks for. A member takes 8 words and at least 10 bytes, an element a word and at least 2 bytes: behind the types a word
+-- for each byte is enough, and never more than all are used.
+abbrev pub roomFor : ℕ → ℕ
+roomFor n = allWords - (sharedWords - n)
+
+-- a call has an array of its own for texts of at most so many bytes, and one for all others
+abbrev pub smallText : ℕ
+smallText = 1_024
+
+abbrev pub middleText : ℕ
+middleText = 6_144

@@ -8,7 +8,7 @@ use Prim.Native.Nat.{ℕ, suc, _+_, _*_, _-_, _≤_, _<_}
 use lib.Dec.{eqb}
 use lib.ListN.{length, set}
 use Rattle.objects.specs.declared.TypeKey.{TypeKey}
-use Rattle.objects.specs.Bounds.{maxTypes, maxPackages, maxMembers, maxElements, rowWords, typesAt, allWords}
+use Rattle.objects.specs.Bounds.{maxTypes, maxPackages, maxMembers, maxElements, rowWords, typesAt, membersAt}
 use Rattle.objects.specs.Lists.{Bytes, onLast}
 use Rattle.objects.specs.Table.{Table, Member, Kind, Basic, Array, Slice, Pointer, Map, Chan, Tuple, Func, Struct, Iface, Named, typeKey, objKey, withMember}
 use Rattle.objects.specs.Rows.{Words, packageCount, typeCount, memberCountOf, elementCount, typeWord, bytesAt, pkgOf, entityOf, tableOf}
@@ -23,9 +23,13 @@ endOf rows kind = cond (eqb kind 6) (elementCount rows) (memberCountOf rows)
 abbrev pub lastType : Words → TypeKey
 lastType rows = typeKey (typeCount rows - 1)
 
--- All counts are within bounds, and no type has members or elements that are not there yet.
+-- the words up to the last type's, and those of all members and elements
+abbrev pub used : Words → ℕ
+used rows = membersAt + rowWords * memberCountOf rows + elementCount rows
+
+-- All counts are within bounds, members and elements do not meet, and no type has members or elements that are not there yet.
 pub record Laid (rows : Words) : Type 0 where
-  pub long : allWords ≤ length rows
+  pub long : used rows ≤ length rows
   pub packages : packageCount rows ≤ maxPackages
   pub types : typeCount rows ≤ maxTypes
   pub members : memberCountOf rows ≤ maxMembers

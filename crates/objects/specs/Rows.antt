@@ -5,12 +5,12 @@ use mathlib.Core.List.{List, map}
 use mathlib.Core.Option.{Option, none, some}
 use Prim.Native.Nat.{ℕ, _+_, _*_, _-_}
 use lib.Dec.{eqb}
-use lib.ListN.{getD, take, drop}
+use lib.ListN.{length, getD, take, drop}
 use Rattle.objects.specs.declared.TypeKey.{TypeKey}
 use Rattle.objects.specs.declared.ObjKey.{ObjKey}
 use Rattle.objects.specs.declared.PackageKey.{PackageKey}
 use Rattle.objects.specs.declared.Dir.{Dir}
-use Rattle.objects.specs.Bounds.{rowWords, typesAt, membersAt, packagesAt, elementsAt}
+use Rattle.objects.specs.Bounds.{rowWords, typesAt, membersAt, packagesAt}
 use Rattle.objects.specs.Lists.{Bytes, upTo}
 use Rattle.objects.specs.Table.{Table, Member, Entity, Field, Method, Kind, Basic, Array, Slice, Pointer, Map, Chan, Tuple, Func, Struct, Iface, Named, typeKey, objKey, packageKey}
 
@@ -47,8 +47,9 @@ memberWord rows m j = wordAt rows (membersAt + rowWords * (m .0) + j)
 unfoldable pub packageWord : Words → PackageKey → ℕ → ℕ
 packageWord rows p j = wordAt rows (packagesAt + 2 * (p .0) + j)
 
+-- the elements stand from the last word downwards; one that is not there reads as the first word
 unfoldable pub elementAt : Words → ℕ → TypeKey
-elementAt rows i = typeKey (wordAt rows (elementsAt + i))
+elementAt rows i = typeKey (wordAt rows (length rows - 1 - i))
 
 -- ---- what the words mean
 

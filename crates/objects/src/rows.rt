@@ -1,6 +1,7 @@
 // The readers of a loaded table: each gives what the words of its rows say (specs/Rows.antt, specs/Types.antt). A word that is not there reads as 0, so
 // that every reader is total.
 ghost use mathlib.Core.Path.{_≡_};
+ghost use Prim.Native.Nat.{_-_};
 ghost use Rattle.objects.specs.Rows.{wordAt, packageCount, typeCount, memberCountOf, elementCount, typeWord, memberWord, packageWord, elementAt, dirAt};
 ghost use Rattle.objects.specs.Types.{typeRead, numberRead, pointerRead, namedRead, bareRead, underRead, ifaceRead, namedPointerRead, firstRead, totalRead, memberTypeRead, embeddedRead, methodRead, ptrRead};
 use crate::Dir;
@@ -10,13 +11,11 @@ use crate::Type;
 use crate::TypeKey;
 
 // The layout, as specs/Bounds.antt names it: where each region starts, and the words of a row.
-pub const TYPES_AT: usize = 8;
+pub const PACKAGES_AT: usize = 8;
 
-pub const MEMBERS_AT: usize = 2_056;
+pub const TYPES_AT: usize = 136;
 
-pub const PACKAGES_AT: usize = 10_248;
-
-pub const ELEMENTS_AT: usize = 10_376;
+pub const MEMBERS_AT: usize = 2_184;
 
 pub const ROW_WORDS: usize = 8;
 
@@ -28,6 +27,13 @@ pub fn word(rows: &[u32], at: usize) -> u32
     ensures { λ r. ⌜ r ≡ wordAt (now (rows .entry)) at ⌝ }
 {
     if at < rows.len() { rows[at] } else { 0 }
+}
+
+// The place of the i-th of n words, counted from the last.
+fn from_back(n: usize, i: usize) -> usize
+    ensures { λ r. ⌜ r ≡ n - 1 - i ⌝ }
+{
+    if i < n { n - 1 - i } else { 0 }
 }
 
 pub fn package_count(rows: &[u32]) -> u32
@@ -76,10 +82,11 @@ pub fn package_word(rows: &[u32], p: PackageKey, j: u32) -> u32
     )
 }
 
+// Elements of tuples stand from the last word downwards.
 pub fn element(rows: &[u32], i: u32) -> TypeKey
     ensures { λ r. ⌜ r ≡ elementAt (now (rows .entry)) i ⌝ }
 {
-    TypeKey(word(rows, ELEMENTS_AT + i as usize))
+    TypeKey(word(rows, from_back(rows.len(), i as usize)))
 }
 
 // ---- a whole type

@@ -5,11 +5,10 @@ ghost use mathlib.Core.Logic.{_≢_};
 ghost use Prim.Native.Nat.{_+_, _<_, _≤_};
 ghost use lib.ListN.{length};
 ghost use lib.Seq.{sets};
-ghost use Rattle.objects.specs.Bounds.{maxPackages, maxTypes, maxMembers, maxElements};
+ghost use Rattle.objects.specs.Bounds.{maxPackages, maxTypes, maxMembers, maxElements, rowWords};
 ghost use Rattle.objects.specs.Rows.{packageCount, typeCount, memberCountOf, elementCount, typeWord, bytesAt, kindOf, tableOf};
-ghost use Rattle.objects.specs.Laid.{Laid, Holds, RankPut, endOf, lastType, raised, memberOf, plusPackage, plusType, plusMember, plusElement};
+ghost use Rattle.objects.specs.Laid.{used, Laid, Holds, RankPut, endOf, lastType, raised, memberOf, plusPackage, plusType, plusMember, plusElement};
 use crate::TypeKey;
-use crate::rows::ELEMENTS_AT;
 use crate::rows::MEMBERS_AT;
 use crate::rows::PACKAGE_WORDS;
 use crate::rows::PACKAGES_AT;
@@ -127,7 +126,7 @@ pub fn put_member(
     width: u32,
     line: u32,
 )
-    requires { ⌜ Laid (now rows) × (memberCountOf (now rows) < maxMembers) × (0 < typeCount (now rows)) × (typeWord (now rows) (lastType (now rows)) 0 ≢ 6) ⌝ }
+    requires { ⌜ Laid (now rows) × (memberCountOf (now rows) < maxMembers) × (0 < typeCount (now rows)) × (typeWord (now rows) (lastType (now rows)) 0 ≢ 6) × (used (now rows) + rowWords ≤ length (now rows)) ⌝ }
     ensures { λ _. ⌜ Holds (now (rows .exit)) (λ text. plusMember (tableOf text (now (rows .entry))) line (memberOf text (memberCountOf (now (rows .entry))) name len pkg (t .0) form tag width)) ⌝ }
     ensures { λ _. ⌜ elementCount (now (rows .exit)) ≡ elementCount (now (rows .entry)) ⌝ }
 {
@@ -150,13 +149,14 @@ pub fn put_member(
 
 // One element more on the T line of the last type, a tuple.
 pub fn put_element(rows: &mut [u32], e: TypeKey)
-    requires { ⌜ Laid (now rows) × (elementCount (now rows) < maxElements) × (0 < typeCount (now rows)) × (typeWord (now rows) (lastType (now rows)) 0 ≡ 6) ⌝ }
+    requires { ⌜ Laid (now rows) × (elementCount (now rows) < maxElements) × (0 < typeCount (now rows)) × (typeWord (now rows) (lastType (now rows)) 0 ≡ 6) × (used (now rows) < length (now rows)) ⌝ }
     ensures { λ _. ⌜ Holds (now (rows .exit)) (λ text. plusElement (tableOf text (now (rows .entry))) e) ⌝ }
     ensures { λ _. ⌜ elementCount (now (rows .exit)) ≡ elementCount (now (rows .entry)) + 1 ⌝ }
 {
     let n = element_count(rows);
     raise(rows);
-    rows[ELEMENTS_AT + n as usize] = e.0;
+    let at = rows.len() - 1 - n as usize;
+    rows[at] = e.0;
     rows[3] = n + 1;
 }
 

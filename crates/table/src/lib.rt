@@ -2,7 +2,7 @@
 ghost use mathlib.Core.Path.{_≡_};
 ghost use Prim.Native.Nat.{_≤_};
 ghost use lib.ListN.{length, replicate};
-ghost use Rattle.objects.specs.Bounds.{allWords};
+ghost use Rattle.objects.specs.Bounds.{roomFor};
 ghost use Rattle.objects.specs.Rows.{tableOf};
 ghost use Rattle.objects.specs.Laid.{Laid};
 ghost use Rattle.rules.specs.Load.{checked};
@@ -37,7 +37,7 @@ fn check(text: &[u8], rows: &mut [u32]) -> Loading
 
 // 2 to 10. The rows are clear when it is called.
 pub fn load(text: &[u8], rows: &mut [u32]) -> Loading
-    requires { ⌜ (now rows ≡ replicate (length (now rows)) 0) × (allWords ≤ length (now rows)) ⌝ }
+    requires { ⌜ (now rows ≡ replicate (length (now rows)) 0) × (roomFor (length (now text)) ≤ length (now rows)) ⌝ }
     ensures { λ r. ⌜ Loads (now (text .entry)) r (now (rows .exit)) ⌝ }
 {
     match lines::reading::read(text, rows) {

@@ -2,10 +2,10 @@
 ghost use mathlib.Core.Path.{_≡_};
 ghost use Prim.Native.Nat.{_≤_};
 ghost use lib.ListN.{length, replicate};
-ghost use Rattle.objects.specs.Bounds.{workWords};
+ghost use Rattle.objects.specs.Bounds.{roomFor, smallText, middleText};
 ghost use Rattle.rules.specs.Asked.{outcome, asked};
 ghost use Rattle.reply.specs.Done.{Does};
-ghost use Rattle.yifgrun.specs.Gives.{Gives, numberRead, Fits};
+ghost use Rattle.yifgrun.specs.Gives.{Cleared, Gives, numberRead, Fits};
 use answer::answered;
 use reply::Done;
 use table::Loading;
@@ -14,17 +14,69 @@ use typ::marks::clear;
 
 const WORK_WORDS: usize = 4_096;
 
-// Refusals 2 to 13, or the answer. The work area is clear when it is called, and when it returns.
-fn decide(table: &[u8], question: &[u8], answer: &mut [u8], work: &mut [u32]) -> Done
-    requires { ⌜ (workWords ≤ length (now work)) × (now work ≡ replicate (length (now work)) 0) ⌝ }
+const SMALL_TEXT: usize = 1_024;
+
+const MIDDLE_TEXT: usize = 6_144;
+
+// Refusals 2 to 13, or the answer. The work area is clear when it is called, and when it returns; the rows are clear when it is called, and have room for
+// the table.
+fn decide_in(
+    table: &[u8],
+    rows: &mut [u32],
+    question: &[u8],
+    answer: &mut [u8],
+    work: &mut [u32],
+) -> Done
+    requires { ⌜ Cleared (now work) × (now rows ≡ replicate (length (now rows)) 0) × (roomFor (length (now table)) ≤ length (now rows)) ⌝ }
+    ensures { λ r. ⌜ Does (outcome (now (table .entry)) (now (question .entry)) (length (now (answer .entry)))) r (now (answer .entry)) (now (answer .exit)) ⌝ }
+    ensures { λ _. ⌜ now (work .exit) ≡ now (work .entry) ⌝ }
+{
+    match load(table, rows) {
+        Loading::Refused(n, line) => Done::Refused(n, line),
+        Loading::Loaded => answered(table, rows, work, question, answer),
+    }
+}
+
+// The same with rows of its own, whose words are all cleared: as few as the length of the table allows.
+fn decide_small(table: &[u8], question: &[u8], answer: &mut [u8], work: &mut [u32]) -> Done
+    requires { ⌜ Cleared (now work) × (length (now table) ≤ smallText) ⌝ }
+    ensures { λ r. ⌜ Does (outcome (now (table .entry)) (now (question .entry)) (length (now (answer .entry)))) r (now (answer .entry)) (now (answer .exit)) ⌝ }
+    ensures { λ _. ⌜ now (work .exit) ≡ now (work .entry) ⌝ }
+{
+    let mut rows = [0u32; 3_208];
+    decide_in(table, &mut rows, question, answer, work)
+}
+
+fn decide_middle(table: &[u8], question: &[u8], answer: &mut [u8], work: &mut [u32]) -> Done
+    requires { ⌜ Cleared (now work) × (length (now table) ≤ middleText) ⌝ }
+    ensures { λ r. ⌜ Does (outcome (now (table .entry)) (now (question .entry)) (length (now (answer .entry)))) r (now (answer .entry)) (now (answer .exit)) ⌝ }
+    ensures { λ _. ⌜ now (work .exit) ≡ now (work .entry) ⌝ }
+{
+    let mut rows = [0u32; 8_328];
+    decide_in(table, &mut rows, question, answer, work)
+}
+
+fn decide_large(table: &[u8], question: &[u8], answer: &mut [u8], work: &mut [u32]) -> Done
+    requires { ⌜ Cleared (now work) ⌝ }
     ensures { λ r. ⌜ Does (outcome (now (table .entry)) (now (question .entry)) (length (now (answer .entry)))) r (now (answer .entry)) (now (answer .exit)) ⌝ }
     ensures { λ _. ⌜ now (work .exit) ≡ now (work .entry) ⌝ }
 {
     let mut rows = [0u32; 26_760];
-    match load(table, &mut rows) {
-        Loading::Refused(n, line) => Done::Refused(n, line),
-        Loading::Loaded => answered(table, &rows, work, question, answer),
+    decide_in(table, &mut rows, question, answer, work)
+}
+
+fn decide(table: &[u8], question: &[u8], answer: &mut [u8], work: &mut [u32]) -> Done
+    requires { ⌜ Cleared (now work) ⌝ }
+    ensures { λ r. ⌜ Does (outcome (now (table .entry)) (now (question .entry)) (length (now (answer .entry)))) r (now (answer .entry)) (now (answer .exit)) ⌝ }
+    ensures { λ _. ⌜ now (work .exit) ≡ now (work .entry) ⌝ }
+{
+    if table.len() <= SMALL_TEXT {
+        return decide_small(table, question, answer, work);
     }
+    if table.len() <= MIDDLE_TEXT {
+        return decide_middle(table, question, answer, work);
+    }
+    decide_large(table, question, answer, work)
 }
 
 // "the answer's length, or minus (refusal × 65,536 + line)"

@@ -1,9 +1,9 @@
 -- `lines::adding::add_line` meets its contract.
 use mathlib.Core.Path.{refl}
 use mathlib.Core.Option.{none}
-use Rattle.lines.proofs.TupleLaws.{grown-form, tuple-line}
+use Rattle.lines.proofs.TupleLaws.{grown-form, tuple-space, member-space}
 use Rattle.lines.proofs.AddLaws.{refusing}
-use native.Mathlib.Omega.{arith}
+use Rattle.text.specs.Cursors.{fieldsLeft}
 use Rattle.lines.specs.Forms.{formMeant}
 use borrow.Author.Needs.{needs}
 use Rattle.lines.proofs.adding.add_line.Statement.{statement}
@@ -28,13 +28,13 @@ enum-known-d : tie.Need-enum-known-d
 enum-known-d c = search needs
 
 add-tuple-requires : tie.Need-add-tuple-requires
-add-tuple-requires c κs = ((c .before .before .before .before .before .before .before .pre .1), omega (arith, tuple-line (c .before .before .before .before .before .before .before .args .s .now) (c .before .before .before .before .before .before .before .args .rows .now) (c .before .before .before .before .before .before .before .args .line) _ (c .before .before .before .before .parse .ensures) (c .before .before .d .given .1), (c .before .before .before .before .before .before .before .pre .2)))
+add-tuple-requires c κs = ((c .before .before .before .before .before .before .before .pre .1), tuple-space (c .before .before .before .before .before .before .before .args .s .now) (c .before .before .before .before .before .before .before .args .rows .now) (fieldsLeft (c .before .before .before .before .before .before .before .args .s .now) (c .before .before .before .before .before .before .before .args .c)) _ (c .before .before .before .before .before .before .before .pre .1) (c .before .before .before .before .before .before .before .pre .0) (c .before .before .before .before .before .before .before .pre .2) (c .before .before .before .before .before .before .before .pre .3) (c .before .before .before .before .parse .ensures .1) (c .before .before .d .given .1) .0, tuple-space (c .before .before .before .before .before .before .before .args .s .now) (c .before .before .before .before .before .before .before .args .rows .now) (fieldsLeft (c .before .before .before .before .before .before .before .args .s .now) (c .before .before .before .before .before .before .before .args .c)) _ (c .before .before .before .before .before .before .before .pre .1) (c .before .before .before .before .before .before .before .pre .0) (c .before .before .before .before .before .before .before .pre .2) (c .before .before .before .before .before .before .before .pre .3) (c .before .before .before .before .parse .ensures .1) (c .before .before .d .given .1) .1)
 
 enum-known-name : tie.Need-enum-known-name
 enum-known-name c = search needs
 
 add-member-requires : tie.Need-add-member-requires
-add-member-requires c κs = (c .before .before .before .before .before .before .before .pre .1)
+add-member-requires c κs = ((c .before .before .before .before .before .before .before .pre .1), member-space (c .before .before .before .before .before .before .before .args .s .now) (c .before .before .before .before .before .before .before .args .rows .now) (fieldsLeft (c .before .before .before .before .before .before .before .args .s .now) (c .before .before .before .before .before .before .before .args .c)) _ (c .before .before .before .before .before .before .before .pre .1) (c .before .before .before .before .before .before .before .pre .0) (c .before .before .before .before .before .before .before .pre .2) (c .before .before .before .before .before .before .before .pre .3) (c .before .before .before .before .parse .ensures .0) (c .before .before .name .given .1))
 
 enum-told : tie.Need-enum-told
 enum-told c = search needs
@@ -44,32 +44,32 @@ same-length c = search needs
 
 returns : tie.Need-returns
 unfolding formMeant
-returns c = grown-form _ _ _ _ (c .before .before .before .before .before .before .before .parse .ensures) (c .before .before .before .before .before .at .given .1) ((c .before .before .add-package .ensures) (c .before .before .before .before .before .before .before .before .before .before .args .s .now))
+returns c = grown-form _ _ _ _ (c .before .before .before .before .before .before .before .parse .ensures .0) (c .before .before .before .before .before .at .given .1) ((c .before .before .add-package .ensures) (c .before .before .before .before .before .before .before .before .before .before .args .s .now))
 
 same-length-2 : tie.Need-same-length-2
 same-length-2 c = search needs
 
 returns-2 : tie.Need-returns-2
 unfolding formMeant
-returns-2 c = grown-form _ _ _ _ (c .before .before .before .before .before .before .before .parse .ensures) (c .before .before .before .before .before .kind .given .1) ((c .before .before .add-type .ensures) (c .before .before .before .before .before .before .before .before .before .before .args .s .now))
+returns-2 c = grown-form _ _ _ _ (c .before .before .before .before .before .before .before .parse .ensures .0) (c .before .before .before .before .before .kind .given .1) ((c .before .before .add-type .ensures) (c .before .before .before .before .before .before .before .before .before .before .args .s .now))
 
 same-length-3 : tie.Need-same-length-3
 same-length-3 c = search needs
 
 returns-3 : tie.Need-returns-3
 unfolding formMeant
-returns-3 c = grown-form _ _ _ _ (c .before .before .before .before .before .before .before .parse .ensures) (c .before .before .before .before .before .d .given .1) (c .before .before .add-tuple .ensures)
+returns-3 c = grown-form _ _ _ _ (c .before .before .before .before .before .before .before .parse .ensures .0) (c .before .before .before .before .before .d .given .1) (c .before .before .add-tuple .ensures)
 
 same-length-4 : tie.Need-same-length-4
 same-length-4 c = search needs
 
 returns-4 : tie.Need-returns-4
 unfolding formMeant
-returns-4 c = grown-form _ _ _ _ (c .before .before .before .before .before .before .before .parse .ensures) (c .before .before .before .before .before .name .given .1) ((c .before .before .add-member .ensures) (c .before .before .before .before .before .before .before .before .before .before .args .s .now))
+returns-4 c = grown-form _ _ _ _ (c .before .before .before .before .before .before .before .parse .ensures .0) (c .before .before .before .before .before .name .given .1) ((c .before .before .add-member .ensures) (c .before .before .before .before .before .before .before .before .before .before .args .s .now))
 
 returns-5 : tie.Need-returns-5
 unfolding formMeant
-returns-5 c = grown-form _ _ _ _ (c .before .before .parse .ensures) (c .enum-told .given .1) (refusing _ _ _ none 4 (c .before .before .before .before .before .pre .1) refl)
+returns-5 c = grown-form _ _ _ _ (c .before .before .parse .ensures .0) (c .enum-told .given .1) (refusing _ _ _ none 4 (c .before .before .before .before .before .pre .1) refl)
 
 pub add-line-spec : {M : Type 1} → statement M
 add-line-spec =

@@ -14,25 +14,25 @@ member-room-requires : tie.Need-member-room-requires
 member-room-requires c κs = search needs
 
 put-member-requires : tie.Need-put-member-requires
-put-member-requires c κs = member-ready _ 0 0 0 0 0 _ 0 0 (c .before .before .before .before .before .before .before .before .before .pre) (c .before .before .before .before .before .before .above .ensures) (c .before .before .before .before .before .stands .ensures) (c .before .before .before .before .if1 .taken) (c .before .before .member-room .ensures) (c .before .if2 .taken)
+put-member-requires c κs = member-ready _ 0 0 0 0 0 _ 0 0 (c .before .before .before .before .before .before .before .before .before .pre .0) (c .before .before .before .before .before .before .above .ensures) (c .before .before .before .before .before .stands .ensures) (c .before .before .before .before .if1 .taken) (c .before .before .member-room .ensures) (c .before .before .before .before .before .before .before .before .before .pre .1) (c .before .if2 .taken)
 
 same-length : tie.Need-same-length
 same-length c = search needs
 
 returns : tie.Need-returns
-returns c = member-added _ _ _ _ _ _ _ _ _ (c .before .before .before .before .before .before .before .before .before .before .before .before .pre) (c .before .before .before .before .before .before .before .before .before .above .ensures) (c .before .before .before .before .before .before .before .before .stands .ensures) (c .before .before .before .before .before .before .before .if1 .taken) (c .before .before .before .before .before .member-room .ensures) (c .before .before .before .before .if2 .taken) _ (c .before .before .put-member .ensures .0) (c .before .before .put-member .ensures .1)
+returns c = member-added _ _ _ _ _ _ _ _ _ (c .before .before .before .before .before .before .before .before .before .before .before .before .pre .0) (c .before .before .before .before .before .before .before .before .before .above .ensures) (c .before .before .before .before .before .before .before .before .stands .ensures) (c .before .before .before .before .before .before .before .if1 .taken) (c .before .before .before .before .before .member-room .ensures) (c .before .before .before .before .if2 .taken) _ (c .before .before .put-member .ensures .0) (c .before .before .put-member .ensures .1)
 
 same-length-2 : tie.Need-same-length-2
 same-length-2 c = search needs
 
 returns-2 : tie.Need-returns-2
-returns-2 c = member-crowded _ _ _ _ _ _ _ _ _ (c .before .before .before .before .before .before .before .before .pre) (c .before .before .before .before .before .above .ensures) (c .before .before .before .before .stands .ensures) (c .before .before .before .if1 .taken) (c .before .member-room .ensures) (c .if2 .left)
+returns-2 c = member-crowded _ _ _ _ _ _ _ _ _ (c .before .before .before .before .before .before .before .before .pre .0) (c .before .before .before .before .before .above .ensures) (c .before .before .before .before .stands .ensures) (c .before .before .before .if1 .taken) (c .before .member-room .ensures) (c .if2 .left)
 
 same-length-3 : tie.Need-same-length-3
 same-length-3 c = search needs
 
 returns-3 : tie.Need-returns-3
-returns-3 c = member-misplaced _ _ _ _ _ _ _ _ _ (c .before .before .before .before .before .pre) (c .before .before .above .ensures) (c .before .stands .ensures) (c .if1 .left)
+returns-3 c = member-misplaced _ _ _ _ _ _ _ _ _ (c .before .before .before .before .before .pre .0) (c .before .before .above .ensures) (c .before .stands .ensures) (c .if1 .left)
 
 pub add-member-spec : {M : Type 1} → statement M
 add-member-spec =

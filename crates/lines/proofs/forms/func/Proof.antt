@@ -1,7 +1,7 @@
 -- `lines::forms::func` meets its contract.
-use mathlib.Core.Path.{sym, _∙_}
+use mathlib.Core.Path.{refl, sym, _∙_}
 use Rattle.lines.proofs.Chain.{small-on, small-out, ended-yes, ended-no}
-use Rattle.lines.specs.Forms.{formRead, formMeant}
+use Rattle.lines.specs.Forms.{formRead, formMeant, unread}
 use Rattle.lines.specs.Steps.{funcRest}
 use borrow.Author.Needs.{needs}
 use Rattle.lines.proofs.forms.func.Statement.{statement}
@@ -17,8 +17,8 @@ enum-told : tie.Need-enum-told
 enum-told c = search needs
 
 returns : tie.Need-returns
-unfolding formRead formMeant funcRest
-returns c = sym (small-out _ _ (c .before .before .small .ensures) (c .enum-told .given .1))
+unfolding formRead formMeant funcRest unread
+returns c = (sym (small-out _ _ (c .before .before .small .ensures) (c .enum-told .given .1)), refl)
 
 small-requires-2 : tie.Need-small-requires-2
 small-requires-2 c κs = search needs
@@ -30,8 +30,8 @@ enum-told-2 : tie.Need-enum-told-2
 enum-told-2 c = search needs
 
 returns-2 : tie.Need-returns-2
-unfolding formRead formMeant funcRest
-returns-2 c = sym (small-on _ _ (c .before .before .before .before .before .before .small .ensures) (c .before .before .before .before .v .given .1) ∙ small-out _ _ (c .before .before .small2 .ensures) (c .enum-told2 .given .1))
+unfolding formRead formMeant funcRest unread
+returns-2 c = (sym (small-on _ _ (c .before .before .before .before .before .before .small .ensures) (c .before .before .before .before .v .given .1) ∙ small-out _ _ (c .before .before .small2 .ensures) (c .enum-told2 .given .1)), refl)
 
 small-requires-3 : tie.Need-small-requires-3
 small-requires-3 c κs = search needs
@@ -43,19 +43,19 @@ enum-told-3 : tie.Need-enum-told-3
 enum-told-3 c = search needs
 
 returns-3 : tie.Need-returns-3
-unfolding formRead formMeant funcRest
-returns-3 c = sym (small-on _ _ (c .before .before .before .before .before .before .before .before .before .before .small .ensures) (c .before .before .before .before .before .before .before .before .v .given .1) ∙ small-on _ _ (c .before .before .before .before .before .before .small2 .ensures) (c .before .before .before .before .p .given .1) ∙ small-out _ _ (c .before .before .small3 .ensures) (c .enum-told3 .given .1))
+unfolding formRead formMeant funcRest unread
+returns-3 c = (sym (small-on _ _ (c .before .before .before .before .before .before .before .before .before .before .small .ensures) (c .before .before .before .before .before .before .before .before .v .given .1) ∙ small-on _ _ (c .before .before .before .before .before .before .small2 .ensures) (c .before .before .before .before .p .given .1) ∙ small-out _ _ (c .before .before .small3 .ensures) (c .enum-told3 .given .1)), refl)
 
 done-requires : tie.Need-done-requires
 done-requires c κs = search needs
 
 returns-4 : tie.Need-returns-4
-unfolding formRead formMeant funcRest
-returns-4 c = sym (small-on _ _ (c .before .before .before .before .before .before .before .before .before .before .before .before .before .small .ensures) (c .before .before .before .before .before .before .before .before .before .before .before .v .given .1) ∙ small-on _ _ (c .before .before .before .before .before .before .before .before .before .small2 .ensures) (c .before .before .before .before .before .before .before .p .given .1) ∙ small-on _ _ (c .before .before .before .before .before .small3 .ensures) (c .before .before .before .r .given .1) ∙ ended-yes _ _ _ (c .before .done .ensures) (c .if1 .taken))
+unfolding formRead formMeant funcRest unread
+returns-4 c = (sym (small-on _ _ (c .before .before .before .before .before .before .before .before .before .before .before .before .before .small .ensures) (c .before .before .before .before .before .before .before .before .before .before .before .v .given .1) ∙ small-on _ _ (c .before .before .before .before .before .before .before .before .before .small2 .ensures) (c .before .before .before .before .before .before .before .p .given .1) ∙ small-on _ _ (c .before .before .before .before .before .small3 .ensures) (c .before .before .before .r .given .1) ∙ ended-yes _ _ _ (c .before .done .ensures) (c .if1 .taken)), refl)
 
 returns-5 : tie.Need-returns-5
-unfolding formRead formMeant funcRest
-returns-5 c = sym (small-on _ _ (c .before .before .before .before .before .before .before .before .before .before .before .before .before .small .ensures) (c .before .before .before .before .before .before .before .before .before .before .before .v .given .1) ∙ small-on _ _ (c .before .before .before .before .before .before .before .before .before .small2 .ensures) (c .before .before .before .before .before .before .before .p .given .1) ∙ small-on _ _ (c .before .before .before .before .before .small3 .ensures) (c .before .before .before .r .given .1) ∙ ended-no _ _ _ (c .before .done .ensures) (c .if1 .left))
+unfolding formRead formMeant funcRest unread
+returns-5 c = (sym (small-on _ _ (c .before .before .before .before .before .before .before .before .before .before .before .before .before .small .ensures) (c .before .before .before .before .before .before .before .before .before .before .before .v .given .1) ∙ small-on _ _ (c .before .before .before .before .before .before .before .before .before .small2 .ensures) (c .before .before .before .before .before .before .before .p .given .1) ∙ small-on _ _ (c .before .before .before .before .before .small3 .ensures) (c .before .before .before .r .given .1) ∙ ended-no _ _ _ (c .before .done .ensures) (c .if1 .left)), refl)
 
 pub func-spec : {M : Type 1} → statement M
 func-spec =

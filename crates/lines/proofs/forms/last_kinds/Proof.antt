@@ -1,7 +1,7 @@
 -- `lines::forms::last_kinds` meets its contract.
-use mathlib.Core.Path.{sym, _∙_}
+use mathlib.Core.Path.{refl, sym, _∙_}
 use Rattle.lines.proofs.Chain.{tried-on, tried-out}
-use Rattle.lines.specs.Forms.{formRead, formMeant}
+use Rattle.lines.specs.Forms.{formRead, formMeant, unread}
 use Rattle.lines.specs.Steps.{lastKinds}
 use borrow.Author.Needs.{needs}
 use Rattle.lines.proofs.forms.last_kinds.Statement.{statement}
@@ -21,7 +21,7 @@ none-requires c κs = search needs
 
 returns : tie.Need-returns
 unfolding lastKinds
-returns c = (c .none .ensures) ∙ sym (tried-on _ _ _ _ _ (c .before .before .before .before .word .ensures) (c .before .before .d .given .1))
+returns c = ((c .none .ensures .0) ∙ sym (tried-on _ _ _ _ _ (c .before .before .before .before .word .ensures) (c .before .before .d .given .1)), (c .none .ensures .1))
 
 enum-told : tie.Need-enum-told
 enum-told c = search needs
@@ -40,7 +40,7 @@ none-requires-2 c κs = search needs
 
 returns-2 : tie.Need-returns-2
 unfolding lastKinds
-returns-2 c = (c .none2 .ensures) ∙ sym (tried-out _ _ _ _ _ (c .before .before .before .before .before .before .before .before .word .ensures) (c .before .before .before .before .before .before .enum-told .given .1) ∙ tried-on _ _ _ _ _ (c .before .before .before .before .word2 .ensures) (c .before .before .d2 .given .1))
+returns-2 c = ((c .none2 .ensures .0) ∙ sym (tried-out _ _ _ _ _ (c .before .before .before .before .before .before .before .before .word .ensures) (c .before .before .before .before .before .before .enum-told .given .1) ∙ tried-on _ _ _ _ _ (c .before .before .before .before .word2 .ensures) (c .before .before .d2 .given .1)), (c .none2 .ensures .1))
 
 enum-told-2 : tie.Need-enum-told-2
 enum-told-2 c = search needs
@@ -59,14 +59,14 @@ one-requires c κs = search needs
 
 returns-3 : tie.Need-returns-3
 unfolding lastKinds
-returns-3 c = (c .one .ensures) ∙ sym (tried-out _ _ _ _ _ (c .before .before .before .before .before .before .before .before .before .before .before .before .word .ensures) (c .before .before .before .before .before .before .before .before .before .before .enum-told .given .1) ∙ tried-out _ _ _ _ _ (c .before .before .before .before .before .before .before .before .word2 .ensures) (c .before .before .before .before .before .before .enum-told2 .given .1) ∙ tried-on _ _ _ _ _ (c .before .before .before .before .word3 .ensures) (c .before .before .d3 .given .1))
+returns-3 c = ((c .one .ensures .0) ∙ sym (tried-out _ _ _ _ _ (c .before .before .before .before .before .before .before .before .before .before .before .before .word .ensures) (c .before .before .before .before .before .before .before .before .before .before .enum-told .given .1) ∙ tried-out _ _ _ _ _ (c .before .before .before .before .before .before .before .before .word2 .ensures) (c .before .before .before .before .before .before .enum-told2 .given .1) ∙ tried-on _ _ _ _ _ (c .before .before .before .before .word3 .ensures) (c .before .before .d3 .given .1)), (c .one .ensures .1))
 
 enum-told-3 : tie.Need-enum-told-3
 enum-told-3 c = search needs
 
 returns-4 : tie.Need-returns-4
-unfolding lastKinds formRead formMeant
-returns-4 c = sym (tried-out _ _ _ _ _ (c .before .before .before .before .before .before .before .before .before .before .word .ensures) (c .before .before .before .before .before .before .before .before .enum-told .given .1) ∙ tried-out _ _ _ _ _ (c .before .before .before .before .before .before .word2 .ensures) (c .before .before .before .before .enum-told2 .given .1) ∙ tried-out _ _ _ _ _ (c .before .before .word3 .ensures) (c .enum-told3 .given .1))
+unfolding lastKinds formRead formMeant unread
+returns-4 c = (sym (tried-out _ _ _ _ _ (c .before .before .before .before .before .before .before .before .before .before .word .ensures) (c .before .before .before .before .before .before .before .before .enum-told .given .1) ∙ tried-out _ _ _ _ _ (c .before .before .before .before .before .before .word2 .ensures) (c .before .before .before .before .enum-told2 .given .1) ∙ tried-out _ _ _ _ _ (c .before .before .word3 .ensures) (c .enum-told3 .given .1)), refl)
 
 pub last-kinds-spec : {M : Type 1} → statement M
 last-kinds-spec =

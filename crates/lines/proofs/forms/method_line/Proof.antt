@@ -1,10 +1,11 @@
 -- `lines::forms::method_line` meets its contract.
-use mathlib.Core.Path.{sym, _∙_}
+use mathlib.Core.Path.{refl, sym, _∙_}
+use native.Mathlib.Omega.{arith}
 use Rattle.lines.proofs.Chain.{piece-on, piece-out, typed-on, typed-out, ended-yes, ended-no}
 use Rattle.objects.specs.Rows.{bytesAt}
 use Rattle.lines.proofs.FieldSteps.{bit-fits}
 use native.Mathlib.Omega.{arith}
-use Rattle.lines.specs.Forms.{formRead, formMeant}
+use Rattle.lines.specs.Forms.{formRead, formMeant, unread}
 use Rattle.lines.specs.Steps.{methodRest}
 use borrow.Author.Needs.{needs}
 use Rattle.lines.proofs.forms.method_line.Statement.{statement}
@@ -20,8 +21,8 @@ enum-told : tie.Need-enum-told
 enum-told c = search needs
 
 returns : tie.Need-returns
-unfolding formRead formMeant methodRest
-returns c = sym (piece-out _ _ (c .before .before .method-name .ensures) (c .enum-told .given .1))
+unfolding formRead formMeant methodRest unread
+returns c = (sym (piece-out _ _ (c .before .before .method-name .ensures) (c .enum-told .given .1)), refl)
 
 typed-requires : tie.Need-typed-requires
 typed-requires c κs = search needs
@@ -33,8 +34,8 @@ enum-told-2 : tie.Need-enum-told-2
 enum-told-2 c = search needs
 
 returns-2 : tie.Need-returns-2
-unfolding formRead formMeant methodRest
-returns-2 c = sym (piece-on _ _ (c .before .before .before .before .before .before .method-name .ensures) (c .before .before .before .before .name .given .1) ∙ typed-out _ _ (c .before .before .typed .ensures) (c .enum-told2 .given .1))
+unfolding formRead formMeant methodRest unread
+returns-2 c = (sym (piece-on _ _ (c .before .before .before .before .before .before .method-name .ensures) (c .before .before .before .before .name .given .1) ∙ typed-out _ _ (c .before .before .typed .ensures) (c .enum-told2 .given .1)), refl)
 
 done-requires : tie.Need-done-requires
 done-requires c κs = search needs
@@ -43,12 +44,12 @@ add-t14 : tie.Need-add-t14
 add-t14 c = omega (arith, bit-fits _ _ _ (c .before .before .before .before .before .typed .ensures) (c .before .before .before .pkg .given .1))
 
 returns-3 : tie.Need-returns-3
-unfolding formRead formMeant methodRest bytesAt
-returns-3 c = sym (piece-on _ _ (c .before .before .before .before .before .before .before .before .before .method-name .ensures) (c .before .before .before .before .before .before .before .name .given .1) ∙ typed-on _ _ (c .before .before .before .before .before .typed .ensures) (c .before .before .before .pkg .given .1) ∙ ended-yes _ _ _ (c .before .done .ensures) (c .if1 .taken))
+unfolding formRead formMeant methodRest bytesAt unread
+returns-3 c = (sym (piece-on _ _ (c .before .before .before .before .before .before .before .before .before .method-name .ensures) (c .before .before .before .before .before .before .before .name .given .1) ∙ typed-on _ _ (c .before .before .before .before .before .typed .ensures) (c .before .before .before .pkg .given .1) ∙ ended-yes _ _ _ (c .before .done .ensures) (c .if1 .taken)), refl)
 
 returns-4 : tie.Need-returns-4
-unfolding formRead formMeant methodRest
-returns-4 c = sym (piece-on _ _ (c .before .before .before .before .before .before .before .before .before .method-name .ensures) (c .before .before .before .before .before .before .before .name .given .1) ∙ typed-on _ _ (c .before .before .before .before .before .typed .ensures) (c .before .before .before .pkg .given .1) ∙ ended-no _ _ _ (c .before .done .ensures) (c .if1 .left))
+unfolding formRead formMeant methodRest unread
+returns-4 c = (sym (piece-on _ _ (c .before .before .before .before .before .before .before .before .before .method-name .ensures) (c .before .before .before .before .before .before .before .name .given .1) ∙ typed-on _ _ (c .before .before .before .before .before .typed .ensures) (c .before .before .before .pkg .given .1) ∙ ended-no _ _ _ (c .before .done .ensures) (c .if1 .left)), refl)
 
 pub method-line-spec : {M : Type 1} → statement M
 method-line-spec =

@@ -1,7 +1,8 @@
 -- `lines::forms::next_kinds` meets its contract.
 use mathlib.Core.Path.{sym, _∙_}
-use Rattle.lines.proofs.Chain.{tried-on, tried-out}
-use Rattle.lines.specs.Forms.{formRead, formMeant}
+use native.Mathlib.Omega.{arith}
+use Rattle.lines.proofs.Chain.{word-less, tried-on, tried-out}
+use Rattle.lines.specs.Forms.{formRead, formMeant, unread}
 use Rattle.lines.specs.Steps.{nextKinds, tupleRest}
 use borrow.Author.Needs.{needs}
 use Rattle.lines.proofs.forms.next_kinds.Statement.{statement}
@@ -21,7 +22,7 @@ two-requires c κs = search needs
 
 returns : tie.Need-returns
 unfolding nextKinds
-returns c = (c .two .ensures) ∙ sym (tried-on _ _ _ _ _ (c .before .before .before .before .word .ensures) (c .before .before .d .given .1))
+returns c = ((c .two .ensures .0) ∙ sym (tried-on _ _ _ _ _ (c .before .before .before .before .word .ensures) (c .before .before .d .given .1)), omega (arith, (c .two .ensures .1)))
 
 enum-told : tie.Need-enum-told
 enum-told c = search needs
@@ -40,7 +41,7 @@ two-requires-2 c κs = search needs
 
 returns-2 : tie.Need-returns-2
 unfolding nextKinds
-returns-2 c = (c .two2 .ensures) ∙ sym (tried-out _ _ _ _ _ (c .before .before .before .before .before .before .before .before .word .ensures) (c .before .before .before .before .before .before .enum-told .given .1) ∙ tried-on _ _ _ _ _ (c .before .before .before .before .word2 .ensures) (c .before .before .d2 .given .1))
+returns-2 c = ((c .two2 .ensures .0) ∙ sym (tried-out _ _ _ _ _ (c .before .before .before .before .before .before .before .before .word .ensures) (c .before .before .before .before .before .before .enum-told .given .1) ∙ tried-on _ _ _ _ _ (c .before .before .before .before .word2 .ensures) (c .before .before .d2 .given .1)), omega (arith, (c .two2 .ensures .1)))
 
 enum-told-2 : tie.Need-enum-told-2
 enum-told-2 c = search needs
@@ -55,8 +56,8 @@ enum-known-d-3 : tie.Need-enum-known-d-3
 enum-known-d-3 c = search needs
 
 returns-3 : tie.Need-returns-3
-unfolding nextKinds tupleRest formRead formMeant
-returns-3 c = sym (tried-out _ _ _ _ _ (c .before .before .before .before .before .before .before .before .before .before .before .word .ensures) (c .before .before .before .before .before .before .before .before .before .enum-told .given .1) ∙ tried-out _ _ _ _ _ (c .before .before .before .before .before .before .before .word2 .ensures) (c .before .before .before .before .before .enum-told2 .given .1) ∙ tried-on _ _ _ _ _ (c .before .before .before .word3 .ensures) (c .before .d3 .given .1))
+unfolding nextKinds tupleRest formRead formMeant unread
+returns-3 c = (sym (tried-out _ _ _ _ _ (c .before .before .before .before .before .before .before .before .before .before .before .word .ensures) (c .before .before .before .before .before .before .before .before .before .enum-told .given .1) ∙ tried-out _ _ _ _ _ (c .before .before .before .before .before .before .before .word2 .ensures) (c .before .before .before .before .before .enum-told2 .given .1) ∙ tried-on _ _ _ _ _ (c .before .before .before .word3 .ensures) (c .before .d3 .given .1)), word-less _ _ _ (c .before .before .before .word3 .ensures) (c .before .d3 .given .1))
 
 enum-told-3 : tie.Need-enum-told-3
 enum-told-3 c = search needs
@@ -75,7 +76,7 @@ func-requires c κs = search needs
 
 returns-4 : tie.Need-returns-4
 unfolding nextKinds
-returns-4 c = (c .func .ensures) ∙ sym (tried-out _ _ _ _ _ (c .before .before .before .before .before .before .before .before .before .before .before .before .before .before .before .before .word .ensures) (c .before .before .before .before .before .before .before .before .before .before .before .before .before .before .enum-told .given .1) ∙ tried-out _ _ _ _ _ (c .before .before .before .before .before .before .before .before .before .before .before .before .word2 .ensures) (c .before .before .before .before .before .before .before .before .before .before .enum-told2 .given .1) ∙ tried-out _ _ _ _ _ (c .before .before .before .before .before .before .before .before .word3 .ensures) (c .before .before .before .before .before .before .enum-told3 .given .1) ∙ tried-on _ _ _ _ _ (c .before .before .before .before .word4 .ensures) (c .before .before .d4 .given .1))
+returns-4 c = ((c .func .ensures .0) ∙ sym (tried-out _ _ _ _ _ (c .before .before .before .before .before .before .before .before .before .before .before .before .before .before .before .before .word .ensures) (c .before .before .before .before .before .before .before .before .before .before .before .before .before .before .enum-told .given .1) ∙ tried-out _ _ _ _ _ (c .before .before .before .before .before .before .before .before .before .before .before .before .word2 .ensures) (c .before .before .before .before .before .before .before .before .before .before .enum-told2 .given .1) ∙ tried-out _ _ _ _ _ (c .before .before .before .before .before .before .before .before .word3 .ensures) (c .before .before .before .before .before .before .enum-told3 .given .1) ∙ tried-on _ _ _ _ _ (c .before .before .before .before .word4 .ensures) (c .before .before .d4 .given .1)), omega (arith, (c .func .ensures .1)))
 
 enum-told-4 : tie.Need-enum-told-4
 enum-told-4 c = search needs
@@ -85,7 +86,7 @@ last-kinds-requires c κs = search needs
 
 returns-5 : tie.Need-returns-5
 unfolding nextKinds
-returns-5 c = (c .last-kinds .ensures) ∙ sym (tried-out _ _ _ _ _ (c .before .before .before .before .before .before .before .before .before .before .before .before .before .before .before .word .ensures) (c .before .before .before .before .before .before .before .before .before .before .before .before .before .enum-told .given .1) ∙ tried-out _ _ _ _ _ (c .before .before .before .before .before .before .before .before .before .before .before .word2 .ensures) (c .before .before .before .before .before .before .before .before .before .enum-told2 .given .1) ∙ tried-out _ _ _ _ _ (c .before .before .before .before .before .before .before .word3 .ensures) (c .before .before .before .before .before .enum-told3 .given .1) ∙ tried-out _ _ _ _ _ (c .before .before .before .word4 .ensures) (c .before .enum-told4 .given .1))
+returns-5 c = ((c .last-kinds .ensures .0) ∙ sym (tried-out _ _ _ _ _ (c .before .before .before .before .before .before .before .before .before .before .before .before .before .before .before .word .ensures) (c .before .before .before .before .before .before .before .before .before .before .before .before .before .enum-told .given .1) ∙ tried-out _ _ _ _ _ (c .before .before .before .before .before .before .before .before .before .before .before .word2 .ensures) (c .before .before .before .before .before .before .before .before .before .enum-told2 .given .1) ∙ tried-out _ _ _ _ _ (c .before .before .before .before .before .before .before .word3 .ensures) (c .before .before .before .before .before .enum-told3 .given .1) ∙ tried-out _ _ _ _ _ (c .before .before .before .word4 .ensures) (c .before .enum-told4 .given .1)), omega (arith, (c .last-kinds .ensures .1)))
 
 pub next-kinds-spec : {M : Type 1} → statement M
 next-kinds-spec =

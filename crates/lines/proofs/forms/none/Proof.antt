@@ -1,7 +1,7 @@
 -- `lines::forms::none` meets its contract.
-use mathlib.Core.Path.{sym, _∙_}
+use mathlib.Core.Path.{refl, sym, _∙_}
 use Rattle.lines.proofs.Chain.{ended-yes, ended-no}
-use Rattle.lines.specs.Forms.{formRead, formMeant}
+use Rattle.lines.specs.Forms.{formRead, formMeant, unread}
 use Rattle.lines.specs.Steps.{noneRest}
 use borrow.Author.Needs.{needs}
 use Rattle.lines.proofs.forms.none.Statement.{statement}
@@ -11,12 +11,12 @@ done-requires : tie.Need-done-requires
 done-requires c κs = search needs
 
 returns : tie.Need-returns
-unfolding formRead formMeant noneRest
-returns c = sym (ended-yes _ _ _ (c .before .done .ensures) (c .if1 .taken))
+unfolding formRead formMeant noneRest unread
+returns c = (sym (ended-yes _ _ _ (c .before .done .ensures) (c .if1 .taken)), refl)
 
 returns-2 : tie.Need-returns-2
-unfolding formRead formMeant noneRest
-returns-2 c = sym (ended-no _ _ _ (c .before .done .ensures) (c .if1 .left))
+unfolding formRead formMeant noneRest unread
+returns-2 c = (sym (ended-no _ _ _ (c .before .done .ensures) (c .if1 .left)), refl)
 
 pub none-spec : {M : Type 1} → statement M
 none-spec =

@@ -1,7 +1,7 @@
 -- `lines::forms::one` meets its contract.
-use mathlib.Core.Path.{sym, _∙_}
+use mathlib.Core.Path.{refl, sym, _∙_}
 use Rattle.lines.proofs.Chain.{small-on, small-out, ended-yes, ended-no}
-use Rattle.lines.specs.Forms.{formRead, formMeant}
+use Rattle.lines.specs.Forms.{formRead, formMeant, unread}
 use Rattle.lines.specs.Steps.{oneRest}
 use borrow.Author.Needs.{needs}
 use Rattle.lines.proofs.forms.one.Statement.{statement}
@@ -17,19 +17,19 @@ enum-told : tie.Need-enum-told
 enum-told c = search needs
 
 returns : tie.Need-returns
-unfolding formRead formMeant oneRest
-returns c = sym (small-out _ _ (c .before .before .small .ensures) (c .enum-told .given .1))
+unfolding formRead formMeant oneRest unread
+returns c = (sym (small-out _ _ (c .before .before .small .ensures) (c .enum-told .given .1)), refl)
 
 done-requires : tie.Need-done-requires
 done-requires c κs = search needs
 
 returns-2 : tie.Need-returns-2
-unfolding formRead formMeant oneRest
-returns-2 c = sym (small-on _ _ (c .before .before .before .before .before .small .ensures) (c .before .before .before .a .given .1) ∙ ended-yes _ _ _ (c .before .done .ensures) (c .if1 .taken))
+unfolding formRead formMeant oneRest unread
+returns-2 c = (sym (small-on _ _ (c .before .before .before .before .before .small .ensures) (c .before .before .before .a .given .1) ∙ ended-yes _ _ _ (c .before .done .ensures) (c .if1 .taken)), refl)
 
 returns-3 : tie.Need-returns-3
-unfolding formRead formMeant oneRest
-returns-3 c = sym (small-on _ _ (c .before .before .before .before .before .small .ensures) (c .before .before .before .a .given .1) ∙ ended-no _ _ _ (c .before .done .ensures) (c .if1 .left))
+unfolding formRead formMeant oneRest unread
+returns-3 c = (sym (small-on _ _ (c .before .before .before .before .before .small .ensures) (c .before .before .before .a .given .1) ∙ ended-no _ _ _ (c .before .done .ensures) (c .if1 .left)), refl)
 
 pub one-spec : {M : Type 1} → statement M
 one-spec =

@@ -1,6 +1,9 @@
 -- `lines::forms::parse` meets its contract.
 use mathlib.Core.Path.{sym, _∙_}
-use Rattle.lines.proofs.Chain.{tried-on, tried-out}
+use Prim.Native.Nat.{zero-le}
+use native.Mathlib.Omega.{arith}
+use Rattle.lines.specs.Forms.{unread}
+use Rattle.lines.proofs.Chain.{word-less, tried-on, tried-out}
 use Rattle.lines.proofs.StepLaws.{parsed, no-form}
 use Rattle.lines.specs.Steps.{lineRest}
 use borrow.Author.Needs.{needs}
@@ -21,7 +24,7 @@ package-line-requires c κs = search needs
 
 returns : tie.Need-returns
 unfolding lineRest
-returns c = parsed _ _ _ ((c .package-line .ensures) ∙ sym (tried-on _ _ _ _ _ (c .before .before .before .before .word .ensures) (c .before .before .d .given .1)))
+returns c = (parsed _ _ _ ((c .package-line .ensures .0) ∙ sym (tried-on _ _ _ _ _ (c .before .before .before .before .word .ensures) (c .before .before .d .given .1))), omega (arith, (c .package-line .ensures .1)))
 
 enum-told : tie.Need-enum-told
 enum-told c = search needs
@@ -40,7 +43,7 @@ type-line-requires c κs = search needs
 
 returns-2 : tie.Need-returns-2
 unfolding lineRest
-returns-2 c = parsed _ _ _ ((c .type-line .ensures) ∙ sym (tried-out _ _ _ _ _ (c .before .before .before .before .before .before .before .before .word .ensures) (c .before .before .before .before .before .before .enum-told .given .1) ∙ tried-on _ _ _ _ _ (c .before .before .before .before .word2 .ensures) (c .before .before .d2 .given .1)))
+returns-2 c = (parsed _ _ _ ((c .type-line .ensures .0) ∙ sym (tried-out _ _ _ _ _ (c .before .before .before .before .before .before .before .before .word .ensures) (c .before .before .before .before .before .before .enum-told .given .1) ∙ tried-on _ _ _ _ _ (c .before .before .before .before .word2 .ensures) (c .before .before .d2 .given .1))), omega (arith, word-less _ _ _ (c .before .before .before .before .word2 .ensures) (c .before .before .d2 .given .1), (c .type-line .ensures .1)))
 
 enum-told-2 : tie.Need-enum-told-2
 enum-told-2 c = search needs
@@ -59,7 +62,7 @@ field-line-requires c κs = search needs
 
 returns-3 : tie.Need-returns-3
 unfolding lineRest
-returns-3 c = parsed _ _ _ ((c .field-line .ensures) ∙ sym (tried-out _ _ _ _ _ (c .before .before .before .before .before .before .before .before .before .before .before .before .word .ensures) (c .before .before .before .before .before .before .before .before .before .before .enum-told .given .1) ∙ tried-out _ _ _ _ _ (c .before .before .before .before .before .before .before .before .word2 .ensures) (c .before .before .before .before .before .before .enum-told2 .given .1) ∙ tried-on _ _ _ _ _ (c .before .before .before .before .word3 .ensures) (c .before .before .d3 .given .1)))
+returns-3 c = (parsed _ _ _ ((c .field-line .ensures .0) ∙ sym (tried-out _ _ _ _ _ (c .before .before .before .before .before .before .before .before .before .before .before .before .word .ensures) (c .before .before .before .before .before .before .before .before .before .before .enum-told .given .1) ∙ tried-out _ _ _ _ _ (c .before .before .before .before .before .before .before .before .word2 .ensures) (c .before .before .before .before .before .before .enum-told2 .given .1) ∙ tried-on _ _ _ _ _ (c .before .before .before .before .word3 .ensures) (c .before .before .d3 .given .1))), omega (arith, (c .field-line .ensures .1)))
 
 enum-told-3 : tie.Need-enum-told-3
 enum-told-3 c = search needs
@@ -78,14 +81,14 @@ method-line-requires c κs = search needs
 
 returns-4 : tie.Need-returns-4
 unfolding lineRest
-returns-4 c = parsed _ _ _ ((c .method-line .ensures) ∙ sym (tried-out _ _ _ _ _ (c .before .before .before .before .before .before .before .before .before .before .before .before .before .before .before .before .word .ensures) (c .before .before .before .before .before .before .before .before .before .before .before .before .before .before .enum-told .given .1) ∙ tried-out _ _ _ _ _ (c .before .before .before .before .before .before .before .before .before .before .before .before .word2 .ensures) (c .before .before .before .before .before .before .before .before .before .before .enum-told2 .given .1) ∙ tried-out _ _ _ _ _ (c .before .before .before .before .before .before .before .before .word3 .ensures) (c .before .before .before .before .before .before .enum-told3 .given .1) ∙ tried-on _ _ _ _ _ (c .before .before .before .before .word4 .ensures) (c .before .before .d4 .given .1)))
+returns-4 c = (parsed _ _ _ ((c .method-line .ensures .0) ∙ sym (tried-out _ _ _ _ _ (c .before .before .before .before .before .before .before .before .before .before .before .before .before .before .before .before .word .ensures) (c .before .before .before .before .before .before .before .before .before .before .before .before .before .before .enum-told .given .1) ∙ tried-out _ _ _ _ _ (c .before .before .before .before .before .before .before .before .before .before .before .before .word2 .ensures) (c .before .before .before .before .before .before .before .before .before .before .enum-told2 .given .1) ∙ tried-out _ _ _ _ _ (c .before .before .before .before .before .before .before .before .word3 .ensures) (c .before .before .before .before .before .before .enum-told3 .given .1) ∙ tried-on _ _ _ _ _ (c .before .before .before .before .word4 .ensures) (c .before .before .d4 .given .1))), omega (arith, (c .method-line .ensures .1)))
 
 enum-told-4 : tie.Need-enum-told-4
 enum-told-4 c = search needs
 
 returns-5 : tie.Need-returns-5
-unfolding lineRest
-returns-5 c = no-form _ _ (tried-out _ _ _ _ _ (c .before .before .before .before .before .before .before .before .before .before .before .before .before .before .word .ensures) (c .before .before .before .before .before .before .before .before .before .before .before .before .enum-told .given .1) ∙ tried-out _ _ _ _ _ (c .before .before .before .before .before .before .before .before .before .before .word2 .ensures) (c .before .before .before .before .before .before .before .before .enum-told2 .given .1) ∙ tried-out _ _ _ _ _ (c .before .before .before .before .before .before .word3 .ensures) (c .before .before .before .before .enum-told3 .given .1) ∙ tried-out _ _ _ _ _ (c .before .before .word4 .ensures) (c .enum-told4 .given .1))
+unfolding lineRest unread
+returns-5 c = (no-form _ _ (tried-out _ _ _ _ _ (c .before .before .before .before .before .before .before .before .before .before .before .before .before .before .word .ensures) (c .before .before .before .before .before .before .before .before .before .before .before .before .enum-told .given .1) ∙ tried-out _ _ _ _ _ (c .before .before .before .before .before .before .before .before .before .before .word2 .ensures) (c .before .before .before .before .before .before .before .before .enum-told2 .given .1) ∙ tried-out _ _ _ _ _ (c .before .before .before .before .before .before .word3 .ensures) (c .before .before .before .before .enum-told3 .given .1) ∙ tried-out _ _ _ _ _ (c .before .before .word4 .ensures) (c .enum-told4 .given .1)), zero-le)
 
 pub parse-spec : {M : Type 1} → statement M
 parse-spec =

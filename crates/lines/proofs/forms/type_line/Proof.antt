@@ -1,5 +1,6 @@
 -- `lines::forms::type_line` meets its contract.
 use mathlib.Core.Path.{sym, _∙_}
+use native.Mathlib.Omega.{arith}
 use Rattle.lines.proofs.Chain.{tried-on, tried-out}
 use Rattle.lines.specs.Steps.{typeRest}
 use borrow.Author.Needs.{needs}
@@ -20,7 +21,7 @@ one-requires c κs = search needs
 
 returns : tie.Need-returns
 unfolding typeRest
-returns c = (c .one .ensures) ∙ sym (tried-on _ _ _ _ _ (c .before .before .before .before .word .ensures) (c .before .before .d .given .1))
+returns c = ((c .one .ensures .0) ∙ sym (tried-on _ _ _ _ _ (c .before .before .before .before .word .ensures) (c .before .before .d .given .1)), omega (arith, (c .one .ensures .1)))
 
 enum-told : tie.Need-enum-told
 enum-told c = search needs
@@ -39,7 +40,7 @@ two-requires c κs = search needs
 
 returns-2 : tie.Need-returns-2
 unfolding typeRest
-returns-2 c = (c .two .ensures) ∙ sym (tried-out _ _ _ _ _ (c .before .before .before .before .before .before .before .before .word .ensures) (c .before .before .before .before .before .before .enum-told .given .1) ∙ tried-on _ _ _ _ _ (c .before .before .before .before .word2 .ensures) (c .before .before .d2 .given .1))
+returns-2 c = ((c .two .ensures .0) ∙ sym (tried-out _ _ _ _ _ (c .before .before .before .before .before .before .before .before .word .ensures) (c .before .before .before .before .before .before .enum-told .given .1) ∙ tried-on _ _ _ _ _ (c .before .before .before .before .word2 .ensures) (c .before .before .d2 .given .1)), omega (arith, (c .two .ensures .1)))
 
 enum-told-2 : tie.Need-enum-told-2
 enum-told-2 c = search needs
@@ -58,7 +59,7 @@ one-requires-2 c κs = search needs
 
 returns-3 : tie.Need-returns-3
 unfolding typeRest
-returns-3 c = (c .one2 .ensures) ∙ sym (tried-out _ _ _ _ _ (c .before .before .before .before .before .before .before .before .before .before .before .before .word .ensures) (c .before .before .before .before .before .before .before .before .before .before .enum-told .given .1) ∙ tried-out _ _ _ _ _ (c .before .before .before .before .before .before .before .before .word2 .ensures) (c .before .before .before .before .before .before .enum-told2 .given .1) ∙ tried-on _ _ _ _ _ (c .before .before .before .before .word3 .ensures) (c .before .before .d3 .given .1))
+returns-3 c = ((c .one2 .ensures .0) ∙ sym (tried-out _ _ _ _ _ (c .before .before .before .before .before .before .before .before .before .before .before .before .word .ensures) (c .before .before .before .before .before .before .before .before .before .before .enum-told .given .1) ∙ tried-out _ _ _ _ _ (c .before .before .before .before .before .before .before .before .word2 .ensures) (c .before .before .before .before .before .before .enum-told2 .given .1) ∙ tried-on _ _ _ _ _ (c .before .before .before .before .word3 .ensures) (c .before .before .d3 .given .1)), omega (arith, (c .one2 .ensures .1)))
 
 enum-told-3 : tie.Need-enum-told-3
 enum-told-3 c = search needs
@@ -77,7 +78,7 @@ one-requires-3 c κs = search needs
 
 returns-4 : tie.Need-returns-4
 unfolding typeRest
-returns-4 c = (c .one3 .ensures) ∙ sym (tried-out _ _ _ _ _ (c .before .before .before .before .before .before .before .before .before .before .before .before .before .before .before .before .word .ensures) (c .before .before .before .before .before .before .before .before .before .before .before .before .before .before .enum-told .given .1) ∙ tried-out _ _ _ _ _ (c .before .before .before .before .before .before .before .before .before .before .before .before .word2 .ensures) (c .before .before .before .before .before .before .before .before .before .before .enum-told2 .given .1) ∙ tried-out _ _ _ _ _ (c .before .before .before .before .before .before .before .before .word3 .ensures) (c .before .before .before .before .before .before .enum-told3 .given .1) ∙ tried-on _ _ _ _ _ (c .before .before .before .before .word4 .ensures) (c .before .before .d4 .given .1))
+returns-4 c = ((c .one3 .ensures .0) ∙ sym (tried-out _ _ _ _ _ (c .before .before .before .before .before .before .before .before .before .before .before .before .before .before .before .before .word .ensures) (c .before .before .before .before .before .before .before .before .before .before .before .before .before .before .enum-told .given .1) ∙ tried-out _ _ _ _ _ (c .before .before .before .before .before .before .before .before .before .before .before .before .word2 .ensures) (c .before .before .before .before .before .before .before .before .before .before .enum-told2 .given .1) ∙ tried-out _ _ _ _ _ (c .before .before .before .before .before .before .before .before .word3 .ensures) (c .before .before .before .before .before .before .enum-told3 .given .1) ∙ tried-on _ _ _ _ _ (c .before .before .before .before .word4 .ensures) (c .before .before .d4 .given .1)), omega (arith, (c .one3 .ensures .1)))
 
 enum-told-4 : tie.Need-enum-told-4
 enum-told-4 c = search needs
@@ -87,7 +88,7 @@ next-kinds-requires c κs = search needs
 
 returns-5 : tie.Need-returns-5
 unfolding typeRest
-returns-5 c = (c .next-kinds .ensures) ∙ sym (tried-out _ _ _ _ _ (c .before .before .before .before .before .before .before .before .before .before .before .before .before .before .before .word .ensures) (c .before .before .before .before .before .before .before .before .before .before .before .before .before .enum-told .given .1) ∙ tried-out _ _ _ _ _ (c .before .before .before .before .before .before .before .before .before .before .before .word2 .ensures) (c .before .before .before .before .before .before .before .before .before .enum-told2 .given .1) ∙ tried-out _ _ _ _ _ (c .before .before .before .before .before .before .before .word3 .ensures) (c .before .before .before .before .before .enum-told3 .given .1) ∙ tried-out _ _ _ _ _ (c .before .before .before .word4 .ensures) (c .before .enum-told4 .given .1))
+returns-5 c = ((c .next-kinds .ensures .0) ∙ sym (tried-out _ _ _ _ _ (c .before .before .before .before .before .before .before .before .before .before .before .before .before .before .before .word .ensures) (c .before .before .before .before .before .before .before .before .before .before .before .before .before .enum-told .given .1) ∙ tried-out _ _ _ _ _ (c .before .before .before .before .before .before .before .before .before .before .before .word2 .ensures) (c .before .before .before .before .before .before .before .before .before .enum-told2 .given .1) ∙ tried-out _ _ _ _ _ (c .before .before .before .before .before .before .before .word3 .ensures) (c .before .before .before .before .before .enum-told3 .given .1) ∙ tried-out _ _ _ _ _ (c .before .before .before .word4 .ensures) (c .before .enum-told4 .given .1)), (c .next-kinds .ensures .1))
 
 pub type-line-spec : {M : Type 1} → statement M
 type-line-spec =

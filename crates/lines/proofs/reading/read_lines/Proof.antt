@@ -1,12 +1,14 @@
 -- `lines::reading::read_lines` meets its contract.
-use mathlib.Core.Path.{_≡_, refl, _∙_}
-use Prim.Native.Nat.{_*_, _-_, _≤_}
+use mathlib.Core.Path.{_≡_, refl, subst, _∙_}
+use Prim.Native.Nat.{_-_, _≤_}
 use native.Mathlib.Omega.{arith}
 use lib.ListN.{length, drop}
-use Rattle.objects.specs.Rows.{elementCount, tableOf}
+use Rattle.objects.specs.Rows.{tableOf}
 use Rattle.objects.specs.Laid.{Laid}
 use Rattle.text.specs.Lines.{pieces}
 use Rattle.rules.specs.Load.{linesFrom}
+use Rattle.lines.specs.declared.Verdict.{Verdict}
+use Rattle.lines.specs.Adding.{bytesTaken, Grown}
 use Rattle.lines.specs.Reading.{readMeant}
 use Rattle.lines.proofs.ReadLaws.{end-within, end-behind, text-ends, line-cut, line-room, line-brings, line-refused, line-read}
 use borrow.Author.Needs.{needs}
@@ -15,7 +17,7 @@ use Rattle.lines.proofs.reading.read_lines.Tie as tie
 
 abbrev Inv-loop : tie.InvT-loop
 Inv-loop text rows₀ from at₀ line₀ rows at line = (linesFrom 2 (tableOf text rows₀) (pieces (drop from text)) ≡ linesFrom line (tableOf text rows) (pieces (drop at text)))
-    × Laid rows × (2 * elementCount rows ≤ at) × (at ≤ length text) × (line ≤ at) × (length rows ≡ length rows₀)
+    × Laid rows × (bytesTaken rows ≤ at) × (at ≤ length text) × (line ≤ at) × (length rows ≡ length rows₀)
 
 abbrev μ-loop : tie.MeasureT-loop
 μ-loop text rows₀ from at₀ line₀ rows at line = length text - at
@@ -44,7 +46,7 @@ line-requires : tie.Need-line-requires Inv-loop μ-loop
 line-requires c κs = search needs
 
 add-line-requires : tie.Need-add-line-requires Inv-loop μ-loop
-add-line-requires c κs = ((c .before .before .before .before .before .before .before .pre .0), (c .before .before .before .before .loop .inv .1), line-room (c .before .before .before .before .before .before .before .args .text .now) (c .before .before .before .before .loop .at) (c .before .before .before .before .loop .line) (tableOf (c .before .before .before .before .before .before .before .args .text .now) (c .before .before .before .before .loop .rows)) (c .before .before .before .before .loop .inv .3) (c .before .before .before .line-end .ensures) (c .before .before .if1 .left) (c .line .ensures) (c .before .before .before .before .loop .rows) (c .before .before .before .before .loop .inv .2) (c .before .before .before .before .before .before .before .pre .0))
+add-line-requires c κs = ((c .before .before .before .before .before .before .before .pre .0), (c .before .before .before .before .loop .inv .1), line-room (c .before .before .before .before .before .before .before .args .text .now) (c .before .before .before .before .loop .at) (c .before .before .before .before .loop .line) (tableOf (c .before .before .before .before .before .before .before .args .text .now) (c .before .before .before .before .loop .rows)) (c .before .before .before .before .loop .inv .3) (c .before .before .before .line-end .ensures) (c .before .before .if1 .left) (c .line .ensures) (c .before .before .before .before .loop .rows) (c .before .before .before .before .loop .inv .2), omega (arith, (c .before .before .before .before .loop .inv .5), (c .before .before .before .before .before .before .before .pre .5)))
 
 enum-known-n : tie.Need-enum-known-n Inv-loop μ-loop
 enum-known-n c = search needs
@@ -69,7 +71,7 @@ loop-less : tie.Need-loop-less Inv-loop μ-loop
 loop-less c = omega (arith, end-within (c .before .before .before .before .before .before .before .before .before .before .before .before .args .text .now) (c .before .before .before .before .before .before .before .before .before .loop .at) (c .before .before .before .before .before .before .before .before .before .loop .line) (tableOf (c .before .before .before .before .before .before .before .before .before .before .before .before .args .text .now) (c .before .before .before .before .before .before .before .before .before .loop .rows)) (c .before .before .before .before .before .before .before .before .before .loop .inv .3) (c .before .before .before .before .before .before .before .before .line-end .ensures), end-behind (c .before .before .before .before .before .before .before .before .before .before .before .before .args .text .now) (c .before .before .before .before .before .before .before .before .before .loop .at) (c .before .before .before .before .before .before .before .before .before .loop .line) (tableOf (c .before .before .before .before .before .before .before .before .before .before .before .before .args .text .now) (c .before .before .before .before .before .before .before .before .before .loop .rows)) (c .before .before .before .before .before .before .before .before .before .loop .inv .3) (c .before .before .before .before .before .before .before .before .line-end .ensures), (c .before .before .before .before .before .before .before .if1 .left))
 
 loop-again : tie.Need-loop-again Inv-loop μ-loop
-loop-again c = ((c .before .before .before .before .before .before .before .before .before .loop .inv .0) ∙ line-read (c .before .before .before .before .before .before .before .before .before .before .before .before .args .text .now) (c .before .before .before .before .before .before .before .before .before .loop .at) (c .before .before .before .before .before .before .before .before .before .loop .line) (tableOf (c .before .before .before .before .before .before .before .before .before .before .before .before .args .text .now) (c .before .before .before .before .before .before .before .before .before .loop .rows)) (c .before .before .before .before .before .before .before .before .before .loop .inv .3) (c .before .before .before .before .before .before .before .before .line-end .ensures) (c .before .before .before .before .before .before .before .if1 .left) (c .before .before .before .before .before .line .ensures) (c .before .before .before .before .before .before .before .before .before .loop .rows) _ _ refl (c .before .before .before .before .add-line .ensures .meant) (c .enum-told .given .1), (c .before .before .before .before .add-line .ensures .laid), line-brings (c .before .before .before .before .before .before .before .before .before .before .before .before .args .text .now) (c .before .before .before .before .before .before .before .before .before .loop .at) (c .before .before .before .before .before .before .before .before .before .loop .line) (tableOf (c .before .before .before .before .before .before .before .before .before .before .before .before .args .text .now) (c .before .before .before .before .before .before .before .before .before .loop .rows)) (c .before .before .before .before .before .before .before .before .before .loop .inv .3) (c .before .before .before .before .before .before .before .before .line-end .ensures) (c .before .before .before .before .before .before .before .if1 .left) (c .before .before .before .before .before .line .ensures) (c .before .before .before .before .before .before .before .before .before .loop .rows) _ (c .before .before .before .before .before .before .before .before .before .loop .inv .2) (c .before .before .before .before .add-line .ensures .few), omega (arith, end-within (c .before .before .before .before .before .before .before .before .before .before .before .before .args .text .now) (c .before .before .before .before .before .before .before .before .before .loop .at) (c .before .before .before .before .before .before .before .before .before .loop .line) (tableOf (c .before .before .before .before .before .before .before .before .before .before .before .before .args .text .now) (c .before .before .before .before .before .before .before .before .before .loop .rows)) (c .before .before .before .before .before .before .before .before .before .loop .inv .3) (c .before .before .before .before .before .before .before .before .line-end .ensures), (c .before .before .before .before .before .before .before .if1 .left)), omega (arith, end-behind (c .before .before .before .before .before .before .before .before .before .before .before .before .args .text .now) (c .before .before .before .before .before .before .before .before .before .loop .at) (c .before .before .before .before .before .before .before .before .before .loop .line) (tableOf (c .before .before .before .before .before .before .before .before .before .before .before .before .args .text .now) (c .before .before .before .before .before .before .before .before .before .loop .rows)) (c .before .before .before .before .before .before .before .before .before .loop .inv .3) (c .before .before .before .before .before .before .before .before .line-end .ensures), (c .before .before .before .before .before .before .before .before .before .loop .inv .4)), search needs)
+loop-again c = ((c .before .before .before .before .before .before .before .before .before .loop .inv .0) ∙ line-read (c .before .before .before .before .before .before .before .before .before .before .before .before .args .text .now) (c .before .before .before .before .before .before .before .before .before .loop .at) (c .before .before .before .before .before .before .before .before .before .loop .line) (tableOf (c .before .before .before .before .before .before .before .before .before .before .before .before .args .text .now) (c .before .before .before .before .before .before .before .before .before .loop .rows)) (c .before .before .before .before .before .before .before .before .before .loop .inv .3) (c .before .before .before .before .before .before .before .before .line-end .ensures) (c .before .before .before .before .before .before .before .if1 .left) (c .before .before .before .before .before .line .ensures) (c .before .before .before .before .before .before .before .before .before .loop .rows) _ _ refl (c .before .before .before .before .add-line .ensures .meant) (c .enum-told .given .1), (c .before .before .before .before .add-line .ensures .laid), line-brings (c .before .before .before .before .before .before .before .before .before .before .before .before .args .text .now) (c .before .before .before .before .before .before .before .before .before .loop .at) (c .before .before .before .before .before .before .before .before .before .loop .line) (tableOf (c .before .before .before .before .before .before .before .before .before .before .before .before .args .text .now) (c .before .before .before .before .before .before .before .before .before .loop .rows)) (c .before .before .before .before .before .before .before .before .before .loop .inv .3) (c .before .before .before .before .before .before .before .before .line-end .ensures) (c .before .before .before .before .before .before .before .if1 .left) (c .before .before .before .before .before .line .ensures) (c .before .before .before .before .before .before .before .before .before .loop .rows) _ (c .before .before .before .before .before .before .before .before .before .loop .inv .2) (subst (Grown _ _ _ _ _) (c .enum-told .given .1) (c .before .before .before .before .add-line .ensures)), omega (arith, end-within (c .before .before .before .before .before .before .before .before .before .before .before .before .args .text .now) (c .before .before .before .before .before .before .before .before .before .loop .at) (c .before .before .before .before .before .before .before .before .before .loop .line) (tableOf (c .before .before .before .before .before .before .before .before .before .before .before .before .args .text .now) (c .before .before .before .before .before .before .before .before .before .loop .rows)) (c .before .before .before .before .before .before .before .before .before .loop .inv .3) (c .before .before .before .before .before .before .before .before .line-end .ensures), (c .before .before .before .before .before .before .before .if1 .left)), omega (arith, end-behind (c .before .before .before .before .before .before .before .before .before .before .before .before .args .text .now) (c .before .before .before .before .before .before .before .before .before .loop .at) (c .before .before .before .before .before .before .before .before .before .loop .line) (tableOf (c .before .before .before .before .before .before .before .before .before .before .before .before .args .text .now) (c .before .before .before .before .before .before .before .before .before .loop .rows)) (c .before .before .before .before .before .before .before .before .before .loop .inv .3) (c .before .before .before .before .before .before .before .before .line-end .ensures), (c .before .before .before .before .before .before .before .before .before .loop .inv .4)), search needs)
 
 pub read-lines-spec : {M : Type 1} → statement M
 read-lines-spec =

@@ -33,7 +33,7 @@ same-length : tie.Need-same-length
 same-length c = simp length-set ((c .before .before .put-row .kept .0) ∙ (c .before .before .before .before .before .before .raise .kept .0))
 
 returns : tie.Need-returns
-returns c = (member-holds _ _ _ _ _ _ _ _ _ (c .before .before .before .before .before .before .before .before .before .before .before .pre .0) (c .before .before .before .before .before .before .before .before .before .before .before .pre .1) (c .before .before .before .before .before .before .before .before .before .before .before .pre .2) (c .before .before .before .before .before .before .before .before .before .before .before .pre .3) (c .before .before .before .before .before .before .before .before .member-count .ensures) (c .before .before .before .before .before .before .raise .ensures) (c .before .before .put-row .ensures), member-elements _ _ _ _ _ _ _ _ _ (c .before .before .before .before .before .before .before .before .member-count .ensures) (c .before .before .before .before .before .before .raise .ensures) (c .before .before .put-row .ensures))
+returns c = (member-holds _ _ _ _ _ _ _ _ _ (c .before .before .before .before .before .before .before .before .before .before .before .pre .0) (c .before .before .before .before .before .before .before .before .before .before .before .pre .1) (c .before .before .before .before .before .before .before .before .before .before .before .pre .2) (c .before .before .before .before .before .before .before .before .before .before .before .pre .3) (c .before .before .before .before .before .before .before .before .before .before .before .pre .4) (c .before .before .before .before .before .before .before .before .member-count .ensures) (c .before .before .before .before .before .before .raise .ensures) (c .before .before .put-row .ensures), member-elements _ _ _ _ _ _ _ _ _ (c .before .before .before .before .before .before .before .before .member-count .ensures) (c .before .before .before .before .before .before .raise .ensures) (c .before .before .put-row .ensures))
 
 pub put-member-spec : {M : Type 1} → statement M
 put-member-spec =

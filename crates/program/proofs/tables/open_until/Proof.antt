@@ -15,7 +15,7 @@ part-load-end : tie.Need-part-load-end
 part-load-end c = omega arith
 
 load-requires : tie.Need-load-requires
-load-requires c κs = ((c .before .before .before .before .pre .0), (c .before .before .before .before .pre .1))
+load-requires c κs = ((c .before .before .before .before .pre .0), omega (arith, (c .before .before .before .before .pre .1)))
 
 enum-known-n : tie.Need-enum-known-n
 enum-known-n c = search needs

@@ -1,11 +1,12 @@
 -- `program::tables::open_whole` meets its contract.
 use Rattle.program.proofs.OpenLaws.{whole-refused, whole-loaded}
+use native.Mathlib.Omega.{arith}
 use borrow.Author.Needs.{needs}
 use Rattle.program.proofs.tables.open_whole.Statement.{statement}
 use Rattle.program.proofs.tables.open_whole.Tie as tie
 
 load-requires : tie.Need-load-requires
-load-requires c κs = ((c .before .before .before .pre .0), (c .before .before .before .pre .1))
+load-requires c κs = ((c .before .before .before .pre .0), omega (arith, (c .before .before .before .pre .1)))
 
 enum-known-n : tie.Need-enum-known-n
 enum-known-n c = search needs
