@@ -9,7 +9,7 @@ ghost use Rattle.objects.specs.Rows.{typeCount};
 ghost use Rattle.rules.specs.Library.{Library};
 ghost use Rattle.method_set.specs.Sets.{selWord, selAt, SetHeld};
 ghost use Rattle.method_set.specs.Hits.{emptyRead, isGiven, pushed};
-use crate::levels::levels;
+use crate::all_levels::levels;
 use crate::reach::reach;
 use crate::words::put;
 use crate::words::sel_word;
@@ -24,8 +24,8 @@ use objects::rows::named_pointer;
 use objects::rows::pointer_at;
 use objects::rows::word;
 
+mod all_levels;
 mod hits;
-mod levels;
 mod reach;
 mod words;
 

@@ -1,8 +1,8 @@
 use native.Mathlib.Omega.{arith}
 use Rattle.method_set.proofs.CarryLaws.{span-at, copied-level, copied-span}
 use borrow.Author.Needs.{needs}
-use Rattle.method_set.proofs.levels.advance.Statement.{statement}
-use Rattle.method_set.proofs.levels.advance.Tie as tie
+use Rattle.method_set.proofs.all_levels.advance.Statement.{statement}
+use Rattle.method_set.proofs.all_levels.advance.Tie as tie
 
 type-count-requires : tie.Need-type-count-requires
 type-count-requires c κs = search needs

@@ -5,8 +5,8 @@ use lib.ListN.{length, length-set}
 use Rattle.objects.specs.Rows.{wordAt}
 use Rattle.method_set.proofs.CarryLaws.{Carrying, carry-start, carry-more, carry-put, carry-clear}
 use borrow.Author.Needs.{needs}
-use Rattle.method_set.proofs.levels.carry.Statement.{statement}
-use Rattle.method_set.proofs.levels.carry.Tie as tie
+use Rattle.method_set.proofs.all_levels.carry.Statement.{statement}
+use Rattle.method_set.proofs.all_levels.carry.Tie as tie
 
 abbrev Inv-loop : tie.InvT-loop
 Inv-loop next₀ n level₀ hi i₀ next level i = (length next ≡ length next₀) × (length level ≡ length level₀) × Carrying next₀ i next level

@@ -6,8 +6,8 @@ use Rattle.objects.specs.Rows.{typeCount}
 use Rattle.method_levels.specs.Levels.{Blank, Spans}
 use Rattle.method_set.proofs.DoingLaws.{Doing, doing-start, doing-more, doing-end, doing-stop, under-table}
 use borrow.Author.Needs.{needs}
-use Rattle.method_set.proofs.levels.levels.Statement.{statement}
-use Rattle.method_set.proofs.levels.levels.Tie as tie
+use Rattle.method_set.proofs.all_levels.levels.Statement.{statement}
+use Rattle.method_set.proofs.all_levels.levels.Tie as tie
 
 abbrev Inv-loop : tie.InvT-loop
 Inv-loop text rows t index level₀ next₀ sels₀ first₀ n s₀ d₀ level next sels first s d = (length level ≡ length level₀) × (length next ≡ length next₀) × (length sels ≡ length sels₀) × (length first ≡ length first₀) × (d ≤ n) × Doing text rows t index sels level first d × Spans level (typeCount rows) s × (s .lo < s .hi) × Blank next
