@@ -150,7 +150,7 @@ fn listed(s: &[u8], c: Cursor) -> bool
     }
 }
 
-// The types' numbers that are left become elements of the last type, up to a field that is none. Whether each field is one.
+// Each type's number that is left becomes an element of the last type, until a field is no number. Says whether all were numbers.
 fn put_elements(s: &[u8], rows: &mut [u32], c: Cursor) -> bool
     requires { ⌜ Laid (now rows) × (kindNumber (lastKind (tableOf (now s) (now rows))) ≡ 6) × (elementCount (now rows) + length (elementsRead (fieldsLeft (now s) c)) ≤ maxElements)
         × (used (now rows) + length (elementsRead (fieldsLeft (now s) c)) ≤ length (now rows)) ⌝ }

@@ -1,4 +1,4 @@
-// The form of a line (4), letter by letter and kind by kind.
+// The form of a line (4), letter by letter and kind by kind. A tuple's elements are still to be read: `unread` bounds them by the bytes of the line.
 ghost use mathlib.Core.Path.{_≡_};
 ghost use Prim.Native.Nat.{_≤_};
 ghost use lib.ListN.{length};

@@ -1,7 +1,6 @@
 // The readers of a loaded table: each gives what the words of its rows say (specs/Rows.antt, specs/Types.antt). A word that is not there reads as 0, so
 // that every reader is total.
 ghost use mathlib.Core.Path.{_≡_};
-ghost use Prim.Native.Nat.{_-_};
 ghost use Rattle.objects.specs.Rows.{wordAt, packageCount, typeCount, memberCountOf, elementCount, typeWord, memberWord, packageWord, elementAt, dirAt};
 ghost use Rattle.objects.specs.Types.{typeRead, numberRead, pointerRead, namedRead, bareRead, underRead, ifaceRead, namedPointerRead, firstRead, totalRead, memberTypeRead, embeddedRead, methodRead, ptrRead};
 use crate::Dir;
@@ -27,13 +26,6 @@ pub fn word(rows: &[u32], at: usize) -> u32
     ensures { λ r. ⌜ r ≡ wordAt (now (rows .entry)) at ⌝ }
 {
     if at < rows.len() { rows[at] } else { 0 }
-}
-
-// The place of the i-th of n words, counted from the last.
-fn from_back(n: usize, i: usize) -> usize
-    ensures { λ r. ⌜ r ≡ n - 1 - i ⌝ }
-{
-    if i < n { n - 1 - i } else { 0 }
 }
 
 pub fn package_count(rows: &[u32]) -> u32
@@ -86,7 +78,14 @@ pub fn package_word(rows: &[u32], p: PackageKey, j: u32) -> u32
 pub fn element(rows: &[u32], i: u32) -> TypeKey
     ensures { λ r. ⌜ r ≡ elementAt (now (rows .entry)) i ⌝ }
 {
-    TypeKey(word(rows, from_back(rows.len(), i as usize)))
+    let n = rows.len();
+    let back = i as usize;
+    if back < n {
+        let at = n - 1 - back;
+        TypeKey(rows[at])
+    } else {
+        TypeKey(word(rows, 0))
+    }
 }
 
 // ---- a whole type
