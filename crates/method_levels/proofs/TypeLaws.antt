@@ -6,7 +6,7 @@ use native.Mathlib.Numerals.{add-one}
 use native.Mathlib.Omega.{arith}
 use Rattle.objects.specs.Lists.{Bytes}
 use Rattle.objects.specs.declared.TypeKey.{TypeKey}
-use Rattle.objects.specs.Table.{Table, typeKey, size}
+use Rattle.objects.specs.Table.{Table, typeKey}
 use Rattle.objects.specs.Rows.{Words, wordAt, typeCount, tableOf}
 use Rattle.objects.proofs.RowLaws.{size-read}
 use Rattle.rules.specs.Library.{Library}

@@ -8,7 +8,7 @@ use Rattle.objects.specs.Bounds.{selRow, selWords}
 use Rattle.objects.specs.Lists.{Bytes, upTo}
 use Rattle.objects.proofs.RowLaws.{size-read, under-read}
 use Rattle.objects.specs.declared.TypeKey.{TypeKey}
-use Rattle.objects.specs.Table.{Table, size, typeKey, objKey}
+use Rattle.objects.specs.Table.{Table, typeKey, objKey}
 use Rattle.objects.specs.Rows.{Words, wordAt, typeCount, tableOf}
 use Rattle.rules.specs.Library.{Library}
 use Rattle.rules.specs.Sound.{Sound}
