@@ -3,17 +3,19 @@ use mathlib.Core.Path.{_≡_, refl, sym, ap, _∙_, subst}
 use mathlib.Core.Bool.{true, false}
 use mathlib.Core.List.{List, _∷_, _++_, map}
 use mathlib.Core.Logic.{inl, inr}
-use Prim.Native.Nat.{ℕ, zero, suc, _+_, _-_, _<_, _≤_}
+use Prim.Native.Nat.{ℕ, zero, suc, _+_, _<_, _≤_}
 use native.Mathlib.Omega.{arith}
 use native.Mathlib.Nat.{eq-or-lt-of-le}
+use lib.Dec.{ltb}
 use lib.ListN.{length, getD, take, drop, set, replicate}
 use lib.Seq.{length-take-le, getD-take}
+use borrow.Author.Tests.{ltb-true, ltb-false}
 use Rattle.objects.specs.Bounds.{maxMembers}
 use Rattle.objects.specs.Lists.{Bytes, In, Sorted}
 use Rattle.objects.specs.Table.{objKey}
 use Rattle.objects.specs.Rows.{Words, wordAt, memberCountOf, memberAt, tableOf}
 use Rattle.objects.specs.Types.{methodRead}
-use Rattle.objects.proofs.ListLaws.{clash, either, In-map, map-In-to}
+use Rattle.objects.proofs.ListLaws.{cases, clash, either, In-map, map-In-to}
 use Rattle.objects.proofs.PartLaws.{getD-In}
 use Rattle.objects.proofs.RowLaws.{method-meant}
 use Rattle.text.specs.Bytes.{belowBytes}
@@ -22,6 +24,7 @@ use Rattle.rules.specs.Library.{Library}
 use Rattle.rules.specs.Members.{Identity}
 use Rattle.rules.specs.MethodSet.{methodNames}
 use Rattle.rules.proofs.MethodNames.{Lower, names-listed}
+use Rattle.method_levels.specs.Levels.{FirstFrom}
 use Rattle.method_names.specs.declared.Place.{Place}
 use Rattle.method_names.specs.Names.{identityAt, NamesHeld, Indexed}
 use Rattle.method_names.specs.Search.{idAt, Listed, Placed, Worded, Known, Gathered, Filled}
@@ -70,51 +73,46 @@ module _ (text : Bytes) (rows wanted : Words) where
   zeros (suc n) zero = refl
   zeros (suc n) (suc i) = zeros n i
 
-  pub gather-start : (names index : Words) → index ≡ replicate (length index) 0 → {c : ℕ} → c ≡ memberCountOf rows → Gathered text rows wanted names 0 index c
+  pub gather-start : (names index : Words) → index ≡ replicate (length index) 0 → Gathered text rows wanted names 0 index 0
   unfolding wordAt
-  gather-start names index e p = record {
+  gather-start names index e = record {
     listed = record { sorted = tt; keys = λ k i. absurd i; methods = λ k i. absurd i };
     room = (omega arith, omega arith);
     known = λ m k h f. let z : getD index m 0 ≡ 0 = ap (λ l. getD l m 0) e ∙ zeros (length index) m in absurd (omega arith);
     done = λ k a b _. absurd (omega arith);
   }
 
-  -- before the next member, and after the last
-  pub gather-on : (names : Words) (n : ℕ) (index : Words) (m : ℕ) → 0 < m → Gathered text rows wanted names n index m → Gathered text rows wanted names n index (m - 1 + 1)
-  gather-on names n index m h g = let z : m - 1 + 1 ≡ m = omega arith in subst (Gathered text rows wanted names n index) (sym z) g
+  -- none of the members from m on, before r, is wanted
+  passed : (m r c : ℕ) → FirstFrom wanted m c r → (k : ℕ) → k < r → 0 < wordAt wanted k → k < m
+  passed m r c f k l o = cases (ltb k m) (λ e. ltb-true k m e) (λ e. let z = f .between k (ltb-false k m e) l in absurd (omega (arith, o, z)))
 
-  pub gather-end : (names : Words) (n : ℕ) (index : Words) (m : ℕ) → m ≤ 0 → Gathered text rows wanted names n index m → Gathered text rows wanted names n index 0
-  gather-end names n index m h g = let z : m ≡ 0 = omega arith in subst (Gathered text rows wanted names n index) z g
+  pub gather-past : (names : Words) (n : ℕ) (index : Words) (m r c : ℕ) → FirstFrom wanted m c r → Gathered text rows wanted names n index m → Gathered text rows wanted names n index r
+  gather-past names n index m r c f g =
+      let w = g .room in
+      let l = f .from-on in
+      record { listed = g .listed; room = (w .0, omega (arith, w .1, l)); known = g .known; done = λ k a b o e. g .done k (passed m r c f k a o) b o e }
 
-  module _ (names : Words) (n : ℕ) (index : Words) (m : ℕ) (g : Gathered text rows wanted names n index (m + 1)) where
+  pub gather-end : (names : Words) (n : ℕ) (index : Words) (m c : ℕ) → c ≡ memberCountOf rows → m ≤ c → c ≤ m → Gathered text rows wanted names n index m → Gathered text rows wanted names n index (memberCountOf rows)
+  gather-end names n index m c e l h g = let z : m ≡ memberCountOf rows = omega (arith, e, l, h) in subst (Gathered text rows wanted names n index) z g
+
+  module _ (names : Words) (n : ℕ) (index : Words) (m : ℕ) (g : Gathered text rows wanted names n index m) (left : m < memberCountOf rows) where
     -- a member that is no method
-    pub gather-skip : methodRead rows (objKey m) ≡ false → Gathered text rows wanted names n index m
+    pub gather-skip : methodRead rows (objKey m) ≡ false → Gathered text rows wanted names n index (m + 1)
     gather-skip e =
         let r = g .room in
         record {
           listed = g .listed;
-          room = (r .0, omega arith);
+          room = (r .0, omega (arith, r .1));
           known = g .known;
-          done = λ k a b w f. either (eq-or-lt-of-le a) (λ q. clash f (subst (λ i. methodRead rows (objKey i) ≡ false) q e)) (λ l. g .done k (omega arith) b w f);
+          done = λ k a b w f. let c : k ≤ m = omega arith in either (eq-or-lt-of-le c) (λ q. clash f (subst (λ i. methodRead rows (objKey i) ≡ false) (sym q) e)) (λ l. g .done k l b w f);
         }
 
-    -- a member that is not wanted
-    pub gather-pass : wordAt wanted m ≡ 0 → Gathered text rows wanted names n index m
-    gather-pass e =
-        let r = g .room in
-        record {
-          listed = g .listed;
-          room = (r .0, omega arith);
-          known = g .known;
-          done = λ k a b w f. either (eq-or-lt-of-le a) (λ q. let z : wordAt wanted k ≡ 0 = subst (λ i. wordAt wanted i ≡ 0) q e in absurd (omega (arith, w, z))) (λ l. g .done k (omega arith) b w f);
-        }
-
-    pub left : m < memberCountOf rows
-    left = let r = g .room in omega arith
+    below : (k : ℕ) → k < m + 1 → (k ≡ m → ⊥) → k < m
+    below k a q = omega (arith, a, q)
 
     module _ (lib : Library text rows) (e : methodRead rows (objKey m) ≡ true) (i : ℕ) {r : Place} (s : Placed text rows (take n names) (idAt text rows m) r) where
       -- its name is there
-      pub gather-found : r ≡ Place.Found i → maxMembers ≤ length index → Gathered text rows wanted names n (set index m (getD names i 0 + 1)) m
+      pub gather-found : r ≡ Place.Found i → maxMembers ≤ length index → Gathered text rows wanted names n (set index m (getD names i 0 + 1)) (m + 1)
       gather-found p h =
           let w = g .room in
           let lm = lib .laid .members in
@@ -124,13 +122,13 @@ module _ (text : Bytes) (rows wanted : Words) where
             known = known-word text rows (take n names) index m (getD names i 0 + 1) (omega arith) (word-found text rows lib names n (w .0) (g .listed) m left s i p) (g .known);
             done = λ k x y o z. by-word index m (getD names i 0 + 1) (omega arith) k
                 (λ q v u. absurd (omega arith))
-                (λ q v u. g .done k (omega arith) y o z (sym v ∙ u));
+                (λ q v u. g .done k (below k x q) y o z (sym v ∙ u));
           }
 
       -- it is a new one
       pub gather-new : r ≡ Place.At i → maxMembers ≤ length index → maxMembers ≤ length names → (after : Words) → length after ≡ length names
           → take (n + 1) after ≡ take i (take n names) ++ (m ∷ drop i (take n names))
-          → Gathered text rows wanted after (n + 1) (set index m (m + 1)) m
+          → Gathered text rows wanted after (n + 1) (set index m (m + 1)) (m + 1)
       gather-new p h hn after len put =
           let w = g .room in
           let lm = lib .laid .members in
@@ -149,7 +147,7 @@ module _ (text : Bytes) (rows wanted : Words) where
           }
 
           -- the names after it, whatever list they are
-          gathered : {q : List ℕ} → take (n + 1) after ≡ q → Listed text rows q → Known text rows q (set index m (m + 1)) → Gathered text rows wanted after (n + 1) (set index m (m + 1)) m
+          gathered : {q : List ℕ} → take (n + 1) after ≡ q → Listed text rows q → Known text rows q (set index m (m + 1)) → Gathered text rows wanted after (n + 1) (set index m (m + 1)) (m + 1)
           gathered {q} eq li kn =
               let w = g .room in
               let lm = lib .laid .members in
@@ -159,16 +157,19 @@ module _ (text : Bytes) (rows wanted : Words) where
                 known = subst (λ x. Known text rows x (set index m (m + 1))) (sym eq) kn;
                 done = λ k x y o z. by-word index m (m + 1) (omega arith) k
                     (λ q v u. absurd (omega arith))
-                    (λ q v u. g .done k (omega arith) y o z (sym v ∙ u));
+                    (λ q v u. g .done k (below k x q) y o z (sym v ∙ u));
               }
 
   -- ---- fields
 
-  pub fill-start : (names : Words) (n : ℕ) (index : Words) → Gathered text rows wanted names n index 0 → Filled text rows wanted (take n names) index 0
+  pub fill-start : (names : Words) (n : ℕ) (index : Words) → Gathered text rows wanted names n index (memberCountOf rows) → Filled text rows wanted (take n names) index 0
   fill-start names n index g = record {
     known = g .known;
-    none = λ j k h o c w i. either c (λ l. absurd (omega arith)) (λ e. absurd (g .done j (omega arith) h o e w));
+    none = λ j k h o c w i. either c (λ l. absurd (omega arith)) (λ e. absurd (g .done j h h o e w));
   }
+
+  pub fill-past : (l : List ℕ) (index : Words) (m r c : ℕ) → FirstFrom wanted m c r → Filled text rows wanted l index m → Filled text rows wanted l index r
+  fill-past l index m r c f g = record { known = g .known; none = λ j k h o d w i. g .none j k h o (either d (λ a. inl (passed m r c f j a o)) (λ a. inr a)) w i }
 
   pub fill-end : (l : List ℕ) (index : Words) (m : ℕ) {count : ℕ} → count ≡ memberCountOf rows → m ≤ count → count ≤ m → Filled text rows wanted l index m → Filled text rows wanted l index (memberCountOf rows)
   fill-end l index m p a b f = let z : m ≡ memberCountOf rows = omega arith in subst (Filled text rows wanted l index) z f
@@ -182,14 +183,6 @@ module _ (text : Bytes) (rows wanted : Words) where
           (λ f. g .none j k hj o (inr f) w i);
     }
 
-    pub fill-pass : wordAt wanted m ≡ 0 → Filled text rows wanted l index (m + 1)
-    fill-pass e = record {
-      known = g .known;
-      none = λ j k hj o c w i. either c
-          (λ a. let b : j ≤ m = omega arith in either (eq-or-lt-of-le b) (λ q. let z : wordAt wanted j ≡ 0 = subst (λ x. wordAt wanted x ≡ 0) (sym q) e in absurd (omega (arith, o, z))) (λ q. g .none j k hj o (inl q) w i))
-          (λ f. g .none j k hj o (inr f) w i);
-    }
-
     pub fill-field : (x : ℕ) → Worded text rows l m x → m < length index → Filled text rows wanted l (set index m x) (m + 1)
     fill-field x s h = record {
       known = known-word text rows l index m x h s (g .known);
@@ -200,7 +193,7 @@ module _ (text : Bytes) (rows wanted : Words) where
 
   -- ---- the end
 
-  module _ (lib : Library text rows) (names : Words) (n : ℕ) (index : Words) (g : Gathered text rows wanted names n index 0) where
+  module _ (lib : Library text rows) (names : Words) (n : ℕ) (index : Words) (g : Gathered text rows wanted names n index (memberCountOf rows)) where
     named-method : (x : Identity) → In x (map (identityAt text rows) (take n names)) → In x (methodNames (tableOf text rows))
     unfolding identityAt
     named-method x i =
@@ -221,7 +214,7 @@ module _ (text : Bytes) (rows wanted : Words) where
 
     method-named : (m : ℕ) → m < memberCountOf rows → 0 < wordAt wanted m → methodRead rows (objKey m) ≡ true → In (identityAt text rows m) (map (identityAt text rows) (take n names))
     method-named m h o e =
-        let w = not-zero (wordAt index m) (g .done m (omega arith) h o e) in
+        let w = not-zero (wordAt index m) (g .done m h h o e) in
         let v = g .known m (w .0) h (w .1) in
         subst (λ y. In y (map (identityAt text rows) (take n names))) (v .1) (map-In-to (identityAt text rows) (take n names) (w .0) (v .0))
 

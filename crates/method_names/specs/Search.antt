@@ -3,7 +3,7 @@ use mathlib.Core.Path.{_≡_}
 use mathlib.Core.Bool.{true, false}
 use mathlib.Core.List.{List}
 use mathlib.Core.Logic.{_⊎_}
-use Prim.Native.Nat.{ℕ, suc, _+_, _<_, _≤_}
+use Prim.Native.Nat.{ℕ, suc, _<_, _≤_}
 use lib.ListN.{length, getD, take, drop}
 use Rattle.objects.specs.Lists.{Bytes, In, Sorted}
 use Rattle.objects.specs.Table.{objKey}
@@ -46,12 +46,12 @@ module _ (text : Bytes) (rows : Words) where
   abbrev pub Known : List ℕ → Words → Type 0
   Known l index = (m k : ℕ) → m < memberCountOf rows → wordAt index m ≡ suc k → In k l × (identityAt text rows k ≡ identityAt text rows m)
 
-  -- The wanted methods among the members from m on have their name.
+  -- The wanted methods among the members before m have their name.
   pub record Gathered (wanted names : Words) (n : ℕ) (index : Words) (m : ℕ) : Type 0 where
     pub listed : Listed (take n names)
-    pub room : (n ≤ length names) × (n + m ≤ memberCountOf rows)
+    pub room : (n ≤ length names) × (n ≤ m)
     pub known : Known (take n names) index
-    pub done : (k : ℕ) → m ≤ k → k < memberCountOf rows → 0 < wordAt wanted k → methodRead rows (objKey k) ≡ true → wordAt index k ≡ 0 → ⊥
+    pub done : (k : ℕ) → k < m → k < memberCountOf rows → 0 < wordAt wanted k → methodRead rows (objKey k) ≡ true → wordAt index k ≡ 0 → ⊥
 
   -- The wanted fields before m have theirs too, if there is one.
   pub record Filled (wanted : Words) (l : List ℕ) (index : Words) (m : ℕ) : Type 0 where

@@ -9,13 +9,13 @@ ghost use Rattle.rules.specs.Library.{Library};
 ghost use Rattle.obj.specs.Ids.{idMeant};
 ghost use Rattle.method_names.specs.Names.{NamesHeld, Indexed};
 ghost use Rattle.method_names.specs.Search.{Listed, Placed, Worded, Gathered, Filled};
+use method_levels::next_reached;
 use obj::Id;
 use obj::id_of;
 use obj::order_ids;
 use objects::ObjKey;
 use objects::rows::is_method;
 use objects::rows::member_count;
-use objects::rows::word;
 use text::Order;
 
 // Where an id stands in a sorted list, or would stand.
@@ -74,7 +74,7 @@ fn put_name(names: &mut [u32], n: usize, i: usize, k: u32)
 
 // ---- methods
 
-// Member m, if it is wanted: the name of a method is found, or is a new one.
+// Member m: the name of a method is found, or is a new one.
 fn gather_one(
     text: &[u8],
     rows: &[u32],
@@ -84,12 +84,9 @@ fn gather_one(
     index: &mut [u32],
     m: u32,
 ) -> usize
-    requires { ⌜ Library (now text) (now rows) × (maxMembers ≤ length (now names)) × (maxMembers ≤ length (now index)) × Gathered (now text) (now rows) (now wanted) (now names) n (now index) (m + 1) ⌝ }
-    ensures { λ r. ⌜ Gathered (now (text .entry)) (now (rows .entry)) (now (wanted .entry)) (now (names .exit)) r (now (index .exit)) m ⌝ }
+    requires { ⌜ Library (now text) (now rows) × (maxMembers ≤ length (now names)) × (maxMembers ≤ length (now index)) × Gathered (now text) (now rows) (now wanted) (now names) n (now index) m × (m < memberCountOf (now rows)) ⌝ }
+    ensures { λ r. ⌜ Gathered (now (text .entry)) (now (rows .entry)) (now (wanted .entry)) (now (names .exit)) r (now (index .exit)) (m + 1) ⌝ }
 {
-    if word(wanted, m as usize) == 0 {
-        return n;
-    }
     if !is_method(rows, ObjKey(m)) {
         return n;
     }
@@ -107,16 +104,17 @@ fn gather_one(
     }
 }
 
-// From the last member to the first.
+// Members that are not wanted are passed over, several at a time.
 fn gather(text: &[u8], rows: &[u32], wanted: &[u32], names: &mut [u32], index: &mut [u32]) -> usize
-    requires { ⌜ Library (now text) (now rows) × (maxMembers ≤ length (now names)) × (maxMembers ≤ length (now index)) × (now index ≡ replicate (length (now index)) 0) ⌝ }
-    ensures { λ r. ⌜ Gathered (now (text .entry)) (now (rows .entry)) (now (wanted .entry)) (now (names .exit)) r (now (index .exit)) 0 ⌝ }
+    requires { ⌜ Library (now text) (now rows) × (maxMembers ≤ length (now names)) × (maxMembers ≤ length (now index)) × (now index ≡ replicate (length (now index)) 0) × (maxMembers ≤ length (now wanted)) ⌝ }
+    ensures { λ r. ⌜ Gathered (now (text .entry)) (now (rows .entry)) (now (wanted .entry)) (now (names .exit)) r (now (index .exit)) (memberCountOf (now (rows .entry))) ⌝ }
 {
-    let mut m = member_count(rows);
+    let count = member_count(rows);
     let mut n: usize = 0;
-    while 0 < m {
-        m -= 1;
+    let mut m = next_reached(wanted, 0, count);
+    while m < count {
         n = gather_one(text, rows, wanted, names, n, index, m);
+        m = next_reached(wanted, m + 1, count);
     }
     n
 }
@@ -135,7 +133,7 @@ fn name_word(text: &[u8], rows: &[u32], names: &[u32], n: usize, m: u32) -> u32
     }
 }
 
-// Member m, if it is a field that is wanted.
+// Member m, if it is a field.
 fn index_field(
     text: &[u8],
     rows: &[u32],
@@ -148,9 +146,6 @@ fn index_field(
     requires { ⌜ Library (now text) (now rows) × Listed (now text) (now rows) (take n (now names)) × (n ≤ length (now names)) × (maxMembers ≤ length (now index)) × (m < memberCountOf (now rows)) × Filled (now text) (now rows) (now wanted) (take n (now names)) (now index) m ⌝ }
     ensures { λ _. ⌜ Filled (now (text .entry)) (now (rows .entry)) (now (wanted .entry)) (take n (now (names .entry))) (now (index .exit)) (m + 1) ⌝ }
 {
-    if word(wanted, m as usize) == 0 {
-        return;
-    }
     if is_method(rows, ObjKey(m)) {
         return;
     }
@@ -165,14 +160,14 @@ fn index_fields(
     n: usize,
     index: &mut [u32],
 )
-    requires { ⌜ Library (now text) (now rows) × Listed (now text) (now rows) (take n (now names)) × (n ≤ length (now names)) × (maxMembers ≤ length (now index)) × Filled (now text) (now rows) (now wanted) (take n (now names)) (now index) 0 ⌝ }
+    requires { ⌜ Library (now text) (now rows) × Listed (now text) (now rows) (take n (now names)) × (n ≤ length (now names)) × (maxMembers ≤ length (now index)) × Filled (now text) (now rows) (now wanted) (take n (now names)) (now index) 0 × (maxMembers ≤ length (now wanted)) ⌝ }
     ensures { λ _. ⌜ Filled (now (text .entry)) (now (rows .entry)) (now (wanted .entry)) (take n (now (names .entry))) (now (index .exit)) (memberCountOf (now (rows .entry))) ⌝ }
 {
-    let count = member_count(rows);
-    let mut m = 0;
-    while m < count {
+    let end = member_count(rows);
+    let mut m = next_reached(wanted, 0, end);
+    while m < end {
         index_field(text, rows, wanted, names, n, index, m);
-        m += 1;
+        m = next_reached(wanted, m + 1, end);
     }
 }
 
@@ -186,7 +181,7 @@ pub fn method_names(
     names: &mut [u32],
     index: &mut [u32],
 ) -> usize
-    requires { ⌜ Library (now text) (now rows) × (maxMembers ≤ length (now names)) × (maxMembers ≤ length (now index)) × (now index ≡ replicate (length (now index)) 0) ⌝ }
+    requires { ⌜ Library (now text) (now rows) × (maxMembers ≤ length (now names)) × (maxMembers ≤ length (now index)) × (now index ≡ replicate (length (now index)) 0) × (maxMembers ≤ length (now wanted)) ⌝ }
     ensures { λ r. ⌜ NamesHeld (now (text .entry)) (now (rows .entry)) (now (wanted .entry)) (now (names .exit)) r ⌝ }
     ensures { λ r. ⌜ Indexed (now (text .entry)) (now (rows .entry)) (now (wanted .entry)) (now (names .exit)) r (now (index .exit)) ⌝ }
 {

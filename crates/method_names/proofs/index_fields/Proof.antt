@@ -1,10 +1,10 @@
--- `method_names::index_fields` meets its contract. The invariant: the fields before m have their name, if there is one.
-use mathlib.Core.Path.{_≡_, refl, _∙_}
+-- `method_names::index_fields` meets its contract. The invariant: the wanted fields before m have their name, if there is one.
+use mathlib.Core.Path.{_≡_}
 use Prim.Native.Nat.{_-_, _≤_}
 use native.Mathlib.Omega.{arith}
 use lib.ListN.{length, take}
 use Rattle.method_names.specs.Search.{Filled}
-use Rattle.method_names.proofs.GatherLaws.{fill-end}
+use Rattle.method_names.proofs.GatherLaws.{fill-past, fill-end}
 use borrow.Author.Needs.{needs}
 use Rattle.method_names.proofs.index_fields.Statement.{statement}
 use Rattle.method_names.proofs.index_fields.Tie as tie
@@ -18,26 +18,32 @@ abbrev μ-loop : tie.MeasureT-loop
 member-count-requires : tie.Need-member-count-requires Inv-loop μ-loop
 member-count-requires c κs = search needs
 
+next-reached-requires : tie.Need-next-reached-requires Inv-loop μ-loop
+next-reached-requires c κs = (omega arith, omega (arith, (c .before .before .before .before .before .before .pre .0 .laid .members), (c .member-count .ensures), (c .before .before .before .before .before .before .pre .5)))
+
 loop-holds : tie.Need-loop-holds Inv-loop μ-loop
-loop-holds c = (refl, omega arith, (c .before .before .before .before .before .before .pre) .4)
+loop-holds c = (search needs, (c .next-reached .ensures .before-end), fill-past _ _ _ _ _ _ _ _ (c .next-reached .ensures) (c .before .before .before .before .before .before .before .pre .4))
 
 index-field-requires : tie.Need-index-field-requires Inv-loop μ-loop
-index-field-requires c κs = ((c .before .before .before .before .before .before .before .before .before .pre) .0, (c .before .before .before .before .before .before .before .before .before .pre) .1, (c .before .before .before .before .before .before .before .before .before .pre) .2, omega (arith, (c .before .before .loop .inv) .0, (c .before .before .before .before .before .before .before .before .before .pre) .3), omega (arith, (c .before .loop-test .taken), (c .before .before .before .member-count .ensures)), (c .before .before .loop .inv) .2)
+index-field-requires c κs = ((c .before .before .before .before .before .before .before .before .before .before .pre .0), (c .before .before .before .before .before .before .before .before .before .before .pre .1), (c .before .before .before .before .before .before .before .before .before .before .pre .2), omega (arith, (c .before .before .loop .inv .0), (c .before .before .before .before .before .before .before .before .before .before .pre .3)), omega (arith, (c .before .loop-test .taken), (c .before .before .before .before .member-count .ensures)), (c .before .before .loop .inv .2))
 
-add-m : tie.Need-add-m Inv-loop μ-loop
-add-m c = search needs
+add-next-reached : tie.Need-add-next-reached Inv-loop μ-loop
+add-next-reached c = omega (arith, (c .before .before .before .before .loop-test .taken))
+
+next-reached-requires-2 : tie.Need-next-reached-requires-2 Inv-loop μ-loop
+next-reached-requires-2 c κs = (omega (arith, (c .before .before .before .before .loop-test .taken)), omega (arith, (c .before .before .before .before .before .before .before .before .before .before .before .before .before .pre .0 .laid .members), (c .before .before .before .before .before .before .before .member-count .ensures), (c .before .before .before .before .before .before .before .before .before .before .before .before .before .pre .5)))
 
 loop-less : tie.Need-loop-less Inv-loop μ-loop
-loop-less c = omega arith
+loop-less c = omega (arith, (c .before .before .before .before .before .loop-test .taken), (c .next-reached2 .ensures .from-on), (c .next-reached2 .ensures .before-end))
 
 loop-again : tie.Need-loop-again Inv-loop μ-loop
-loop-again c = ((c .before .before .index-field .kept .1 .1 .1 .1 .1 .0) ∙ (c .before .before .before .before .before .loop .inv) .0, omega (arith, (c .before .before .before .before .loop-test .taken)), (c .before .before .index-field .ensures))
+loop-again c = (search needs, (c .next-reached2 .ensures .before-end), fill-past _ _ _ _ _ _ _ _ (c .next-reached2 .ensures) (c .before .before .before .index-field .ensures))
 
 same-length : tie.Need-same-length Inv-loop μ-loop
 same-length c = search needs
 
 returns : tie.Need-returns Inv-loop μ-loop
-returns c = fill-end (c .before .before .before .before .before .before .before .before .args .text .now) (c .before .before .before .before .before .before .before .before .args .rows .now) (c .before .before .before .before .before .before .before .before .args .wanted .now) (take (c .before .before .before .before .before .before .before .before .args .n) (c .before .before .before .before .before .before .before .before .args .names .now)) (c .before .loop .index) (c .before .loop .m) (c .before .before .member-count .ensures) ((c .before .loop .inv) .1) (c .loop-test .left) ((c .before .loop .inv) .2)
+returns c = fill-end _ _ _ _ _ _ (c .before .before .before .member-count .ensures) (c .before .loop .inv .1) (c .loop-test .left) (c .before .loop .inv .2)
 
 pub index-fields-spec : {M : Type 1} → statement M
 index-fields-spec =
@@ -46,9 +52,11 @@ index-fields-spec =
     Inv-loop
     μ-loop
     member-count-requires
+    next-reached-requires
     loop-holds
     index-field-requires
-    add-m
+    add-next-reached
+    next-reached-requires-2
     loop-less
     loop-again
     same-length

@@ -9,7 +9,7 @@ gather-requires : tie.Need-gather-requires
 gather-requires c κs = search needs
 
 index-fields-requires : tie.Need-index-fields-requires
-index-fields-requires c κs = ((c .before .before .before .before .before .before .before .before .before .before .before .before .before .before .pre) .0, (c .before .before .before .before .before .before .gather .ensures .listed), (c .before .before .before .before .before .before .gather .ensures .room .0), omega (arith, (c .before .before .before .before .before .before .gather .kept .1 .1 .1 .1 .0), (c .before .before .before .before .before .before .before .before .before .before .before .before .before .before .pre) .2), fill-start (c .before .before .before .before .before .before .before .before .before .before .before .before .before .before .args .text .now) (c .before .before .before .before .before .before .before .before .before .before .before .before .before .before .args .rows .now) (c .before .before .before .before .before .before .before .before .before .before .before .before .before .before .args .wanted .now) (c .before .before .before .before .before .before .gather .last .1 .1 .1 .0) (c .before .before .before .before .before .before .gather .result) (c .before .before .before .before .before .before .gather .last .1 .1 .1 .1 .0) (c .before .before .before .before .before .before .gather .ensures))
+index-fields-requires c κs = ((c .before .before .before .before .before .before .before .before .before .before .before .before .before .before .pre) .0, (c .before .before .before .before .before .before .gather .ensures .listed), (c .before .before .before .before .before .before .gather .ensures .room .0), omega (arith, (c .before .before .before .before .before .before .gather .kept .1 .1 .1 .1 .0), (c .before .before .before .before .before .before .before .before .before .before .before .before .before .before .pre) .2), fill-start (c .before .before .before .before .before .before .before .before .before .before .before .before .before .before .args .text .now) (c .before .before .before .before .before .before .before .before .before .before .before .before .before .before .args .rows .now) (c .before .before .before .before .before .before .before .before .before .before .before .before .before .before .args .wanted .now) (c .before .before .before .before .before .before .gather .last .1 .1 .1 .0) (c .before .before .before .before .before .before .gather .result) (c .before .before .before .before .before .before .gather .last .1 .1 .1 .1 .0) (c .before .before .before .before .before .before .gather .ensures), c .before .before .before .before .before .before .before .before .before .before .before .before .before .before .pre .4)
 
 same-length : tie.Need-same-length
 same-length c = search needs

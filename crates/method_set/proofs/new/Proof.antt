@@ -28,7 +28,7 @@ slice-aggregate-method-names-3 : tie.Need-slice-aggregate-method-names-3
 slice-aggregate-method-names-3 c = search needs
 
 method-names-requires : tie.Need-method-names-requires
-method-names-requires c κs = ((c .before .before .before .before .before .before .before .before .before .before .before .before .before .pre .0), omega arith, omega arith, refl)
+method-names-requires c κs = ((c .before .before .before .before .before .before .before .before .before .before .before .before .before .pre .0), omega arith, omega arith, refl, omega (arith, (c .before .before .before .before .reach .kept)))
 
 slice-aggregate-first-level : tie.Need-slice-aggregate-first-level
 slice-aggregate-first-level c = search needs
