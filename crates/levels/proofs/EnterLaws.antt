@@ -31,8 +31,8 @@ use Rattle.ways.proofs.Room.{appended}
 use Rattle.ways.proofs.TableLaws.{own, lawful}
 use Rattle.multiples.specs.declared.EmbeddedType.{EmbeddedType}
 use Rattle.multiples.specs.Records.{recordWords, recOf}
-use Rattle.typ.specs.Sign.{signRead}
-use Rattle.typ.proofs.SignLaws.{sign-same}
+use Rattle.type_parts.specs.Sign.{signRead}
+use Rattle.type_parts.proofs.SignLaws.{sign-same}
 use Rattle.levels.specs.Words.{NextSigned, rowMeant, rowOf, indexOf, signAt, rowPut, rowsOf, levelOf}
 use Rattle.levels.specs.State.{Rowed, Searching, Enters, Twin}
 use Rattle.levels.proofs.RangeLaws.{range-none, range-some, range-same, range-map-more}

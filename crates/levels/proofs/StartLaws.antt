@@ -16,7 +16,7 @@ use Rattle.objects.proofs.ListLaws.{cases}
 use Rattle.objects.proofs.Stores.{word-put, word-kept}
 use Rattle.ways.specs.Search.{rootRow}
 use Rattle.multiples.specs.declared.EmbeddedType.{EmbeddedType}
-use Rattle.typ.specs.Sign.{signs}
+use Rattle.type_parts.specs.Sign.{signs}
 use Rattle.levels.specs.Words.{Unindexed, indexAt, indexOf, rowMeant, rowPut, rowsOf}
 use Rattle.levels.specs.State.{Rowed, Searching}
 use Rattle.levels.proofs.StateLaws.{rowed-put, new-row}

@@ -21,7 +21,7 @@ use Rattle.objects.proofs.KeyLaws.{key-eq, same-key}
 use Rattle.rules.specs.Identity.{identical}
 use Rattle.ways.specs.Search.{typ, range}
 use Rattle.multiples.specs.declared.EmbeddedType.{EmbeddedType}
-use Rattle.typ.specs.Sign.{signRead}
+use Rattle.type_parts.specs.Sign.{signRead}
 use Rattle.levels.specs.Words.{rowMeant, rowOf, indexOf, rowPut}
 use Rattle.levels.specs.State.{Rowed, Searching}
 use Rattle.levels.proofs.RangeLaws.{range-length, range-In}

@@ -20,7 +20,7 @@ use Rattle.ways.specs.Search.{Row, typ}
 use Rattle.multiples.specs.declared.EmbeddedType.{EmbeddedType}
 use Rattle.multiples.specs.Records.{recOf, wordsOf, recordWords}
 use Rattle.multiples.proofs.WordLaws.{saved, marked-there}
-use Rattle.typ.specs.Sign.{signs}
+use Rattle.type_parts.specs.Sign.{signs}
 use Rattle.levels.specs.Words.{NextSigned, indexAt, rowMeant, rowOf, indexOf, signAt, indexPut, signPut, rowPut}
 
 -- the row of a type that is reached again: nothing else of it changes

@@ -14,7 +14,7 @@ use Rattle.rules.specs.Identity.{identical}
 use Rattle.rules.specs.Ways.{Place}
 use Rattle.ways.specs.Search.{Row, typ, enterAll}
 use Rattle.ways.specs.OfTable.{graph, stepOf}
-use Rattle.typ.specs.Sign.{signRead}
+use Rattle.type_parts.specs.Sign.{signRead}
 use Rattle.levels.specs.Words.{indexOf, signAt, rowOf, rowsOf, levelOf}
 
 -- The first n rows: of types among so many, each reached from a row no later than itself, and the words of the types tell exactly them.

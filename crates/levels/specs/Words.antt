@@ -14,7 +14,7 @@ use Rattle.objects.specs.Rows.{Words, wordAt}
 use Rattle.ways.specs.Search.{Row, range}
 use Rattle.multiples.specs.declared.EmbeddedType.{EmbeddedType}
 use Rattle.multiples.specs.Records.{recOf, wordsOf}
-use Rattle.typ.specs.Sign.{signs}
+use Rattle.type_parts.specs.Sign.{signs}
 
 -- where the words of two halves start
 abbrev pub indexAt : ℕ

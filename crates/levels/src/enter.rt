@@ -6,7 +6,7 @@ ghost use lib.ListN.{length, replicate};
 ghost use Rattle.objects.specs.Bounds.{markWords};
 ghost use Rattle.objects.specs.Rows.{typeCount, tableOf};
 ghost use Rattle.rules.specs.Library.{Library};
-ghost use Rattle.typ.specs.Sign.{signs, signRead};
+ghost use Rattle.type_parts.specs.Sign.{signs, signRead};
 ghost use Rattle.levels.specs.Words.{indexOf, rowMeant};
 ghost use Rattle.levels.specs.State.{Searching, Enters, Twin};
 use crate::words::ROW;
@@ -20,7 +20,7 @@ use objects::ObjKey;
 use objects::TypeKey;
 use objects::rows::named_at;
 use typ::identical::identical;
-use typ::sign::sign;
+use type_parts::sign::sign;
 
 // The sign of a type that comes behind another of its level.
 fn sign_behind(text: &[u8], rows: &[u32], before: usize, n: usize, t: TypeKey) -> u32

@@ -6,7 +6,7 @@ ghost use lib.ListN.{length};
 ghost use Rattle.objects.specs.Bounds.{maxTypes, searchWords};
 ghost use Rattle.objects.specs.Rows.{typeCount};
 ghost use Rattle.ways.specs.Search.{rootRow};
-ghost use Rattle.typ.specs.Sign.{signs};
+ghost use Rattle.type_parts.specs.Sign.{signs};
 ghost use Rattle.levels.specs.Words.{NextSigned, Unindexed, indexOf, indexPut, rowPut, rowsOf, signPut};
 ghost use Rattle.levels.specs.State.{Searching};
 use multiples::EmbeddedType;

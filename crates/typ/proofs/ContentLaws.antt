@@ -26,9 +26,9 @@ use Rattle.rules.specs.Library.{Library, rankRead}
 use Rattle.rules.specs.Sound.{Sound}
 use Rattle.rules.proofs.RangeLaws.{content-in}
 use Rattle.rules.proofs.ComparableLaws.{comparable-step}
+use Rattle.type_parts.proofs.Spans.{SpanIs, span-is, span-small}
+use Rattle.type_parts.proofs.ReadLaws.{member-types, meant-at, library-sound}
 use Rattle.typ.specs.Contents.{mayCompareIn, heldIn, contentIn, mayCompare, contentCount, contentAt, MetComparable, Judged}
-use Rattle.typ.proofs.Spans.{SpanIs, span-is, span-small}
-use Rattle.typ.proofs.ReadLaws.{member-types, meant-at, library-sound}
 use Rattle.typ.proofs.Zero.{getD-zeros}
 
 every-map : {A B : Type 0} (p : B → Bool) (f : A → B) (l : List A) → every p (map f l) ≡ every (λ x. p (f x)) l

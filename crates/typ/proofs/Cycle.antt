@@ -12,22 +12,22 @@ use Rattle.objects.specs.Bounds.{maxTypes, markWords}
 use Rattle.objects.specs.Lists.{Bytes}
 use Rattle.objects.specs.Table.{size}
 use Rattle.objects.specs.Rows.{Words, typeCount, tableOf}
-use Rattle.objects.specs.Types.{numberRead, firstRead}
+use Rattle.objects.specs.Types.{numberRead}
 use Rattle.objects.proofs.ListLaws.{clash, either}
 use Rattle.objects.proofs.BoolLaws.{false-of}
 use Rattle.objects.proofs.RowLaws.{number-read, size-read}
 use Rattle.rules.specs.StepIdentity.{sameIn}
 use Rattle.rules.specs.Library.{Library}
 use Rattle.rules.proofs.StepLaws.{same-split}
+use Rattle.type_parts.specs.Parts.{ownRead, partCount, partAt, Kin}
+use Rattle.type_parts.proofs.ReadLaws.{own-read}
+use Rattle.type_parts.proofs.Rank.{rank, high, high-le, high-rank, rank-part}
+use Rattle.type_parts.proofs.KinLaws.{left-in, right-in}
 use Rattle.typ.specs.Marks.{met, meet, unmet}
-use Rattle.typ.specs.Parts.{ownRead, partCount, partAt}
-use Rattle.typ.specs.Compared.{pairs, pair, opened, Entered, Kin, Apart, Well, Compared, PartsCompared}
+use Rattle.typ.specs.Compared.{pairs, pair, opened, Entered, Apart, Well, Compared, PartsCompared}
 use Rattle.typ.proofs.Bits.{unmet-falls}
-use Rattle.typ.proofs.ReadLaws.{own-read, place-small}
-use Rattle.typ.proofs.StepAt.{counts}
 use Rattle.typ.proofs.Marked.{in-l, in-m, went-met, went-off, well-open, went-open}
 use Rattle.typ.proofs.Passing.{Passed}
-use Rattle.typ.proofs.Rank.{rank, high, high-le, high-rank, part-inside, rank-part}
 
 -- ---- `enter`
 
@@ -59,31 +59,17 @@ module _ (text : Bytes) (rows : Words) (x y : TypeKey) (hx : x .0 < typeCount ro
         (λ e. h (p ∙ sym (own-read text rows x hx) ∙ same-split (tableOf text rows) zero x y e .owns ∙ own-read text rows y hy ∙ sym q)),
   )
 
-  pub kin : (a b c d : ℕ) → a ≡ numberRead rows x → b ≡ numberRead rows y → a ≡ b → c ≡ ownRead rows x → d ≡ ownRead rows y → c ≡ d → Kin (tableOf text rows) x y
-  kin a b c d p q e r s f = record {
-    left = rw (size-read text rows) hx;
-    right = rw (size-read text rows) hy;
-    kinds = number-read text rows x hx ∙ sym p ∙ e ∙ q ∙ sym (number-read text rows y hy);
-    owns = own-read text rows x hx ∙ sym r ∙ f ∙ s ∙ sym (own-read text rows y hy);
-  }
-
 module _ (text : Bytes) (rows : Words) (lib : Library text rows) where
   few : size (tableOf text rows) ≤ maxTypes
   few = rw (size-read text rows) (lib .laid .types)
 
   module _ (x y : TypeKey) (k : Kin (tableOf text rows) x y) where
-    pub left-in : x .0 < typeCount rows
-    left-in = let h = k .left in rw (size-read text rows) at h
-
-    pub right-in : y .0 < typeCount rows
-    right-in = let h = k .right in rw (size-read text rows) at h
-
     module _ (l : List ℕ) (hl : markWords ≤ length l) (w : Well (tableOf text rows) l) (m : List ℕ) (r : Bool) (n : Entered l m (pair x y) r) where
       -- it was met before, or is put off
       pub entered-not : not r ≡ true → Compared (tableOf text rows) l m x y true
       entered-not z =
           either (n .passed (not-true r z))
-          (λ c. let e = c .1 in rw e (went-met (tableOf text rows) l x y w (omega (arith, left-in, lib .laid .types)) (omega (arith, right-in, lib .laid .types)) (c .0)))
+          (λ c. let e = c .1 in rw e (went-met (tableOf text rows) l x y w (omega (arith, left-in text rows lib x y k, lib .laid .types)) (omega (arith, right-in text rows lib x y k, lib .laid .types)) (c .0)))
           (λ c. let e = c .1 in rw e (went-off (tableOf text rows) x y k few l hl (c .0) w))
 
       pub entered-well : not r ≡ false → Well (tableOf text rows) m
@@ -100,29 +86,14 @@ module _ (text : Bytes) (rows : Words) (lib : Library text rows) where
             arith,
             unmet-falls l (pair x y) (in-l (tableOf text rows) x y k few l hl (c .0)) (c .0),
             unmet-falls (meet l (pair x y)) (opened x y) (in-m (tableOf text rows) x y k few l hl (c .0) (c .1)) (c .1),
-            high-le rows x (omega (arith, left-in, lib .laid .types)),
+            high-le rows x (omega (arith, left-in text rows lib x y k, lib .laid .types)),
           ))
 
     -- ---- their parts
 
     module _ (i n : ℕ) (e : n ≡ partCount rows x) (h : i < n) where
-      pub right-part : i < partCount rows y
-      right-part = omega (arith, counts text rows x y left-in right-in (k .kinds) (k .owns))
-
-      pub left-place : firstRead rows x + i < 65_536
-      left-place = place-small rows x i (lib .laid) left-in (omega arith)
-
-      pub right-place : firstRead rows y + i < 65_536
-      right-place = place-small rows y i (lib .laid) right-in right-part
-
-      pub left-inside : (p : TypeKey) → p ≡ partAt rows x i → p .0 < typeCount rows
-      left-inside p z = rw z (part-inside text rows lib x left-in i (omega arith))
-
-      pub right-inside : (p : TypeKey) → p ≡ partAt rows y i → p .0 < typeCount rows
-      right-inside p z = rw z (part-inside text rows lib y right-in i right-part)
-
       pub part-falls : (t : ℕ) (p : TypeKey) (l m : List ℕ) → p ≡ partAt rows x i → Passed text rows l m x y i → 1024 * unmet l + high rows x ≡ t → 1024 * unmet m + rank rows p < t
-      part-falls t p l m z g q = rw z (omega (arith, rank-part text rows lib x left-in i (omega arith), g .grown .fewer))
+      part-falls t p l m z g q = rw z (omega (arith, rank-part text rows lib x (left-in text rows lib x y k) i (omega arith), g .grown .fewer))
 
 -- a type that is no interface, and is not marked
 pub other-falls : (rows : Words) (x : TypeKey) (l : List ℕ) (t a : ℕ) (r : Bool) → a ≡ numberRead rows x → (r ≡ false → a ≡ 9 → ⊥) → r ≡ false → 1024 * unmet l + rank rows x ≡ t → 1024 * unmet l + high rows x < t

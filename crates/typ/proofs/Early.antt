@@ -16,11 +16,10 @@ use Rattle.rules.specs.Identity.{identical}
 use Rattle.rules.specs.StepIdentity.{sameIn}
 use Rattle.rules.specs.Library.{Library}
 use Rattle.rules.proofs.StepLaws.{same-split}
-use Rattle.typ.specs.Parts.{ownRead, partCount, partAt, alikeAt}
-use Rattle.typ.specs.Compared.{Kin}
-use Rattle.typ.proofs.ReadLaws.{own-read, library-sound}
-use Rattle.typ.proofs.StepAt.{step-split}
-use Rattle.typ.proofs.Cycle.{left-in, right-in, left-inside, right-inside}
+use Rattle.type_parts.specs.Parts.{ownRead, partCount, partAt, alikeAt, Kin}
+use Rattle.type_parts.proofs.ReadLaws.{own-read, library-sound}
+use Rattle.type_parts.proofs.StepAt.{step-split}
+use Rattle.type_parts.proofs.KinLaws.{left-in, right-in, left-inside, right-inside}
 use Rattle.typ.proofs.Top.{differed}
 
 -- ---- two numbers read of each type

@@ -1,14 +1,8 @@
-pub mod Spans
-pub mod ReadLaws
-pub mod StepAt
-pub mod MemberRead
 pub mod ContentLaws
 pub mod Bits
 pub mod Zero
 pub mod Marked
 pub mod Passing
-pub mod Rank
 pub mod Cycle
 pub mod Top
 pub mod Early
-pub mod SignLaws

@@ -16,8 +16,9 @@ use Rattle.objects.proofs.ListLaws.{cases, clash, either}
 use Rattle.objects.proofs.KeyLaws.{key-eq}
 use Rattle.rules.specs.StepIdentity.{sameIn}
 use Rattle.rules.proofs.StepLaws.{same-less, same-self}
+use Rattle.type_parts.specs.Parts.{Kin}
 use Rattle.typ.specs.Marks.{met, meet}
-use Rattle.typ.specs.Compared.{pair, opened, Kin, Apart, Well, AllMet, NewMet, Leads, Grown, Compared, PartsCompared}
+use Rattle.typ.specs.Compared.{pair, opened, Apart, Well, AllMet, NewMet, Leads, Grown, Compared, PartsCompared}
 use Rattle.typ.proofs.Bits.{met-same, met-other, unmet-falls}
 
 pub length-meet : (l : List ℕ) (p : ℕ) → length (meet l p) ≡ length l

@@ -14,9 +14,9 @@ use Rattle.objects.proofs.ListLaws.{clash}
 use Rattle.objects.proofs.BoolLaws.{false-of}
 use Rattle.rules.specs.Identity.{ownNumber}
 use Rattle.rules.specs.StepIdentity.{sameIn}
-use Rattle.typ.specs.Parts.{partCount, partAt, alikeAt}
+use Rattle.type_parts.specs.Parts.{partCount, partAt, alikeAt}
+use Rattle.type_parts.proofs.StepAt.{PartSame, step-join, step-split}
 use Rattle.typ.specs.Compared.{Apart, Well, AllMet, NewMet, Leads, Grown, Compared, PartsCompared}
-use Rattle.typ.proofs.StepAt.{PartSame, step-join, step-split}
 use Rattle.typ.proofs.Marked.{grown-refl, grown-trans, all-less, new-none, new-more, leads-none, leads-more, leads-on}
 
 module _ (text : Bytes) (rows : Words) where

@@ -20,8 +20,9 @@ use Rattle.rules.specs.StepIdentity.{sameIn}
 use Rattle.rules.specs.Sound.{Sound}
 use Rattle.rules.proofs.StepLaws.{same-zero}
 use Rattle.rules.proofs.IdentityLaws.{identical-steps, identical-self}
+use Rattle.type_parts.specs.Parts.{Kin}
 use Rattle.typ.specs.Marks.{met, meet, unmet}
-use Rattle.typ.specs.Compared.{pairs, pairWords, pair, opened, Clean, WordClean, AllClean, Grown, Kin, Apart, Well, AllMet, NewMet, Leads, Compared, PartsCompared, State, Turn}
+use Rattle.typ.specs.Compared.{pairs, pairWords, pair, opened, Clean, WordClean, AllClean, Grown, Apart, Well, AllMet, NewMet, Leads, Compared, PartsCompared, State, Turn}
 use Rattle.typ.proofs.Bits.{met-other, unmet-falls}
 use Rattle.typ.proofs.Marked.{grown-meet, all-less, pair-one}
 

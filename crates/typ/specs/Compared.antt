@@ -7,9 +7,9 @@ use mathlib.Core.Logic.{_⊎_}
 use Prim.Native.Nat.{ℕ, suc, _+_, _*_, _<_, _≤_}
 use Rattle.objects.specs.declared.TypeKey.{TypeKey}
 use Rattle.objects.specs.Bounds.{maxTypes}
-use Rattle.objects.specs.Table.{Table, size, kindNumber, kindAt}
-use Rattle.rules.specs.Identity.{ownNumber}
+use Rattle.objects.specs.Table.{Table}
 use Rattle.rules.specs.StepIdentity.{sameIn}
+use Rattle.type_parts.specs.Parts.{Kin}
 use Rattle.typ.specs.Marks.{met, meet, unmet}
 
 -- how many pairs of types there may be
@@ -49,20 +49,13 @@ abbrev pub AllClean : List ℕ → Type 0
 AllClean l = (p : ℕ) → p < pairs → Clean l p
 
 module _ (T : Table) where
-  -- types of one kind and one own number
-  pub record Kin (x y : TypeKey) : Type 0 where
-    pub left : x .0 < size T
-    pub right : y .0 < size T
-    pub kinds : kindNumber (kindAt T x) ≡ kindNumber (kindAt T y)
-    pub owns : ownNumber x (kindAt T x) ≡ ownNumber y (kindAt T y)
-
   -- x and y differ along some chain
   abbrev pub Apart : TypeKey → TypeKey → Type 0
   Apart x y = (n : ℕ) × (sameIn T n x y ≡ false)
 
   -- every pair met is one of kin
   unfoldable pub Well : List ℕ → Type 0
-  Well l = (a b : TypeKey) → a .0 < maxTypes → b .0 < maxTypes → met l (pair a b) ≡ true → Kin a b
+  Well l = (a b : TypeKey) → a .0 < maxTypes → b .0 < maxTypes → met l (pair a b) ≡ true → Kin T a b
 
   -- every pair met agrees for n steps
   unfoldable pub AllMet : ℕ → List ℕ → Type 0

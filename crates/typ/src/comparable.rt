@@ -8,13 +8,13 @@ ghost use Rattle.objects.specs.Types.{firstRead};
 ghost use Rattle.rules.specs.Library.{Library};
 ghost use Rattle.rules.specs.Comparable.{comparable};
 ghost use Rattle.typ.specs.Contents.{mayCompare, contentCount, contentAt, MetComparable, Judged};
-use crate::basic::BasicType;
 use crate::marks::clear;
 use objects::ObjKey;
 use objects::Type;
 use objects::TypeKey;
 use objects::rows::member_type;
 use objects::rows::type_of;
+use type_parts::basic::BasicType;
 
 // A word for each type that there may be.
 const TYPES: usize = 256;

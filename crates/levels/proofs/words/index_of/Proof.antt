@@ -1,7 +1,7 @@
 -- `levels::words::index_of` meets its contract.
 use mathlib.Core.Path.{ap}
 use Prim.Native.Nat.{_%_}
-use Rattle.typ.specs.Sign.{signs}
+use Rattle.type_parts.specs.Sign.{signs}
 use Rattle.levels.specs.Words.{indexOf}
 use borrow.Author.Needs.{needs}
 use Rattle.levels.proofs.words.index_of.Statement.{statement}

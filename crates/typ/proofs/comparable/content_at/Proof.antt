@@ -1,8 +1,8 @@
 use borrow.Author.Needs.{needs}
 use mathlib.Core.Path.{_∙_}
 use native.Mathlib.Omega.{arith}
+use Rattle.type_parts.proofs.ReadLaws.{span-as}
 use Rattle.typ.specs.Contents.{contentIn}
-use Rattle.typ.proofs.ReadLaws.{span-as}
 use Rattle.typ.proofs.ContentLaws.{content-as}
 use Rattle.typ.proofs.comparable.content_at.Statement.{statement}
 use Rattle.typ.proofs.comparable.content_at.Tie as tie

@@ -5,11 +5,12 @@ use lib.ListN.{length}
 use borrow.Author.Needs.{needs}
 use borrow.Fn.Kinds.{In}
 use borrow.Fn.PlainCycle.{Measures, is, falls, and}
+use Rattle.type_parts.proofs.Rank.{rank, high}
+use Rattle.type_parts.proofs.KinLaws.{kin, left-in, right-in, left-place, right-place, left-inside, right-inside}
 use Rattle.typ.specs.Marks.{unmet}
 use Rattle.typ.proofs.Marked.{went-self, went-apart, went-parts}
 use Rattle.typ.proofs.Passing.{Passed, passed-none, at-end, at-name, at-differ, at-same}
-use Rattle.typ.proofs.Rank.{rank, high}
-use Rattle.typ.proofs.Cycle.{kinds-apart, owns-apart, kin, left-in, right-in, entered-not, entered-well, entered-went, entered-falls, left-place, right-place, left-inside, right-inside, part-falls, other-falls}
+use Rattle.typ.proofs.Cycle.{kinds-apart, owns-apart, entered-not, entered-well, entered-went, entered-falls, part-falls, other-falls}
 use Rattle.typ.proofs.identical.identical_impl.Reads as identical-impl
 use Rattle.typ.proofs.identical.identical_impl.Kinds as identical-impl-kinds
 use Rattle.typ.proofs.identical.+identical_impl+identical_impl_o.Lts-identical_impl as identical-impl-lts
@@ -20,13 +21,13 @@ use Rattle.typ.proofs.identical.enter.Reads as enter-reads
 use Rattle.typ.proofs.identical.less.Reads as less-reads
 use Rattle.typ.proofs.identical.several.Reads as several-reads
 use Rattle.objects.proofs.rows.kind_number.Reads as kind-number-reads
-use Rattle.typ.proofs.parts.alike_in.Reads as alike-in-reads
-use Rattle.typ.proofs.parts.nameless.Reads as nameless-reads
-use Rattle.typ.proofs.parts.own_number.Reads as own-number-reads
-use Rattle.typ.proofs.parts.part_in.Reads as part-in-reads
+use Rattle.type_parts.proofs.parts.alike_in.Reads as alike-in-reads
+use Rattle.type_parts.proofs.parts.nameless.Reads as nameless-reads
+use Rattle.type_parts.proofs.parts.own_number.Reads as own-number-reads
+use Rattle.type_parts.proofs.parts.part_in.Reads as part-in-reads
 use Rattle.objects.proofs.rows.type_word.Reads as type-word-reads
 use Rattle.objects.proofs.rows.first_member.Reads as first-member-reads
-use Rattle.typ.proofs.parts.part_count.Reads as part-count-reads
+use Rattle.type_parts.proofs.parts.part_count.Reads as part-count-reads
 use Rattle.typ.proofs.identical.+identical_impl+identical_impl_o.{statement}
 use Rattle.typ.proofs.identical.+identical_impl+identical_impl_o.Tie.{close}
 

@@ -3,7 +3,7 @@ use mathlib.Core.Path.{refl}
 use Prim.Native.Nat.{ℕ, _+_, _-_, _<_, _≤_}
 use native.Mathlib.Omega.{arith}
 use Rattle.objects.proofs.ListLaws.{clash}
-use Rattle.typ.proofs.Cycle.{left-place, right-place}
+use Rattle.type_parts.proofs.KinLaws.{left-place, right-place}
 use Rattle.typ.proofs.Early.{names-differ, parts-differ}
 use Rattle.typ.proofs.identical.apart.Statement.{statement}
 use Rattle.typ.proofs.identical.apart.Tie as tie

@@ -4,9 +4,9 @@ use native.Mathlib.Omega.{arith}
 use lib.ListN.{length}
 use borrow.Author.Tests.{not-true, not-false}
 use Rattle.objects.specs.Rows.{tableOf}
+use Rattle.type_parts.proofs.ReadLaws.{library-sound}
 use Rattle.typ.specs.Marks.{unmet}
 use Rattle.typ.specs.Compared.{State}
-use Rattle.typ.proofs.ReadLaws.{library-sound}
 use Rattle.typ.proofs.Marked.{well-none}
 use Rattle.typ.proofs.Top.{begun, differed, agreed, answered}
 use Rattle.typ.proofs.identical.decide.Statement.{statement}

@@ -2,9 +2,10 @@ use borrow.Author.Needs.{needs}
 use mathlib.Core.Path.{refl, sym, ap, _∙_}
 use Prim.Native.Nat.{ℕ}
 use lib.ListN.{replicate}
+use Rattle.type_parts.proofs.ReadLaws.{library-sound}
+use Rattle.type_parts.proofs.KinLaws.{kin}
 use Rattle.typ.proofs.Zero.{none-met}
-use Rattle.typ.proofs.ReadLaws.{library-sound}
-use Rattle.typ.proofs.Cycle.{kinds-apart, owns-apart, kin}
+use Rattle.typ.proofs.Cycle.{kinds-apart, owns-apart}
 use Rattle.typ.proofs.Top.{selfsame, differed}
 use Rattle.typ.proofs.identical.identical.Statement.{statement}
 use Rattle.typ.proofs.identical.identical.Tie as tie

@@ -1,0 +1,7 @@
+pub mod Spans
+pub mod ReadLaws
+pub mod StepAt
+pub mod MemberRead
+pub mod Rank
+pub mod KinLaws
+pub mod SignLaws
