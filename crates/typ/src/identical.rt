@@ -38,8 +38,8 @@ const PAIR_WORDS: usize = 2_048;
 const BITS: usize = 32;
 
 // So many levels may be nested before pairs are put off. Below the last such pair lie only arrays, slices, pointers and channels, whose numbers fall:
-// 1,256 levels at most. docs/ENTRY.md has what stack they take.
-const DEEP: usize = 1_000;
+// 506 levels at most. docs/ENTRY.md has what stack they take.
+const DEEP: usize = 250;
 
 fn less(deep: usize) -> usize {
     if deep == 0 { 0 } else { deep - 1 }
