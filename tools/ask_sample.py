@@ -1,11 +1,13 @@
 #!/usr/bin/env python3
 """Makes the stdin and stdout of the programs typeask_run and typeask: inputs of typeask, and what it prints.
 
-    ask_sample.py VECTORS CRATES
+    host/compare/target/release/random_inputs 1 3000 > RANDOM
+    ask_sample.py VECTORS RANDOM CRATES
 
 VECTORS has small, mixed and damaged (.in and .out): inputs of typeask with what it prints. Every k-th of each is taken. The edges of document 01 are
-added; what is due for them is said here, with the sentence of document 01 that decides it, and no program is asked. CRATES/typeask_run gets all of it, each
-input behind its length and each print behind its number; CRATES/typeask gets the example of document 01 alone.
+added; what is due for them is said here, with the sentence of document 01 that decides it, and no program is asked. RANDOM has random and damaged tables with
+one question each, and what goscript and document 01's refusals give for them. CRATES/typeask_run gets all of it, each input behind its length and each print
+behind its number; CRATES/typeask gets the example of document 01 alone.
 """
 import sys
 
@@ -28,6 +30,15 @@ def sample(vectors):
         # no more than 32,769 bytes of an input are read
         chosen += [(text[:32769], print_) for text, print_ in list(zip(inputs, prints))[::step]]
     return chosen
+
+
+def random(path):
+    parts, data = [], open(path, 'rb').read()
+    while data:
+        n = int(data[:5])
+        parts.append(data[6:6 + n])
+        data = data[6 + n:]
+    return list(zip(parts[::2], parts[1::2]))
 
 
 def lines(*ls):
@@ -273,8 +284,8 @@ def words(rows):
 
 
 def main():
-    vectors, crates = sys.argv[1:3]
-    rows = input_edges() + bound_edges() + set_edges() + refusal_edges() + more_edges() + sample(vectors)
+    vectors, stored, crates = sys.argv[1:4]
+    rows = input_edges() + bound_edges() + set_edges() + refusal_edges() + more_edges() + sample(vectors) + random(stored)
     with open(f'{crates}/typeask_run/stdin', 'wb') as inputs, open(f'{crates}/typeask_run/stdout', 'wb') as prints:
         for k, (text, print_) in enumerate(rows):
             inputs.write(b'%05d\n' % len(text) + text)

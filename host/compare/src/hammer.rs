@@ -11,6 +11,7 @@ use crate::prng::Prng;
 use crate::random::{self, Shape};
 use crate::refusals;
 use crate::table::Table;
+use crate::typeask::ANSWER_BYTES;
 use yifgrun::WORK_WORDS;
 
 /// What a call is asked and lent.
@@ -149,6 +150,14 @@ impl Hammer {
         let table = refusals::table(&call.table).map_err(refused)?;
         refusals::question(&table, &call.question).map_err(refused)?;
         Ok(self.answer(call, &table))
+    }
+
+    /// What `typeask` prints for the call's table and question; nothing if that is not known.
+    pub fn printed(&mut self, call: &Call) -> Option<String> {
+        Some(match self.due(call) {
+            Ok(answer) => answer.filter(|answer| answer.len() <= ANSWER_BYTES)?,
+            Err((number, line)) => format!("refused\t{number}\t{line}\n"),
+        })
     }
 
     fn answer(&mut self, call: &Call, table: &Table) -> Option<String> {

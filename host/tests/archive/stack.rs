@@ -101,11 +101,11 @@ fn rings() -> Deep {
     }
 }
 
-/// 31 interfaces, each with a func of its own that takes all of them in some order, so that a path through their pairs
+/// 14 interfaces, each with a func of its own that takes all of them in some order, so that a path through their pairs
 /// is longer than the levels that may be nested, and then one of two pointers: beside the last pair of the path, these
-/// are compared down a chain of 160, at whose end they differ.
+/// are compared down a chain of 211, at whose end they differ.
 fn long_path() -> Deep {
-    const IFACES: usize = 31;
+    const IFACES: usize = 14;
     const ENTRIES: usize = 120;
     const POINTERS: usize = 254 - 3 * IFACES;
     let mut numbers = Numbers(88_172_645_463_325_252);
