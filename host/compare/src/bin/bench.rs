@@ -6,7 +6,8 @@ use compare::tables::{cases, Case};
 use std::hint::black_box;
 use std::time::{Duration, Instant};
 
-/// A case is repeated so often at least, and until this much time is spent; the fastest run counts.
+/// A load is repeated so often at least, and until this much time is spent, as is each question for its share of the
+/// time; the fastest run counts.
 const RUNS: usize = 3;
 const SPENT: Duration = Duration::from_millis(300);
 
@@ -72,12 +73,14 @@ fn pass(text: &[u8]) -> bool {
 
 fn times(engine: &mut dyn Engine, case: &Case) -> Times {
     let load = fastest(|| load(engine, case));
-    let ask = fastest(|| {
-        for question in &case.questions {
+    let count = case.questions.len() as u32;
+    let mut ask = Duration::ZERO;
+    for question in &case.questions {
+        ask += fastest_in(SPENT / count, || {
             black_box(engine.ask(black_box(question)));
-        }
-    });
-    let average = ask / case.questions.len() as u32;
+        });
+    }
+    let average = ask / count;
     let kept = if engine.keeps_tables() {
         load
     } else {
@@ -117,11 +120,15 @@ fn load(engine: &mut dyn Engine, case: &Case) {
 }
 
 /// The time of the fastest of several runs.
-fn fastest(mut run: impl FnMut()) -> Duration {
+fn fastest(run: impl FnMut()) -> Duration {
+    fastest_in(SPENT, run)
+}
+
+fn fastest_in(spent: Duration, mut run: impl FnMut()) -> Duration {
     let start = Instant::now();
     let mut fastest = Duration::MAX;
     let mut runs = 0;
-    while runs < RUNS || start.elapsed() < SPENT {
+    while runs < RUNS || start.elapsed() < spent {
         let begin = Instant::now();
         run();
         fastest = fastest.min(begin.elapsed());

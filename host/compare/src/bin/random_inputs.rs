@@ -32,7 +32,9 @@ fn main() -> io::Result<()> {
             ..Call::new(seed, number)
         };
         let Some(input) = input(&call) else { continue };
-        let Some(print) = hammer.printed(&call) else { continue };
+        let Some(print) = hammer.printed(&call) else {
+            continue;
+        };
         for part in [&input, print.as_bytes()] {
             writeln!(out, "{:05}", part.len())?;
             out.write_all(part)?;
