@@ -12,7 +12,7 @@ use Rattle.objects.specs.Table.{Table}
 use Rattle.objects.specs.Rows.{Words, wordAt}
 use Rattle.method_levels.specs.declared.Span.{Span}
 use Rattle.method_levels.specs.Levels.{OnLevel, Blank, Spans}
-use Rattle.method_set.specs.Hits.{Copied}
+use Rattle.method_set.specs.AllLevels.{Copied}
 
 -- what is said of all types below i and of i is said of all below i + 1
 one-more : (P : ℕ → Type 0) (i : ℕ) → ((j : ℕ) → j ≡ i → P j) → ((j : ℕ) → (j ≡ i → ⊥) → j < i → P j) → (j : ℕ) → j < i + 1 → P j

@@ -1,39 +1,33 @@
 -- All levels: the rows of all names between two levels, from the first to the last.
-use mathlib.Core.Path.{_≡_, refl, sym, ap, _∙_, subst}
+use mathlib.Core.Path.{_≡_, sym, ap, _∙_, subst}
 use mathlib.Core.List.{[]}
-use Prim.Native.Nat.{ℕ, zero, suc, _+_, _*_, _≤_, _<_}
+use Prim.Native.Nat.{ℕ, suc, _+_, _*_, _≤_, _<_}
 use native.Mathlib.Omega.{arith}
 use lib.ListN.{length, replicate}
 use Rattle.objects.specs.Bounds.{selRow, selWords}
 use Rattle.objects.specs.Lists.{Bytes, upTo}
-use Rattle.objects.proofs.RowLaws.{size-read, under-read}
+use Rattle.objects.proofs.RowLaws.{size-read}
 use Rattle.objects.specs.declared.TypeKey.{TypeKey}
 use Rattle.objects.specs.Table.{Table, typeKey, objKey}
-use Rattle.objects.specs.Rows.{Words, wordAt, typeCount, tableOf}
+use Rattle.objects.specs.Rows.{Words, typeCount, tableOf}
 use Rattle.rules.specs.Library.{Library}
 use Rattle.rules.specs.Sound.{Sound}
 use Rattle.rules.proofs.Sounds.{loads-sound}
-use Rattle.rules.proofs.RangeLaws.{under-in}
 use Rattle.rules.specs.MethodSet.{settled, standing}
 use Rattle.method_levels.specs.Levels.{levelAt, OnLevel}
+use Rattle.method_levels.proofs.ReachLaws.{level-in}
+use Rattle.method_levels.proofs.StartLaws.{zero-blank}
 use Rattle.method_names.specs.Names.{identityAt}
-use Rattle.method_set.specs.Sets.{selWord}
-use Rattle.method_set.specs.Hits as model
-use Rattle.method_set.specs.Hits.{Small, Under}
-use Rattle.method_set.specs.Standings.{Key, Shows, Settled}
-use Rattle.method_set.proofs.Tallies.{none, one, gather}
-use Rattle.method_set.proofs.LevelTally.{settledBy, settled-tally, level-tally, atOwner}
-use Rattle.method_set.proofs.StandsLaws.{Stands, after, stands-shows, level-done}
-use Rattle.method_set.proofs.OverLevels.{in-table, endsOn, soFar, so-far, so-far-none, so-far-last, so-far-all}
-use Rattle.method_set.proofs.TypeHits.{types-add}
-
--- ---- the table
-
-pub under-table : (text : Bytes) (rows : Words) → Library text rows → Under rows
-under-table text rows lib = record {
-  within = λ u i.
-      rw (← under-read text rows u i, ← size-read text rows) (under-in (tableOf text rows) (loads-sound text (tableOf text rows) (lib .loads)) u (rw (size-read text rows) i));
-}
+use Rattle.method_reach.proofs.OwnedLaws.{under-table}
+use Rattle.method_hits.specs.Hits as model
+use Rattle.method_hits.specs.Hits.{selWord, Small}
+use Rattle.method_hits.specs.Standings.{Key, Shows}
+use Rattle.method_hits.proofs.Tallies.{none, one, gather}
+use Rattle.method_hits.proofs.LevelTally.{settledBy, settled-tally, level-tally, atOwner}
+use Rattle.method_hits.proofs.StandsLaws.{Stands, after, stands-shows, level-done}
+use Rattle.method_hits.proofs.OverLevels.{endsOn, soFar, so-far, so-far-none, so-far-last, so-far-all}
+use Rattle.method_hits.proofs.TypeHits.{types-add}
+use Rattle.method_set.specs.AllLevels.{Settled}
 
 -- ---- between levels
 
@@ -41,16 +35,9 @@ pub record Doing (text : Bytes) (rows : Words) (t : TypeKey) (index sels level f
   pub on : OnLevel (tableOf text rows) t d level first
   pub stands : (k : ℕ) → Key text rows t index k → Stands (tableOf text rows) t (selWord sels (objKey k)) d (soFar (tableOf text rows) (identityAt text rows k) t d) none
 
-zero-word : (n i : ℕ) → wordAt (replicate n 0) i ≡ 0
-unfolding wordAt
-zero-word zero zero = refl
-zero-word zero (suc i) = refl
-zero-word (suc n) zero = refl
-zero-word (suc n) (suc i) = zero-word n i
-
 zero-sel : (sels : Words) (k j : ℕ) → sels ≡ replicate (length sels) 0 → selWord sels (objKey k) j ≡ 0
 unfolding selWord
-zero-sel sels k j z = ap (λ s. wordAt s (selRow * k + j)) z ∙ zero-word (length sels) (selRow * k + j)
+zero-sel sels k j z = zero-blank sels z .none (selRow * k + j)
 
 module _ (text : Bytes) (rows : Words) (lib : Library text rows) (t : TypeKey) (there : t .0 < typeCount rows) (index : Words) (small : Small rows index) where
   abbrev T : Table
@@ -80,7 +67,7 @@ module _ (text : Bytes) (rows : Words) (lib : Library text rows) (t : TypeKey) (
           let W = levelAt T t d .walks in
           let hits = types-add text rows (lib .laid) t d level first index (doing .on) small k key (under-table text rows lib) (typeCount rows) (omega arith) sels l (doing .stands k key) in
           let all : gather one (endsOn T q t d) ≡ gather (λ i. atOwner T q W (typeKey i)) (upTo (typeCount rows)) =
-          level-tally T q W (typeCount rows) (λ w i. rw (← size-read text rows) (in-table T sound t (rw (size-read text rows) there) d w i)) in
+          level-tally T q W (typeCount rows) (λ w i. rw (← size-read text rows) (level-in T sound t (rw (size-read text rows) there) d w i)) in
           let now : settledBy T (gather (λ i. atOwner T q W (typeKey i)) (upTo (typeCount rows))) ≡ settled T (endsOn T q t d) = ap (settledBy T) (sym all) ∙ sym (settled-tally T (endsOn T q t d)) in
           subst (λ s. Stands T t (selWord sels′ (objKey k)) (suc d) s none) (ap (after (soFar T q t d)) now ∙ sym (so-far T q t d))
           (level-done T t (selWord sels′ (objKey k)) d (soFar T q t d) (gather (λ i. atOwner T q W (typeKey i)) (upTo (typeCount rows)))

@@ -6,27 +6,30 @@ use mathlib.Core.Logic.{_⊎_, inl, inr}
 use Prim.Native.Nat.{ℕ, zero, suc, _<_}
 use lib.ListN.{take}
 use Rattle.objects.specs.Lists.{Bytes, keep, flat, In, Sorted}
-use Rattle.objects.proofs.ListLaws.{cases, clash, either, In-keep, In-map, In-flat}
+use Rattle.objects.proofs.ListLaws.{cases, clash, either, In-keep, In-append, In-map, In-flat}
+use Rattle.objects.proofs.KindLaws.{if-In}
 use Rattle.objects.proofs.RowLaws.{size-read, method-meant}
 use Rattle.objects.specs.declared.TypeKey.{TypeKey}
-use Rattle.objects.specs.Table.{Table, Member, objKey, size, isMethod, hasPtr}
-use Rattle.objects.specs.Rows.{Words, typeCount, memberAt, tableOf}
+use Rattle.objects.specs.Table.{Table, Member, objKey, size, isMethod, hasPtr, isStruct, isNamed, isIface, membersOf, fieldsOf, declaredOf, allMethodsOf, allMethods, kindAt, under}
+use Rattle.objects.specs.Rows.{Words, typeCount, memberCountOf, memberAt, tableOf}
 use Rattle.objects.specs.Types.{methodRead}
 use Rattle.text.proofs.ByteLaws.{below-irrefl, below-trans}
 use Rattle.rules.specs.Library.{Library}
-use Rattle.rules.specs.Sound.{Sound}
+use Rattle.rules.specs.Sound.{Sound, MemberOf}
 use Rattle.rules.proofs.Sounds.{loads-sound}
 use Rattle.rules.specs.Members.{Identity, identityOf, sameId, idBytes}
 use Rattle.rules.proofs.MemberLaws.{sameId-true}
 use Rattle.rules.proofs.MethodNames.{Lower, names-ascend}
-use Rattle.rules.specs.Ways.{Place, Walk, Way, memberOf, owned, ends}
+use Rattle.rules.specs.Ways.{Place, Walk, Way, memberOf, placesFrom, fieldPlaces, owned, ends}
 use Rattle.rules.specs.MethodSet.{Standing, absent, hidden, given, listed, methodFlag, settled, standing, methodNames}
+use Rattle.ways.proofs.TableLaws.{places-from}
 use Rattle.method_levels.specs.Levels.{levelAt}
+use Rattle.method_levels.proofs.ReachLaws.{level-in}
 use Rattle.method_names.specs.Names.{identityAt, NamesHeld}
-use Rattle.method_set.specs.Reach.{Met, Wanted}
-use Rattle.method_set.proofs.StandsLaws.{after}
-use Rattle.method_set.proofs.OverLevels.{in-table, endsOn, soFar, so-far, so-far-none, so-far-all}
-use Rattle.method_set.proofs.ReachLaws.{owned-at}
+use Rattle.method_names.proofs.KeyMembers.{member-is, key-below}
+use Rattle.method_reach.specs.Reach.{Met, Wanted}
+use Rattle.method_hits.proofs.StandsLaws.{after}
+use Rattle.method_hits.proofs.OverLevels.{endsOn, soFar, so-far, so-far-none, so-far-all}
 
 -- ---- a part of a list in strict order
 
@@ -87,6 +90,21 @@ module _ (text : Bytes) (rows : Words) (lib : Library text rows) (t : TypeKey) (
   sound : Sound T
   sound = loads-sound text T (lib .loads)
 
+  -- a member that a type owns is the one of its number
+  owned-at : (u : TypeKey) (p : Place) → In p (owned T u) → (p .member .key .0 < memberCountOf rows) × (p .member ≡ memberAt text rows (objKey (p .member .key .0)))
+  unfolding owned allMethods
+  owned-at u p i =
+      let K = kindAt T u in
+      let U = kindAt T (under T u) in
+      either (In-append (placesFrom 0 (declaredOf K) ++ fieldPlaces T u) (placesFrom 0 (allMethodsOf U)) p i)
+      (λ ab. either (In-append (placesFrom 0 (declaredOf K)) (fieldPlaces T u) p ab)
+      (λ a. known u (if-In (isNamed K) (membersOf K) (p .member) (places-from 0 (declaredOf K) p a .1) .1))
+      (λ b. known (under T u) (if-In (isStruct U) (membersOf U) (p .member) (places-from 0 (fieldsOf U) p b .1) .1)))
+      (λ c. known (under T u) (if-In (isIface U) (membersOf U) (p .member) (places-from 0 (allMethodsOf U) p c .1) .1))
+    where
+      known : (v : TypeKey) → MemberOf T v (p .member) → (p .member .key .0 < memberCountOf rows) × (p .member ≡ memberAt text rows (objKey (p .member .key .0)))
+      known v j = (key-below text rows lib v (p .member) j, member-is text rows v (p .member) j)
+
   module _ (wanted names : Words) (n : ℕ) (want : Wanted text rows t wanted) (held : NamesHeld text rows wanted names n) where
     abbrev ours : List Identity
     ours = map (identityAt text rows) (take n names)
@@ -102,9 +120,9 @@ module _ (text : Bytes) (rows : Words) (lib : Library text rows) (t : TypeKey) (
       where
         at : (d : ℕ) (v : Walk) (p : Place) → In v (levelAt T t d .walks) → In p (owned T (v .at)) → sameId (identityOf T (p .member)) q ≡ true → isMethod (p .member .entity) ≡ true → In q ours
         at d v p i o same method =
-            let l : v .at .0 < typeCount rows = rw (← size-read text rows) (in-table T sound t (rw (size-read text rows) there) d v i) in
+            let l : v .at .0 < typeCount rows = rw (← size-read text rows) (level-in T sound t (rw (size-read text rows) there) d v i) in
             let k = p .member .key .0 in
-            let r = owned-at text rows lib (v .at) l p o in
+            let r = owned-at (v .at) p o in
             let e : p .member ≡ memberAt text rows (objKey k) = r .1 in
             let isOne : methodRead rows (objKey k) ≡ true = sym (method-meant text rows (objKey k)) ∙ ap (λ (m : Member). isMethod (m .entity)) (sym e) ∙ method in
             let met : Met text rows t k = record { level = d; walk = v; at = p; stands = i; owns = o; key = refl } in

@@ -1,16 +1,6 @@
 pub mod LineLaws
-pub mod CodeLaws
-pub mod Tallies
-pub mod LevelTally
-pub mod StandsLaws
-pub mod RowHits
-pub mod OverLevels
-pub mod HitLaws
-pub mod TypeHits
 pub mod CarryLaws
 pub mod DoingLaws
-pub mod QueueLaws
-pub mod ReachLaws
 pub mod ListedLaws
 pub mod GivenLaws
 pub mod SetLaws

@@ -11,7 +11,8 @@ use Rattle.objects.specs.Table.{typeKey}
 use Rattle.objects.specs.Rows.{Words}
 use Rattle.objects.proofs.PartLaws.{length-snoc}
 use Rattle.method_levels.specs.Levels.{placesTo, firstWord}
-use Rattle.method_set.specs.Sets.{selWord, selAt}
+use Rattle.method_hits.specs.Hits.{selWord}
+use Rattle.method_set.specs.Sets.{selAt}
 
 pub places-length : (first : Words) (d : ℕ) (u : TypeKey) → length (placesTo first d u) ≡ d
 unfolding placesTo

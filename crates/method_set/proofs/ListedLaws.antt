@@ -13,8 +13,8 @@ use Rattle.objects.specs.declared.TypeKey.{TypeKey}
 use Rattle.objects.specs.Table.{objKey, bit}
 use Rattle.objects.specs.Rows.{Words, wordAt}
 use Rattle.objects.specs.Types.{numberRead, pointerRead, bareRead, namedPointerRead}
-use Rattle.method_set.specs.Sets.{selWord}
-use Rattle.method_set.specs.Hits.{emptyRead, isGiven, pushed}
+use Rattle.method_hits.specs.Hits.{selWord}
+use Rattle.method_set.specs.Sets.{emptyRead, isGiven, pushed}
 
 -- ---- one more
 

@@ -29,11 +29,12 @@ use Rattle.rules.specs.MethodSet.{Standing, absent, hidden, given, listed, stan
 use Rattle.rules.specs.Answer.{selOf}
 use Rattle.ways.proofs.TableLaws.{bare-in}
 use Rattle.method_names.specs.Names.{identityAt, NamesHeld, Indexed}
-use Rattle.method_set.specs.Sets.{selWord, selAt, selNumbers, SetHeld}
-use Rattle.method_set.specs.Hits.{Small, emptyRead, isGiven}
-use Rattle.method_set.specs.Reach.{Met, Wanted}
-use Rattle.method_set.specs.Standings.{GivenRow, Shows, Key, Settled}
-use Rattle.method_set.proofs.DoingLaws.{under-table}
+use Rattle.method_reach.specs.Reach.{Met, Wanted}
+use Rattle.method_reach.proofs.OwnedLaws.{under-table}
+use Rattle.method_hits.specs.Hits.{selWord, Small}
+use Rattle.method_hits.specs.Standings.{GivenRow, Shows, Key}
+use Rattle.method_set.specs.Sets.{selAt, selNumbers, SetHeld, emptyRead, isGiven}
+use Rattle.method_set.specs.AllLevels.{Settled}
 use Rattle.method_set.proofs.GivenLaws.{names-enough}
 
 -- ---- the keys of names

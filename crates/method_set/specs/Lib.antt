@@ -1,4 +1,2 @@
 pub mod Sets
-pub mod Hits
-pub mod Reach
-pub mod Standings
+pub mod AllLevels

@@ -7,15 +7,15 @@ ghost use Rattle.objects.specs.Lists.{keep};
 ghost use Rattle.objects.specs.Table.{bit};
 ghost use Rattle.objects.specs.Rows.{typeCount};
 ghost use Rattle.rules.specs.Library.{Library};
-ghost use Rattle.method_set.specs.Sets.{selWord, selAt, SetHeld};
-ghost use Rattle.method_set.specs.Hits.{emptyRead, isGiven, pushed};
+ghost use Rattle.method_hits.specs.Hits.{selWord};
+ghost use Rattle.method_set.specs.Sets.{selAt, SetHeld, emptyRead, isGiven, pushed};
 use crate::all_levels::levels;
-use crate::reach::reach;
-use crate::words::put;
-use crate::words::sel_word;
+use method_hits::words::sel_word;
 use method_levels::first_level;
 use method_levels::places;
 use method_names::method_names;
+use method_reach::put;
+use method_reach::reach;
 use objects::ObjKey;
 use objects::TypeKey;
 use objects::rows::bare;
@@ -25,9 +25,6 @@ use objects::rows::pointer_at;
 use objects::rows::word;
 
 mod all_levels;
-mod hits;
-mod reach;
-mod words;
 
 // ---- what is given
 

@@ -15,7 +15,8 @@ use Rattle.text.specs.Bytes.{ascii}
 use Rattle.print.specs.Written.{numberLine, written, Wrote}
 use Rattle.print.proofs.LineLaws.{line-short}
 use Rattle.print.proofs.WrittenLaws.{written-more, written-nothing, then-wrote, wrote-as}
-use Rattle.method_set.specs.Sets.{selWord, selAt}
+use Rattle.method_hits.specs.Hits.{selWord}
+use Rattle.method_set.specs.Sets.{selAt}
 use Rattle.rules.specs.Asked.{fitted}
 use Rattle.reply.specs.declared.Done.{Done}
 use Rattle.reply.specs.Done.{Does}

@@ -8,7 +8,8 @@ use Rattle.objects.specs.Rows.{Words}
 use Rattle.objects.specs.Table.{objKey}
 use Rattle.text.specs.Bytes.{ascii}
 use Rattle.print.specs.Written.{numberLine}
-use Rattle.method_set.specs.Sets.{selWord, selAt}
+use Rattle.method_hits.specs.Hits.{selWord}
+use Rattle.method_set.specs.Sets.{selAt}
 
 -- a line has fewer bytes than this
 abbrev pub maxLine : ℕ

@@ -4,7 +4,7 @@ ghost use Prim.Native.Nat.{_+_, _*_, _≤_, _<_};
 ghost use lib.ListN.{length, take};
 ghost use Rattle.objects.specs.Bounds.{maxMembers, maxPlaces};
 ghost use Rattle.objects.specs.Table.{objKey};
-ghost use Rattle.method_set.specs.Sets.{selWord};
+ghost use Rattle.method_hits.specs.Hits.{selWord};
 ghost use Rattle.print.specs.Written.{Wrote};
 ghost use Rattle.rules.specs.Asked.{fitted};
 ghost use Rattle.reply.specs.Done.{Does};

@@ -3,7 +3,7 @@ use Prim.Native.Nat.{_-_, _≤_}
 use native.Mathlib.Omega.{arith}
 use lib.ListN.{length, take}
 use Rattle.objects.specs.Lists.{keep}
-use Rattle.method_set.specs.Hits.{isGiven}
+use Rattle.method_set.specs.Sets.{isGiven}
 use Rattle.method_set.proofs.ListedLaws.{listed-more, listed-end}
 use borrow.Author.Needs.{needs}
 use Rattle.method_set.proofs.listed.Statement.{statement}

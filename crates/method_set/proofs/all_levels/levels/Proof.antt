@@ -4,7 +4,8 @@ use native.Mathlib.Omega.{arith}
 use lib.ListN.{length}
 use Rattle.objects.specs.Rows.{typeCount}
 use Rattle.method_levels.specs.Levels.{Blank, Spans}
-use Rattle.method_set.proofs.DoingLaws.{Doing, doing-start, doing-more, doing-end, doing-stop, under-table}
+use Rattle.method_reach.proofs.OwnedLaws.{under-table}
+use Rattle.method_set.proofs.DoingLaws.{Doing, doing-start, doing-more, doing-end, doing-stop}
 use borrow.Author.Needs.{needs}
 use Rattle.method_set.proofs.all_levels.levels.Statement.{statement}
 use Rattle.method_set.proofs.all_levels.levels.Tie as tie

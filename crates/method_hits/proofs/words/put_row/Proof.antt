@@ -1,0 +1,70 @@
+use Prim.Native.Nat.{_*_}
+use Rattle.method_hits.proofs.CodeLaws.{row-put}
+use borrow.Author.Needs.{needs}
+use Rattle.method_hits.proofs.words.put_row.Statement.{statement}
+use Rattle.method_hits.proofs.words.put_row.Tie as tie
+
+cast-at : tie.Need-cast-at
+cast-at c = search needs
+
+mul-at : tie.Need-mul-at
+mul-at c = search needs
+
+put-requires : tie.Need-put-requires
+put-requires c κs = search needs
+
+add-put : tie.Need-add-put
+add-put c = search needs
+
+put-requires-2 : tie.Need-put-requires-2
+put-requires-2 c κs = search needs
+
+add-put-2 : tie.Need-add-put-2
+add-put-2 c = search needs
+
+put-requires-3 : tie.Need-put-requires-3
+put-requires-3 c κs = search needs
+
+add-put-3 : tie.Need-add-put-3
+add-put-3 c = search needs
+
+put-requires-4 : tie.Need-put-requires-4
+put-requires-4 c κs = search needs
+
+add-put-4 : tie.Need-add-put-4
+add-put-4 c = search needs
+
+put-requires-5 : tie.Need-put-requires-5
+put-requires-5 c κs = search needs
+
+add-put-5 : tie.Need-add-put-5
+add-put-5 c = search needs
+
+put-requires-6 : tie.Need-put-requires-6
+put-requires-6 c κs = search needs
+
+same-length : tie.Need-same-length
+same-length c = search needs
+
+returns : tie.Need-returns
+returns c = row-put ((c .before .before .before .before .before .before .before .before .before .before .before .before .before .before .before .before .before .before .before .before .before .before .before .before .before .before .args .sels .now)) (6 * ((c .before .before .before .before .before .before .before .before .before .before .before .before .before .before .before .before .before .before .before .before .before .before .before .before .before .before .args .k .0))) _ _ _ _ _ _ _ _ _ _ _ _ ((c .before .before .before .before .before .before .before .before .before .before .before .before .before .before .before .before .before .before .before .before .before .before .put .ensures)) ((c .before .before .before .before .before .before .before .before .before .before .before .before .before .before .before .before .before .before .put2 .ensures)) ((c .before .before .before .before .before .before .before .before .before .before .before .before .before .before .put3 .ensures)) ((c .before .before .before .before .before .before .before .before .before .before .put4 .ensures)) ((c .before .before .before .before .before .before .put5 .ensures)) ((c .before .before .put6 .ensures))
+
+pub put-row-spec : {M : Type 1} → statement M
+put-row-spec =
+    tie.close
+    (tie.spec
+    cast-at
+    mul-at
+    put-requires
+    add-put
+    put-requires-2
+    add-put-2
+    put-requires-3
+    add-put-3
+    put-requires-4
+    add-put-4
+    put-requires-5
+    add-put-5
+    put-requires-6
+    same-length
+    returns)

@@ -1,0 +1,3 @@
+pub mod OwnedLaws
+pub mod QueueLaws
+pub mod ReachLaws
