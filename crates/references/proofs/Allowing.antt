@@ -5,7 +5,7 @@ use mathlib.Core.List.{List, [], _∷_, _++_}
 use Prim.Native.Nat.{ℕ, suc, _+_, _-_, _<_, _≤_}
 use native.Mathlib.Omega.{arith}
 use lib.Dec.{eqb, ltb}
-use borrow.Author.Tests.{eq-eqb, ne-eqb, eqb-true}
+use borrow.Author.Tests.{eq-eqb, ne-eqb, eqb-true, lt-ltb}
 use Rattle.objects.specs.declared.TypeKey.{TypeKey}
 use Rattle.objects.specs.declared.ObjKey.{ObjKey}
 use Rattle.objects.specs.Lists.{Bytes, every}
@@ -19,7 +19,7 @@ use Rattle.objects.proofs.RowLaws.{number-read, kind-beyond, under-read, bare-r
 use Rattle.rules.specs.Checks.{mayRefer, smallerTuple, endsInSlice, mayName, typeAllowed, mayEmbed, mayHave, memberAllowed}
 use Rattle.references.specs.declared.Test.{Test}
 use Rattle.references.specs.Tests.{passes}
-use Rattle.references.proofs.RowKinds.{there, tuple-row, func-row, struct-row, named-row}
+use Rattle.references.proofs.RowKinds.{there, tuple-word, tuple-row, func-row, struct-row, named-row}
 
 -- ---- readers that know where the table ends
 
@@ -76,6 +76,13 @@ module _ (T : Table) (t e : TypeKey) {k : ℕ} (p : k ≡ kindNumber (kindAt T e
 
   pub tuple-smaller : {r : Bool} → r ≡ eqb k 6 && ltb (e .0) (t .0) → r ≡ smallerTuple T t e
   tuple-smaller q = q ∙ rw p
+
+-- a reference to a smaller number, by the word of its kind
+pub smaller-refers : (text : Bytes) (rows : Words) (t e : TypeKey) → t .0 < typeCount rows → e .0 < t .0
+    → {k : ℕ} → k ≡ typeWord rows e 0 → not (eqb k 6) ≡ mayRefer (tableOf text rows) t e
+smaller-refers text rows t e h l p =
+    rw (lt-ltb (e .0) (t .0) l)
+    (ap not (tuple-word rows e p ∙ ap (λ n. eqb n 6) (sym (number-read text rows e (omega arith)))) ∙ sym (and-yes _))
 
 -- neither of two kinds: named or tuple, pointer or iface
 module _ (a b : ℕ) {k n : ℕ} (p : k ≡ n) where

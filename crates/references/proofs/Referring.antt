@@ -1,8 +1,9 @@
 -- What the table has (7), and each reference of a T line put to a test.
 use mathlib.Core.Path.{_≡_, sym, ap, _∙_}
 use mathlib.Core.Bool.{Bool, true, false, _&&_}
-use mathlib.Core.List.{[], _∷_}
+use mathlib.Core.List.{List, [], _∷_}
 use Prim.Native.Nat.{ℕ, _+_, _-_, _<_, _≤_}
+use native.Mathlib.Omega.{arith}
 use lib.Dec.{ltb}
 use lib.ListN.{drop}
 use borrow.Author.Tests.{ne-eqb}
@@ -13,9 +14,10 @@ use Rattle.objects.specs.Lists.{Bytes, every}
 use Rattle.objects.specs.Table.{Table, Kind, refs, hasType, hasPackage, kindNumber, kindAt}
 use Rattle.objects.specs.Rows.{Words, typeCount, packageCount, memberWord, pkgOf, elementAt, elementsFrom, memberAt, tableOf}
 use Rattle.objects.specs.Types.{typeRead, kindMeant, numberRead, firstRead, totalRead, memberTypeRead}
-use Rattle.objects.proofs.BoolLaws.{and-yes}
-use Rattle.objects.proofs.PartLaws.{every-next, every-end}
-use Rattle.objects.proofs.RowLaws.{size-read, package-count-read, kind-read, number-read, type-meant, elements-length, elements-at}
+use Rattle.objects.proofs.ListLaws.{clash}
+use Rattle.objects.proofs.BoolLaws.{and-yes, false-of}
+use Rattle.objects.proofs.PartLaws.{every-In, every-next, every-end}
+use Rattle.objects.proofs.RowLaws.{size-read, package-count-read, kind-read, number-read, type-meant, elements-length, elements-at, elements-have}
 use Rattle.rules.specs.Checks.{mayRefer}
 use Rattle.references.specs.declared.Test.{Test}
 use Rattle.references.specs.Tests.{passes}
@@ -52,6 +54,16 @@ module _ (T : Table) (t e : TypeKey) {test : Test} {a : Bool} where
   unfolding passes
   forbidden-passes q p = rw q p
 
+-- and a list of them
+module _ (T : Table) (t : TypeKey) (l : List TypeKey) {test : Test} {a : Bool} where
+  pub lacking-all : test ≡ Test.Lacking → a ≡ every (hasType T) l → a ≡ every (passes T test t) l
+  unfolding passes
+  lacking-all q p = rw q p
+
+  pub forbidden-all : test ≡ Test.Forbidden → a ≡ every (mayRefer T t) l → a ≡ every (passes T test t) l
+  unfolding passes
+  forbidden-all q p = rw q p
+
 -- ---- those of a T line
 
 pub meant : (text : Bytes) (rows : Words) (t : TypeKey) → t .0 < typeCount rows → {r x : «Type»} → r ≡ typeRead rows t → r ≡ x → kindAt (tableOf text rows) t ≡ kindMeant text rows x
@@ -75,20 +87,34 @@ tuple-refs p text rows t h pr q pa =
     let six : numberRead rows t ≡ 6 = sym (number-read text rows t h) ∙ ap kindNumber (meant text rows t h pr q) in
     pa ∙ rw (tuple-row text rows t h six)
 
--- ---- those of a tuple, one after the other
+-- ---- those of a tuple, from the last to the first
 
-module _ (p : TypeKey → Bool) (text : Bytes) (rows : Words) (first n i : ℕ) where
-  pub elements-end : n ≤ i → every p (drop i (elementsFrom text rows first n)) ≡ true
-  elements-end h = every-end p (elementsFrom text rows first n) i (rw (elements-length text rows first n) h)
+module _ (p : TypeKey → Bool) (text : Bytes) (rows : Words) (first n : ℕ) where
+  pub elements-none : true ≡ every p (drop n (elementsFrom text rows first n))
+  elements-none = sym (every-end p (elementsFrom text rows first n) n (omega (arith, elements-length text rows first n)))
 
-  module _ (h : i < n) {f : ℕ} (pf : f ≡ first) {e : TypeKey} (pe : e ≡ elementAt rows (f + i)) {a : Bool} (pa : a ≡ p e) where
-    next : every p (drop i (elementsFrom text rows first n)) ≡ a && every p (drop (i + 1) (elementsFrom text rows first n))
-    next =
-        every-next p (elementsFrom text rows first n) i e (rw (elements-length text rows first n) h) (elements-at text rows first n i e h ∙ sym (pe ∙ rw pf))
-        ∙ ap (λ b. b && every p (drop (i + 1) (elementsFrom text rows first n))) (sym pa)
+  pub elements-all : (i : ℕ) → i ≤ 0 → every p (drop i (elementsFrom text rows first n)) ≡ every p (elementsFrom text rows first n)
+  elements-all i h = let z : i ≡ 0 = omega arith in rw z
 
-    pub elements-on : a ≡ true → every p (drop i (elementsFrom text rows first n)) ≡ every p (drop (i + 1) (elementsFrom text rows first n))
-    elements-on y = next ∙ rw y
+  -- e stands next before those from i on
+  module _ (i : ℕ) (some : 0 < i) (h : i ≤ n) {e : TypeKey} (pe : e ≡ elementAt rows (first + (i - 1))) {a : Bool} (pa : a ≡ p e) where
+    pub elements-on : {b : Bool} → b ≡ every p (drop i (elementsFrom text rows first n)) → {r : Bool} → r ≡ a && b → r ≡ every p (drop (i - 1) (elementsFrom text rows first n))
+    elements-on pb pr = pr ∙ rw (pa, pb) (sym next)
+      where
+        same : i - 1 + 1 ≡ i
+        same = omega arith
 
-    pub elements-stop : a ≡ false → every p (drop i (elementsFrom text rows first n)) ≡ false
-    elements-stop y = next ∙ rw y
+        next : every p (drop (i - 1) (elementsFrom text rows first n)) ≡ p e && every p (drop i (elementsFrom text rows first n))
+        next =
+            every-next p (elementsFrom text rows first n) (i - 1) e (omega (arith, elements-length text rows first n)) (elements-at text rows first n (i - 1) e (omega arith) ∙ sym pe)
+            ∙ ap (λ j. p e && every p (drop j (elementsFrom text rows first n))) same
+
+    pub elements-stop : a ≡ false → every p (elementsFrom text rows first n) ≡ false
+    elements-stop y =
+        false-of (every p (elementsFrom text rows first n))
+        (λ z. clash (every-In p (elementsFrom text rows first n) e z (rw pe (elements-have text rows first n (i - 1) (omega arith)))) (sym pa ∙ y))
+
+-- those that t has
+pub elements-of : (p : TypeKey → Bool) (text : Bytes) (rows : Words) (t : TypeKey) {first n : ℕ} → first ≡ firstRead rows t → n ≡ totalRead rows t
+    → {r : Bool} → r ≡ every p (elementsFrom text rows first n) → r ≡ every p (elementsFrom text rows (firstRead rows t) (totalRead rows t))
+elements-of p text rows t pf pn pr = pr ∙ rw (pf, pn)

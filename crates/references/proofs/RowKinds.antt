@@ -5,7 +5,7 @@ use Prim.Native.Nat.{ℕ, _+_, _<_, _≤_}
 use native.Mathlib.Omega.{arith}
 use lib.Dec.{eqb, ltb}
 use lib.ListN.{length, getD}
-use borrow.Author.Tests.{ltb-true, ltb-false, lt-ltb, le-ltb, eqb-true}
+use borrow.Author.Tests.{ltb-true, ltb-false, lt-ltb, le-ltb, eqb-true, ne-eqb}
 use Rattle.objects.specs.declared.TypeKey.{TypeKey}
 use Rattle.objects.specs.Bounds.{maxElements}
 use Rattle.objects.specs.Lists.{Bytes}
@@ -40,6 +40,14 @@ module _ (rows : Words) (t : TypeKey) where
       cases (ltb (typeWord rows t 0) 10)
       (λ b. let l = ltb-true (typeWord rows t 0) 10 b in rw b (omega arith))
       (λ b. rw b (omega arith))
+
+  -- the word of a tuple's kind is its number
+  pub tuple-word : {k : ℕ} → k ≡ typeWord rows t 0 → eqb k 6 ≡ eqb (numberRead rows t) 6
+  unfolding numberRead numberOf
+  tuple-word {k} p =
+      cases (ltb k 10)
+      (λ b. rw (← p, b))
+      (λ b. let l = ltb-false k 10 b in rw (← p, b, ne-eqb k 6 (λ e. omega arith)))
 
 -- ---- the kind, by its number
 
@@ -86,15 +94,19 @@ module _ (rows : Words) (t : TypeKey) {k : ℕ} (p : k ≡ numberRead rows t) wh
 -- ---- members and elements are there
 
 module _ (rows : Words) (laid : Laid rows) (t : TypeKey) (h : t .0 < typeCount rows) where
-  pub places-fit : firstRead rows t + totalRead rows t ≤ maxElements
+  places-end : (n : ℕ) → memberCountOf rows ≤ n → elementCount rows ≤ n → firstRead rows t + totalRead rows t ≤ n
   unfolding firstRead totalRead endOf
-  places-fit =
+  places-end n m k =
       let w = laid .within t h in
-      let a = laid .elements in
-      let b = laid .members in
       cases (eqb (typeWord rows t 0) 6)
       (λ e. let v : typeWord rows t 4 + typeWord rows t 5 ≤ elementCount rows = rw e at w in omega arith)
       (λ e. let v : typeWord rows t 4 + typeWord rows t 5 ≤ memberCountOf rows = rw e at w in omega arith)
+
+  pub places-fit : firstRead rows t + totalRead rows t ≤ maxElements
+  places-fit = let m = laid .members in places-end maxElements (omega arith) (laid .elements)
+
+  pub places-there : firstRead rows t + totalRead rows t ≤ length rows
+  places-there = let l = laid .long in places-end (length rows) (omega arith) (omega arith)
 
   pub lines-fit : firstRead rows t + linesRead rows t ≤ maxElements
   unfolding linesRead

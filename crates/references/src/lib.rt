@@ -26,6 +26,7 @@ use objects::rows::type_count;
 use objects::rows::type_word;
 
 pub mod refs; // what a line refers to
+pub mod elements; // a tuple's elements
 pub mod allowed; // what it may refer to
 
 // The test of refusal 7, or of 8.

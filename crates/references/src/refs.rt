@@ -1,22 +1,19 @@
 // What a line refers to, each reference put to the test.
-ghost use mathlib.Core.Path.{_≡_};
 ghost use mathlib.Core.Bool.{_&&_};
 ghost use Prim.Native.Nat.{_<_};
-ghost use Rattle.objects.specs.Lists.{Bytes, every};
+ghost use Rattle.objects.specs.Lists.{every};
 ghost use Rattle.objects.specs.Table.{kindAt, refs, hasType, hasPackage};
-ghost use Rattle.objects.specs.Rows.{typeCount, pkgOf, elementsFrom, tableOf};
-ghost use Rattle.objects.specs.Types.{firstRead, totalRead};
+ghost use Rattle.objects.specs.Rows.{typeCount, pkgOf};
 ghost use Rattle.objects.specs.Laid.{Laid};
-ghost use Rattle.references.specs.Lines.{Says, SaysOf};
+ghost use Rattle.references.specs.Lines.{Says, SaysOf, SaysEach};
 ghost use Rattle.references.specs.Tests.{passes};
 use crate::Test;
 use crate::allowed::may_refer;
+use crate::elements::elements_allowed;
+use crate::elements::elements_within;
 use objects::ObjKey;
 use objects::Type;
 use objects::TypeKey;
-use objects::rows::element;
-use objects::rows::first_member;
-use objects::rows::member_total;
 use objects::rows::member_type;
 use objects::rows::member_word;
 use objects::rows::package_count;
@@ -68,18 +65,12 @@ fn ref_passes(rows: &[u32], test: Test, t: TypeKey, e: TypeKey) -> bool
 // Each element of a tuple.
 fn elements_pass(rows: &[u32], test: Test, t: TypeKey) -> bool
     requires { ⌜ Laid (now rows) × (t .0 < typeCount (now rows)) ⌝ }
-    ensures { λ r. ⌜ ((text : Bytes) → r ≡ every (passes (tableOf text (now (rows .entry))) test t) (elementsFrom text (now (rows .entry)) (firstRead (now (rows .entry)) t) (totalRead (now (rows .entry)) t))) ⌝ }
+    ensures { λ r. ⌜ SaysEach (now (rows .entry)) t r (λ T. passes T test t) ⌝ }
 {
-    let first = first_member(rows, t);
-    let n = member_total(rows, t);
-    let mut i = 0;
-    while i < n {
-        if !ref_passes(rows, test, t, element(rows, first + i)) {
-            return false;
-        }
-        i += 1;
+    match test {
+        Test::Lacking => elements_within(rows, t),
+        Test::Forbidden => elements_allowed(rows, t),
     }
-    true
 }
 
 // Each reference of the T line of t.
