@@ -26,11 +26,11 @@ use Rattle.selection.specs.declared.Own.{Own}
 use Rattle.selection.specs.Results.{first, ownMeant}
 use Rattle.multiples.specs.declared.EmbeddedType.{EmbeddedType}
 use Rattle.multiples.specs.Records.{recOf}
-use Rattle.levels.specs.Words.{rowOf}
+use Rattle.level_rows.specs.Words.{rowOf}
+use Rattle.level_rows.proofs.WordLaws.{row-typ}
+use Rattle.level_rows.proofs.EnterLaws.{library-sound}
 use Rattle.levels.specs.declared.Hit.{Hit}
 use Rattle.levels.specs.Hits.{hitRow, hitsIn, HitAt, Told}
-use Rattle.levels.proofs.WordLaws.{row-typ}
-use Rattle.levels.proofs.EnterLaws.{library-sound}
 
 -- ---- a type's own members
 

@@ -1,10 +1,3 @@
-pub mod RangeLaws
-pub mod WordLaws
-pub mod StateLaws
-pub mod EnterLaws
-pub mod StartLaws
-pub mod LowerLaws
-pub mod PlaceLaws
 pub mod HitLaws
 pub mod VerdictLaws
 pub mod SearchLaws

@@ -22,11 +22,12 @@ use Rattle.ways.specs.Search.{Row, row, typ, range, level, walkAt, embeddedAt, 
 use Rattle.ways.proofs.SearchRows.{In-range}
 use Rattle.selection.specs.declared.Selection.{Selection}
 use Rattle.selection.specs.Results.{resultMeant, calledRight, Typed, Selects}
-use Rattle.levels.specs.Words.{rowOf, rowsOf, levelOf}
-use Rattle.levels.specs.State.{Rowed, Searching, Enters}
-use Rattle.levels.specs.Hits.{hitRow, hitsIn, HitAt, placesTo, flagTo, wayTo, judgedRow, nothingFound}
-use Rattle.levels.proofs.RangeLaws.{range-length, range-map-append}
-use Rattle.levels.proofs.LowerLaws.{row-at}
+use Rattle.level_rows.specs.Words.{rowOf, rowsOf, levelOf}
+use Rattle.level_rows.specs.State.{Rowed, Searching, Enters}
+use Rattle.level_rows.specs.Places.{placesTo, flagTo}
+use Rattle.level_rows.proofs.RangeLaws.{range-length, range-map-append}
+use Rattle.level_rows.proofs.LowerLaws.{row-at}
+use Rattle.levels.specs.Hits.{hitRow, hitsIn, HitAt, wayTo, judgedRow, nothingFound}
 
 -- ---- the rows that the words hold
 

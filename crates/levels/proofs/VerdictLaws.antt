@@ -21,9 +21,10 @@ use Rattle.selection.specs.declared.LookupResult.{LookupResult}
 use Rattle.selection.specs.Results.{keyOf, resultMeant, calledRight, Typed, Selects}
 use Rattle.multiples.specs.declared.EmbeddedType.{EmbeddedType}
 use Rattle.multiples.specs.Records.{recOf}
-use Rattle.levels.specs.Words.{rowOf}
-use Rattle.levels.specs.Hits.{OwnAt, HitAt, placesTo, flagTo, wayTo, judgedRow, hitsIn, alone, Alone, Written}
-use Rattle.levels.proofs.WordLaws.{row-multiples}
+use Rattle.level_rows.specs.Words.{rowOf}
+use Rattle.level_rows.specs.Places.{placesTo, flagTo, Written}
+use Rattle.level_rows.proofs.WordLaws.{row-multiples}
+use Rattle.levels.specs.Hits.{OwnAt, HitAt, wayTo, judgedRow, hitsIn, alone, Alone}
 
 -- ---- the receiver
 

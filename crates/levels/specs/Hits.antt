@@ -1,9 +1,8 @@
--- The rows of a level whose type has the name, and the way to a row.
+-- The rows of a level whose type has the name, and what the first of them gives.
 use mathlib.Core.Path.{_≡_}
-use mathlib.Core.Bool.{Bool, true, cond, not, _&&_, _||_}
-use mathlib.Core.List.{List, [], _∷_, _++_}
-use Prim.Native.Nat.{ℕ, zero, suc, _+_, _-_, _≤_, _<_}
-use lib.ListN.{take}
+use mathlib.Core.Bool.{Bool, true, cond, not, _&&_}
+use mathlib.Core.List.{List, [], _∷_}
+use Prim.Native.Nat.{ℕ, suc, _-_, _≤_, _<_}
 use Rattle.objects.specs.Lists.{Bytes, keep}
 use Rattle.objects.specs.declared.ObjKey.{ObjKey}
 use Rattle.objects.specs.Table.{Table, hasPtr}
@@ -16,7 +15,8 @@ use Rattle.ways.specs.Search.{typ, range}
 use Rattle.selection.specs.declared.LookupResult.{LookupResult}
 use Rattle.selection.specs.declared.Selection.{Selection}
 use Rattle.selection.specs.Results.{resultMeant, calledRight, Typed}
-use Rattle.levels.specs.Words.{rowOf}
+use Rattle.level_rows.specs.Words.{rowOf}
+use Rattle.level_rows.specs.Places.{placesTo, flagTo}
 use Rattle.levels.specs.declared.Hit.{Hit}
 
 -- row i's type has a member of the name
@@ -42,17 +42,6 @@ pub record HitAt (text : Bytes) (rows : Words) (q : Identity) (ws : Words) (lo n
 unfoldable pub Told : Bytes → Words → Identity → Words → ℕ → ℕ → Hit → Type 0
 Told text rows q ws lo n Hit.Nothing = hitsIn (tableOf text rows) q ws lo n ≡ []
 Told text rows q ws lo n (Hit.At i place m) = HitAt text rows q ws lo n i place m
-
--- ---- the way to row i of level d
-
-unfoldable pub placesTo : Words → ℕ → ℕ → List ℕ
-placesTo ws zero i = []
-placesTo ws (suc d) i = placesTo ws d (rowOf ws i .parent) ++ (rowOf ws i .step .place ∷ [])
-
--- whether a pointer was removed, f before the first row
-unfoldable pub flagTo : Words → Bool → ℕ → ℕ → Bool
-flagTo ws f zero i = f
-flagTo ws f (suc d) i = flagTo ws f d (rowOf ws i .parent) || rowOf ws i .step .ptr
 
 -- ---- what the first row with the name gives
 
@@ -81,8 +70,3 @@ pub record Alone (text : Bytes) (rows : Words) (m : ObjKey) (flag a : Bool) (r :
 -- no level has the name
 abbrev pub nothingFound : Selection
 nothingFound = record { result = LookupResult.NotFound; count = 0 }
-
--- the way to row i of level d, and the last place, stand in front of the lent row
-pub record Written (ws : Words) (d i : ℕ) (f : Bool) (last : ℕ) (places : Words) (r : Bool) : Type 0 where
-  pub way : take (d + 1) places ≡ placesTo ws d i ++ (last ∷ [])
-  pub flag : r ≡ flagTo ws f d i

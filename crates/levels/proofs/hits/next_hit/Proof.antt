@@ -2,9 +2,9 @@
 use Prim.Native.Nat.{_-_}
 use native.Mathlib.Omega.{arith}
 use Rattle.selection.specs.Results.{nameMeant}
+use Rattle.level_rows.proofs.StateLaws.{rows-few}
+use Rattle.level_rows.proofs.EnterLaws.{library-few, row-typed}
 use Rattle.levels.specs.Hits.{Told}
-use Rattle.levels.proofs.StateLaws.{rows-few}
-use Rattle.levels.proofs.EnterLaws.{library-few, row-typed}
 use Rattle.levels.proofs.HitLaws.{Looked, looked-start, looked-on, looked-end, hit-found}
 use borrow.Author.Needs.{needs}
 use Rattle.levels.proofs.hits.next_hit.Statement.{statement}

@@ -7,9 +7,9 @@ use Rattle.objects.specs.Bounds.{maxPlaces}
 use Rattle.objects.specs.Rows.{typeCount}
 use Rattle.selection.specs.Results.{nameMeant}
 use Rattle.ways.specs.Search.{typ}
-use Rattle.levels.specs.Words.{rowOf}
-use Rattle.levels.proofs.StateLaws.{rows-few}
-use Rattle.levels.proofs.EnterLaws.{library-few}
+use Rattle.level_rows.specs.Words.{rowOf}
+use Rattle.level_rows.proofs.StateLaws.{rows-few}
+use Rattle.level_rows.proofs.EnterLaws.{library-few}
 use Rattle.levels.proofs.HitLaws.{told-nothing, told-at}
 use Rattle.levels.proofs.SearchLaws.{Going, root-going, root-selects, going-found, going-on, going-stop, going-end}
 use borrow.Author.Needs.{needs}

@@ -1,7 +1,7 @@
 -- `levels::search::verdict` meets its contract.
 use native.Mathlib.Omega.{arith}
-use Rattle.levels.proofs.StateLaws.{rows-few}
-use Rattle.levels.proofs.EnterLaws.{library-few}
+use Rattle.level_rows.proofs.StateLaws.{rows-few}
+use Rattle.level_rows.proofs.EnterLaws.{library-few}
 use Rattle.levels.proofs.HitLaws.{told-nothing, told-at}
 use Rattle.levels.proofs.VerdictLaws.{verdict-marked, verdict-second, verdict-alone}
 use borrow.Author.Needs.{needs}
