@@ -1,4 +1,4 @@
-// The fields of a line as words of 32 bits.
+// The fields of a line, of a table or a question, as words of 32 bits.
 ghost use mathlib.Core.Path.{_≡_};
 ghost use Prim.Native.Nat.{_≤_};
 ghost use lib.ListN.{length};
@@ -15,6 +15,7 @@ use text::Num;
 use text::Part;
 use text::Past;
 
+// "A type or package number of more than four digits has a wrong form."
 pub const MAX_REFERENCE: u32 = 9_999;
 
 pub fn small(s: &[u8], c: Cursor, max: u32) -> Small

@@ -1,10 +1,10 @@
--- `question::refs::letter` meets its contract, for one byte, for none and for several.
+-- `question::letter` meets its contract, for one byte, for none and for several.
 use mathlib.Core.Path.{sym, _∙_}
 use native.Mathlib.Omega.{arith}
 use Rattle.question.proofs.LetterLaws.{letter-one, letter-none}
 use borrow.Author.Needs.{needs}
-use Rattle.question.proofs.refs.letter.Statement.{statement}
-use Rattle.question.proofs.refs.letter.Tie as tie
+use Rattle.question.proofs.letter.Statement.{statement}
+use Rattle.question.proofs.letter.Tie as tie
 
 sub-if2 : tie.Need-sub-if2
 sub-if2 c = search needs
