@@ -18,9 +18,10 @@ use Rattle.objects.specs.Laid.{used, Laid, Holds, lastType, memberOf, plusPacka
 use Rattle.objects.proofs.RowLaws.{size-read, member-count-read, package-count-read}
 use Rattle.rules.specs.Forms.{Line, packageLine, typeLine, memberLine}
 use Rattle.rules.specs.Load.{Loaded, refused, loaded, lastKind, added, inPlace, hasRoom, placed, lineAdded}
+use Rattle.line_forms.specs.Steps.{bareKind}
+use Rattle.line_forms.specs.Weights.{elementsOf}
 use Rattle.lines.specs.declared.Verdict.{Verdict}
-use Rattle.lines.specs.Steps.{bareKind}
-use Rattle.lines.specs.Adding.{verdictMeant, elementsOf, Grown, standsAt, memberRoom}
+use Rattle.lines.specs.Adding.{verdictMeant, Grown, standsAt, memberRoom}
 use Rattle.lines.proofs.AboveLaws.{no-types, no-tuple, stands-at, standing, room-count, room-meant}
 
 -- ---- a line of right form, by its place and its room

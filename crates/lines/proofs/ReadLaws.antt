@@ -26,12 +26,12 @@ use Rattle.text.proofs.LineLaws.{Free, split-at, split-first}
 use Rattle.text.proofs.LineEnds.{pieces-at, line-within}
 use Rattle.rules.specs.Forms.{Line, packageLine, typeLine, memberLine, lineOf}
 use Rattle.rules.specs.Load.{Loaded, refused, loaded, added, inPlace, hasRoom, lineAdded, linesFrom, thenChecked, noTable, headed, load}
+use Rattle.line_forms.specs.Weights.{weight, lineMembers, membersIn}
+use Rattle.line_forms.proofs.Weights.{fields-weight, brought}
 use Rattle.lines.specs.declared.Verdict.{Verdict}
 use Rattle.lines.specs.declared.Read.{Read}
-use Rattle.lines.specs.Forms.{weight}
-use Rattle.lines.specs.Adding.{verdictMeant, lineMembers, membersIn, elementsOf, bytesTaken, Grown}
+use Rattle.lines.specs.Adding.{verdictMeant, bytesTaken, Grown}
 use Rattle.lines.specs.Reading.{readMeant, header}
-use Rattle.lines.proofs.Weights.{fields-weight, brought}
 
 -- ---- the header
 

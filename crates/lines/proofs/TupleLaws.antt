@@ -21,13 +21,14 @@ use Rattle.text.proofs.FieldLaws.{done-left}
 use Rattle.text.proofs.AnswerLaws.{none-some, field-some}
 use Rattle.rules.specs.Forms.{Line, typeLine, lineOf}
 use Rattle.rules.specs.Load.{refused, lastKind, lineAdded}
-use Rattle.lines.specs.declared.Small.{Small}
-use Rattle.lines.specs.declared.Form.{Form}
+use Rattle.line_forms.specs.declared.Small.{Small}
+use Rattle.line_forms.specs.declared.Form.{Form}
+use Rattle.line_forms.specs.Steps.{numbered, allRead, elementsRead, tupleOf}
+use Rattle.line_forms.specs.Weights.{weight, tupleSize, lineMembers, membersIn, lineElements, elementsOf}
+use Rattle.line_forms.specs.Forms.{smallRead, formMeant, unread}
+use Rattle.line_forms.proofs.Weights.{elements-few, brought}
 use Rattle.lines.specs.declared.Verdict.{Verdict}
-use Rattle.lines.specs.Steps.{numbered, allRead, elementsRead, tupleOf}
-use Rattle.lines.specs.Forms.{weight, smallRead, formMeant, unread}
-use Rattle.lines.specs.Adding.{tupleSize, lineMembers, membersIn, lineElements, elementsOf, bytesTaken, withElements, Grown}
-use Rattle.lines.proofs.Weights.{elements-few, brought}
+use Rattle.lines.specs.Adding.{bytesTaken, withElements, Grown}
 use Rattle.lines.proofs.AboveLaws.{lastOr-snoc, tuple-last}
 use Rattle.lines.proofs.AddLaws.{refusing, members-kept, type-full, kind-added}
 

@@ -1,20 +1,20 @@
--- What adding one line leaves (4 to 6), and what reading the whole text leaves (2 to 6).
+-- What adding one line leaves (4 to 6).
 use mathlib.Core.Path.{_≡_}
 use mathlib.Core.Bool.{Bool, cond, _&&_, _||_}
 use mathlib.Core.List.{List, [], _∷_}
-use mathlib.Core.Option.{Option, none, some}
+use mathlib.Core.Option.{Option}
 use Prim.Native.Nat.{ℕ, _+_, _*_, _≤_}
 use lib.Dec.{eqb, ltb}
-use lib.ListN.{length}
 use Rattle.objects.specs.declared.TypeKey.{TypeKey}
 use Rattle.objects.specs.Bounds.{maxMembers, maxPerType}
 use Rattle.objects.specs.Lists.{Bytes}
-use Rattle.objects.specs.Table.{Table, Kind, Basic, Array, Slice, Pointer, Map, Chan, Tuple, Func, Struct, Iface, Named}
+use Rattle.objects.specs.Table.{Table}
 use Rattle.objects.specs.Rows.{Words, memberCountOf, elementCount, tableOf}
 use Rattle.objects.specs.Types.{totalRead}
 use Rattle.objects.specs.Laid.{Laid, lastType, plusElement}
-use Rattle.rules.specs.Forms.{Line, packageLine, typeLine, memberLine}
+use Rattle.rules.specs.Forms.{Line}
 use Rattle.rules.specs.Load.{Loaded, refused, loaded, lineAdded}
+use Rattle.line_forms.specs.Weights.{elementsOf}
 use Rattle.lines.specs.declared.Verdict.{Verdict}
 
 unfoldable pub verdictMeant : Bytes → Words → ℕ → Verdict → Loaded
@@ -22,38 +22,6 @@ verdictMeant text rows line Verdict.Added = loaded (tableOf text rows)
 verdictMeant text rows line (Verdict.Refused n) = refused n line
 
 -- ---- members, and elements of tuples
-
-unfoldable pub tupleSize : Kind → ℕ
-tupleSize (Basic k) = 0
-tupleSize (Array n e) = 0
-tupleSize (Slice e) = 0
-tupleSize (Pointer e) = 0
-tupleSize (Map k e) = 0
-tupleSize (Chan d e) = 0
-tupleSize (Tuple es) = length es
-tupleSize (Func v p r) = 0
-tupleSize (Struct ms) = 0
-tupleSize (Iface ms) = 0
-tupleSize (Named u ms) = 0
-
--- how many members and elements a line brings
-unfoldable pub lineMembers : Line → ℕ
-lineMembers (packageLine path) = 0
-lineMembers (typeLine k) = 0
-lineMembers (memberLine name pkg type e) = 1
-
-unfoldable pub membersIn : Option Line → ℕ
-membersIn none = 0
-membersIn (some l) = lineMembers l
-
-unfoldable pub lineElements : Line → ℕ
-lineElements (packageLine path) = 0
-lineElements (typeLine k) = tupleSize k
-lineElements (memberLine name pkg type e) = 0
-
-unfoldable pub elementsOf : Option Line → ℕ
-elementsOf none = 0
-elementsOf (some l) = lineElements l
 
 -- the bytes that the lines of all members and elements have at least: a member's more than 8, an element a tab and a digit
 abbrev pub bytesTaken : Words → ℕ

@@ -1,4 +1,2 @@
-pub mod Steps
-pub mod Forms
 pub mod Adding
 pub mod Reading

@@ -21,8 +21,7 @@ use Rattle.text.specs.Runs.{byteIn, Exact}
 use Rattle.text.proofs.AnswerLaws.{part-on, part-out, exact-size}
 use Rattle.text.proofs.FieldLaws.{left-more}
 use Rattle.rules.specs.Question.{questionForm}
-use Rattle.question.specs.Asks.{behindLetter, formOf}
-use Rattle.question.specs.Refs.{letterAt}
+use Rattle.question.specs.Asks.{letterAt, behindLetter, formOf}
 use Rattle.question.proofs.Steps.{thenRead, valueOf, then-on, then-out, value-none, value-is}
 
 -- ---- the byte of a part that has one byte

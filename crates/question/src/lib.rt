@@ -1,6 +1,4 @@
 // A question line, read by the cursor: its form and its numbers (refusal 11), and the second type of an N question (12).
-pub mod refs;
-
 ghost use mathlib.Core.Path.{_≡_};
 ghost use mathlib.Core.Bool.{_&&_, true};
 ghost use mathlib.Core.Option.{some};
@@ -15,11 +13,11 @@ ghost use Rattle.text.specs.Readers.{done, whole};
 ghost use Rattle.text.specs.Cursors.{fieldsLeft};
 ghost use Rattle.rules.specs.Question.{Question, inTable, questionOf};
 ghost use Rattle.rules.specs.Asked.{wrongSecond};
-ghost use Rattle.question.specs.Asks.{asksMeant, behindLetter, formOf, Reads, knownRead, Known};
-use crate::refs::flag;
-use crate::refs::letter;
-use crate::refs::package_ref;
-use crate::refs::type_ref;
+ghost use Rattle.question.specs.Asks.{asksMeant, behindLetter, letterAt, formOf, Reads, knownRead, Known};
+use line_forms::Small;
+use line_forms::fields::MAX_REFERENCE;
+use line_forms::fields::package;
+use line_forms::fields::small;
 use objects::TypeKey;
 use objects::rows::kind_number;
 use objects::rows::package_count;
@@ -27,24 +25,7 @@ use objects::rows::type_count;
 use text::Cursor;
 use text::Part;
 use text::bytes::both;
-
-// A type number, if the next field is one.
-pub enum Ref {
-    Is(TypeKey, Cursor),
-    Wrong,
-}
-
-// 0 or 1.
-pub enum Flag {
-    Is(bool, Cursor),
-    Wrong,
-}
-
-// The word of a package: its number and one, 0 for none.
-pub enum Pkg {
-    Is(u32, Cursor),
-    Wrong,
-}
+use text::scan::byte;
 
 // The question of a line. S has the type, whether it is addressable, the word of the package, and place and length of the name in the line.
 pub enum Ask {
@@ -74,65 +55,77 @@ fn ask_s(c: Cursor, line: &[u8]) -> Ask
     requires { ⌜ length (now line) ≤ maxQuestion ⌝ }
     ensures { λ r. ⌜ Reads (now (line .entry)) r (behindLetter (ascii "S") (fieldsLeft (now (line .entry)) c)) ⌝ }
 {
-    let Ref::Is(t, d) = type_ref(c, line) else {
+    let Small::Value(t, d) = small(line, c, MAX_REFERENCE) else {
         return Ask::Wrong;
     };
-    let Flag::Is(a, e) = flag(d, line) else {
+    let Small::Value(a, e) = small(line, d, 1) else {
         return Ask::Wrong;
     };
-    let Pkg::Is(pkg, f) = package_ref(e, line) else {
+    let Small::Value(pkg, f) = package(line, e) else {
         return Ask::Wrong;
     };
     let Part::Is(from, to, g) = f.name(line) else {
         return Ask::Wrong;
     };
     let len = to - from;
-    ended(g, Ask::S(t, a, pkg, from as u32, len as u32))
+    ended(g, Ask::S(TypeKey(t), a == 1, pkg, from as u32, len as u32))
 }
 
 fn ask_m(c: Cursor, line: &[u8]) -> Ask
     ensures { λ r. ⌜ Reads (now (line .entry)) r (behindLetter (ascii "M") (fieldsLeft (now (line .entry)) c)) ⌝ }
 {
-    let Ref::Is(t, d) = type_ref(c, line) else {
+    let Small::Value(t, d) = small(line, c, MAX_REFERENCE) else {
         return Ask::Wrong;
     };
-    ended(d, Ask::M(t))
+    ended(d, Ask::M(TypeKey(t)))
 }
 
 fn ask_n(c: Cursor, line: &[u8]) -> Ask
     ensures { λ r. ⌜ Reads (now (line .entry)) r (behindLetter (ascii "N") (fieldsLeft (now (line .entry)) c)) ⌝ }
 {
-    let Ref::Is(t, d) = type_ref(c, line) else {
+    let Small::Value(t, d) = small(line, c, MAX_REFERENCE) else {
         return Ask::Wrong;
     };
-    let Ref::Is(i, e) = type_ref(d, line) else {
+    let Small::Value(i, e) = small(line, d, MAX_REFERENCE) else {
         return Ask::Wrong;
     };
-    let Flag::Is(s, f) = flag(e, line) else {
+    let Small::Value(s, f) = small(line, e, 1) else {
         return Ask::Wrong;
     };
-    ended(f, Ask::N(t, i, s))
+    ended(f, Ask::N(TypeKey(t), TypeKey(i), s == 1))
 }
 
 fn ask_i(c: Cursor, line: &[u8]) -> Ask
     ensures { λ r. ⌜ Reads (now (line .entry)) r (behindLetter (ascii "I") (fieldsLeft (now (line .entry)) c)) ⌝ }
 {
-    let Ref::Is(x, d) = type_ref(c, line) else {
+    let Small::Value(x, d) = small(line, c, MAX_REFERENCE) else {
         return Ask::Wrong;
     };
-    let Ref::Is(y, e) = type_ref(d, line) else {
+    let Small::Value(y, e) = small(line, d, MAX_REFERENCE) else {
         return Ask::Wrong;
     };
-    ended(e, Ask::I(x, y))
+    ended(e, Ask::I(TypeKey(x), TypeKey(y)))
 }
 
 fn ask_c(c: Cursor, line: &[u8]) -> Ask
     ensures { λ r. ⌜ Reads (now (line .entry)) r (behindLetter (ascii "C") (fieldsLeft (now (line .entry)) c)) ⌝ }
 {
-    let Ref::Is(t, d) = type_ref(c, line) else {
+    let Small::Value(t, d) = small(line, c, MAX_REFERENCE) else {
         return Ask::Wrong;
     };
-    ended(d, Ask::C(t))
+    ended(d, Ask::C(TypeKey(t)))
+}
+
+// The byte of a part that has one byte, else 256.
+fn letter(line: &[u8], from: usize, to: usize) -> u64
+    ensures { λ r. ⌜ r ≡ letterAt (now (line .entry)) from to ⌝ }
+{
+    if from < to {
+        if to - from == 1 {
+            return byte(line, from, to);
+        }
+    }
+    256
 }
 
 // The form alone.

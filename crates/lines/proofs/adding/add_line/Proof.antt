@@ -4,7 +4,7 @@ use mathlib.Core.Option.{none}
 use Rattle.lines.proofs.TupleLaws.{grown-form, tuple-space, member-space}
 use Rattle.lines.proofs.AddLaws.{refusing}
 use Rattle.text.specs.Cursors.{fieldsLeft}
-use Rattle.lines.specs.Forms.{formMeant}
+use Rattle.line_forms.specs.Forms.{formMeant}
 use borrow.Author.Needs.{needs}
 use Rattle.lines.proofs.adding.add_line.Statement.{statement}
 use Rattle.lines.proofs.adding.add_line.Tie as tie

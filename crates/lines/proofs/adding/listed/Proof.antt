@@ -2,7 +2,7 @@
 use mathlib.Core.Path.{_≡_, refl, sym, _∙_}
 use lib.ListN.{length}
 use Rattle.text.specs.Cursors.{fieldsLeft}
-use Rattle.lines.specs.Steps.{allRead}
+use Rattle.line_forms.specs.Steps.{allRead}
 use Rattle.lines.proofs.TupleLaws.{all-done, all-wrong, all-more, fields-fall}
 use borrow.Author.Needs.{needs}
 use Rattle.lines.proofs.adding.listed.Statement.{statement}

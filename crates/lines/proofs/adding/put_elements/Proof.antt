@@ -8,7 +8,7 @@ use Rattle.objects.specs.Rows.{elementCount, tableOf}
 use Rattle.objects.specs.Laid.{used, Laid}
 use Rattle.text.specs.Cursors.{fieldsLeft}
 use Rattle.rules.specs.Load.{lastKind}
-use Rattle.lines.specs.Steps.{allRead, elementsRead}
+use Rattle.line_forms.specs.Steps.{allRead, elementsRead}
 use Rattle.lines.specs.Adding.{withElements}
 use Rattle.lines.proofs.TupleLaws.{all-done, all-wrong, all-more, elements-done, elements-end, elements-more, element-members, still-tuple, turn, turn-end, element-ready}
 use borrow.Author.Needs.{needs}

@@ -1,0 +1,4 @@
+pub mod Chain
+pub mod StepLaws
+pub mod FieldSteps
+pub mod Weights
