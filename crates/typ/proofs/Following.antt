@@ -1,6 +1,6 @@
 -- Laws of classes that follow from the pairs met (`Follows` of specs/Compared.antt): single types at first, more pairs met, and a pair that is joined.
 use mathlib.Core.Path.{_≡_, refl, sym, _∙_}
-use mathlib.Core.Bool.{Bool, true, false}
+use mathlib.Core.Bool.{true}
 use mathlib.Core.List.{List}
 use Prim.Native.Nat.{ℕ, _<_, _≤_}
 use native.Mathlib.Omega.{arith}

@@ -1,5 +1,6 @@
 -- What comparing two types has shown, by the steps of the rules (`sameIn`) and by the marks before and after: the contracts of the cycle of calls. A pair
--- of types is met, and then opened when its parts are compared; a pair that is met and not opened is put off.
+-- of types is met, and then opened when its parts are compared; a pair that is met and not opened is put off. Types whose pair is met may be joined to one
+-- class (specs/Classes.antt); a pair of one class need not be met.
 use mathlib.Core.Path.{_≡_}
 use mathlib.Core.Bool.{Bool, true, false}
 use mathlib.Core.List.{List}
@@ -39,8 +40,8 @@ pub record Entered (l l′ : List ℕ) (p : ℕ) (r : Bool) : Type 0 where
   pub passed : r ≡ false → ((met l p ≡ true) × (l′ ≡ l)) ⊎ ((met l p ≡ false) × (l′ ≡ meet l p))
   pub entered : r ≡ true → (met l p ≡ false) × (met (meet l p) (pairs + p) ≡ false) × (l′ ≡ meet (meet l p) (pairs + p))
 
--- whether the pair of x and y is opened now, with the labels c before and c′ after: it is not either where they are of one class; only types whose pair is
--- met are joined
+-- the same of the pair of x and y, with the labels c before and c′ after: it counts as identical also where the two are of one class, and they are joined
+-- only if their pair is met
 pub record PairEntered (l l′ c c′ : List ℕ) (x y : TypeKey) (r : Bool) : Type 0 where
   pub marked : (OneClass c x y × (r ≡ false) × (l′ ≡ l)) ⊎ Entered l l′ (pair x y) r
   pub linked : (c′ ≡ c) ⊎ (Joined c c′ x y × (met l′ (pair x y) ≡ true))

@@ -77,8 +77,8 @@ fn enter(marks: &mut [u32], p: usize, deep: usize) -> bool
     true
 }
 
-// Whether the pair of x and y, of kind k, is opened now: not if they are of one class. Interfaces that are met are joined, and no other types: on cycles
-// their pairs multiply, and a join goes over all labels.
+// Whether the pair of x and y, of kind k, is opened now. It is not if they are of one class. Each pair of interfaces that is met joins two classes, so that
+// there are at most 255 of them; no other types are joined, for a join goes over all labels.
 fn enter_pair(
     marks: &mut [u32],
     labels: &mut [u32],

@@ -1,5 +1,4 @@
 use borrow.Author.Needs.{needs}
-use native.Mathlib.Omega.{arith}
 use Rattle.typ.proofs.Following.{follows-single}
 use Rattle.typ.proofs.identical.decide.Statement.{statement}
 use Rattle.typ.proofs.identical.decide.Tie as tie
