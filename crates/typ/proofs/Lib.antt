@@ -2,6 +2,8 @@ pub mod ContentLaws
 pub mod Bits
 pub mod Zero
 pub mod Marked
+pub mod JoinLaws
+pub mod Following
 pub mod Passing
 pub mod Cycle
 pub mod Top

@@ -82,12 +82,15 @@ module _ (T : Table) (x y : TypeKey) where
       pub open-well : (o : List ℕ) → o ≡ meet l (pairs + p) → Well T o
       open-well o z = rw z well-open
 
+      grows : Grown l (meet l (pairs + p))
+      grows = grown-meet l (pairs + p) in-l off
+
+      pub open-grown : (o : List ℕ) → o ≡ meet l (pairs + p) → Grown l o
+      open-grown o z = rw z grows
+
       module _ (o l′ : List ℕ) (z : o ≡ meet l (pairs + p)) (u : Bool) (w : PartsCompared T o l′ (first p) (second p) u) where
         went : PartsCompared T (meet l (pairs + p)) l′ (first p) (second p) u
         went = rw z at w
-
-        grows : Grown l (meet l (pairs + p))
-        grows = grown-meet l (pairs + p) in-l off
 
         leads-on : (a b : TypeKey) → a .0 < maxTypes → b .0 < maxTypes → met l′ (pair a b) ≡ true → Apart T a b → Apart T x y
         unfolding Leads

@@ -1,16 +1,19 @@
 -- What comparing two types has shown, by the steps of the rules (`sameIn`) and by the marks before and after: the contracts of the cycle of calls. A pair
--- of types is met, and then opened when its parts are compared; a pair that is met and not opened is put off.
+-- of types is met, and then opened when its parts are compared; a pair that is met and not opened is put off. Types whose pair is met may be joined to one
+-- class (specs/Classes.antt); a pair of one class need not be met.
 use mathlib.Core.Path.{_≡_}
 use mathlib.Core.Bool.{Bool, true, false}
 use mathlib.Core.List.{List}
 use mathlib.Core.Logic.{_⊎_}
 use Prim.Native.Nat.{ℕ, suc, _+_, _*_, _<_, _≤_}
+use lib.ListN.{length}
 use Rattle.objects.specs.declared.TypeKey.{TypeKey}
 use Rattle.objects.specs.Bounds.{maxTypes}
 use Rattle.objects.specs.Table.{Table}
 use Rattle.rules.specs.StepIdentity.{sameIn}
 use Rattle.type_parts.specs.Parts.{Kin}
 use Rattle.typ.specs.Marks.{met, meet, unmet}
+use Rattle.typ.specs.Classes.{OneClass, Joined}
 
 -- how many pairs of types there may be
 abbrev pub pairs : ℕ
@@ -37,6 +40,12 @@ pub record Entered (l l′ : List ℕ) (p : ℕ) (r : Bool) : Type 0 where
   pub passed : r ≡ false → ((met l p ≡ true) × (l′ ≡ l)) ⊎ ((met l p ≡ false) × (l′ ≡ meet l p))
   pub entered : r ≡ true → (met l p ≡ false) × (met (meet l p) (pairs + p) ≡ false) × (l′ ≡ meet (meet l p) (pairs + p))
 
+-- the same of the pair of x and y, with the labels c before and c′ after: it counts as identical also where the two are of one class, and they are joined
+-- only if their pair is met
+pub record PairEntered (l l′ c c′ : List ℕ) (x y : TypeKey) (r : Bool) : Type 0 where
+  pub marked : (OneClass c x y × (r ≡ false) × (l′ ≡ l)) ⊎ Entered l l′ (pair x y) r
+  pub linked : (c′ ≡ c) ⊎ (Joined c c′ x y × (met l′ (pair x y) ≡ true))
+
 -- the pair numbered p is not put off
 unfoldable pub Clean : List ℕ → ℕ → Type 0
 Clean l p = met l p ≡ true → met l (pairs + p) ≡ true
@@ -60,6 +69,11 @@ module _ (T : Table) where
   -- every pair met agrees for n steps
   unfoldable pub AllMet : ℕ → List ℕ → Type 0
   AllMet n l = (a b : TypeKey) → a .0 < maxTypes → b .0 < maxTypes → met l (pair a b) ≡ true → sameIn T n a b ≡ true
+
+  -- c has a label for each type, and its classes follow from the pairs met: types of one class agree wherever all pairs met do
+  pub record Follows (l c : List ℕ) : Type 0 where
+    pub long : maxTypes ≤ length c
+    pub same : (a b : TypeKey) → a .0 < maxTypes → b .0 < maxTypes → OneClass c a b → (n : ℕ) → AllMet n l → sameIn T n a b ≡ true
 
   -- every pair opened since l agrees for one step more
   unfoldable pub NewMet : ℕ → List ℕ → List ℕ → Type 0

@@ -1,3 +1,4 @@
 pub mod Contents
 pub mod Marks
+pub mod Classes
 pub mod Compared

@@ -1,17 +1,20 @@
 // I: type identity. Two functions call each other, as in goscript: one compares types, the other their parts. A pair of types met before counts as
-// identical, since whatever tells it apart is found where it was met first.
+// identical, since whatever tells it apart is found where it was met first. So does a pair of one class: it follows from the pairs of interfaces met,
+// since identity is symmetric and transitive.
 ghost use mathlib.Core.Path.{_≡_};
 ghost use mathlib.Core.Bool.{true, false};
 ghost use Prim.Native.Nat.{ℕ, _+_, _<_, _≤_};
 ghost use lib.ListN.{length, replicate};
-ghost use Rattle.objects.specs.Bounds.{markWords};
+ghost use Rattle.objects.specs.Bounds.{maxTypes, markWords};
 ghost use Rattle.objects.specs.Rows.{typeCount, tableOf};
 ghost use Rattle.objects.specs.Types.{numberRead};
 ghost use Rattle.rules.specs.Library.{Library};
 ghost use Rattle.rules.specs.Identity.{identical};
 ghost use Rattle.type_parts.specs.Parts.{ownRead, Kin};
 ghost use Rattle.typ.specs.Marks.{met};
-ghost use Rattle.typ.specs.Compared.{pairs, pairWords, Clean, WordClean, AllClean, Entered, Well, Compared, PartsCompared, State, Turn};
+ghost use Rattle.typ.specs.Compared.{pairs, pairWords, Clean, WordClean, AllClean, Entered, PairEntered, Well, Follows, Compared, PartsCompared, State, Turn};
+use crate::classes::join;
+use crate::classes::number;
 use crate::marks::clear;
 use crate::marks::is_met;
 use crate::marks::set_met;
@@ -74,12 +77,37 @@ fn enter(marks: &mut [u32], p: usize, deep: usize) -> bool
     true
 }
 
+// Whether the pair of x and y, of kind k, is opened now. It is not if they are of one class. Each pair of interfaces that is met joins two classes, so that
+// there are at most 255 of them; no other types are joined, for a join goes over all labels.
+fn enter_pair(
+    marks: &mut [u32],
+    labels: &mut [u32],
+    k: u32,
+    x: TypeKey,
+    y: TypeKey,
+    deep: usize,
+) -> bool
+    requires { ⌜ (x .0 < maxTypes) × (y .0 < maxTypes) ⌝ }
+    requires { ⌜ (markWords ≤ length (now marks)) × (maxTypes ≤ length (now labels)) ⌝ }
+    ensures { λ r. ⌜ PairEntered (now (marks .entry)) (now (marks .exit)) (now (labels .entry)) (now (labels .exit)) x y r ⌝ }
+{
+    if labels[x.0 as usize] == labels[y.0 as usize] {
+        return false;
+    }
+    let opened = enter(marks, TYPES * (x.0 as usize) + y.0 as usize, deep);
+    if k == 9 {
+        join(labels, x, y);
+    }
+    opened
+}
+
 // Types x and y are compared. Interfaces lie on cycles, so that a pair of them must be marked; every other pair of several parts is marked too, for it
 // would be compared twice as often at each level otherwise.
 fn identical_impl(
     text: &[u8],
     rows: &[u32],
     marks: &mut [u32],
+    labels: &mut [u32],
     x: TypeKey,
     y: TypeKey,
     deep: usize,
@@ -87,7 +115,9 @@ fn identical_impl(
     requires { ⌜ Library (now text) (now rows) ⌝ }
     requires { ⌜ (x .0 < typeCount (now rows)) × (y .0 < typeCount (now rows)) × (markWords ≤ length (now marks)) ⌝ }
     requires { ⌜ Well (tableOf (now text) (now rows)) (now marks) ⌝ }
+    requires { ⌜ Follows (tableOf (now text) (now rows)) (now marks) (now labels) ⌝ }
     ensures { λ r. ⌜ Compared (tableOf (now (text .entry)) (now (rows .entry))) (now (marks .entry)) (now (marks .exit)) x y r ⌝ }
+    ensures { λ _. ⌜ Follows (tableOf (now (text .entry)) (now (rows .entry))) (now (marks .exit)) (now (labels .exit)) ⌝ }
 {
     if x.0 == y.0 {
         return true;
@@ -101,12 +131,12 @@ fn identical_impl(
     }
     let lower = less(deep);
     if several(k) {
-        if !enter(marks, TYPES * (x.0 as usize) + y.0 as usize, deep) {
+        if !enter_pair(marks, labels, k, x, y, deep) {
             return true;
         }
-        return identical_impl_o(text, rows, marks, x, y, lower);
+        return identical_impl_o(text, rows, marks, labels, x, y, lower);
     }
-    identical_impl_o(text, rows, marks, x, y, lower)
+    identical_impl_o(text, rows, marks, labels, x, y, lower)
 }
 
 // The parts of x and y, which have one kind and one own number, are compared in turn.
@@ -114,6 +144,7 @@ fn identical_impl_o(
     text: &[u8],
     rows: &[u32],
     marks: &mut [u32],
+    labels: &mut [u32],
     x: TypeKey,
     y: TypeKey,
     deep: usize,
@@ -121,7 +152,9 @@ fn identical_impl_o(
     requires { ⌜ Library (now text) (now rows) ⌝ }
     requires { ⌜ Kin (tableOf (now text) (now rows)) x y × (markWords ≤ length (now marks)) ⌝ }
     requires { ⌜ Well (tableOf (now text) (now rows)) (now marks) ⌝ }
+    requires { ⌜ Follows (tableOf (now text) (now rows)) (now marks) (now labels) ⌝ }
     ensures { λ r. ⌜ PartsCompared (tableOf (now (text .entry)) (now (rows .entry))) (now (marks .entry)) (now (marks .exit)) x y r ⌝ }
+    ensures { λ _. ⌜ Follows (tableOf (now (text .entry)) (now (rows .entry))) (now (marks .exit)) (now (labels .exit)) ⌝ }
 {
     let n = part_count(rows, x);
     let plain = nameless(rows, x);
@@ -136,7 +169,7 @@ fn identical_impl_o(
         }
         let p = part_in(rows, x, j, first, i);
         let q = part_in(rows, y, k, second, i);
-        if !identical_impl(text, rows, marks, p, q, deep) {
+        if !identical_impl(text, rows, marks, labels, p, q, deep) {
             return false;
         }
         i += 1;
@@ -145,11 +178,21 @@ fn identical_impl_o(
 }
 
 // The pair numbered p is opened, if it was put off: 1 where it was not, 2 where it was, and 0 where its types differ, and so x and y.
-fn open_at(text: &[u8], rows: &[u32], marks: &mut [u32], x: TypeKey, y: TypeKey, p: usize) -> u32
+fn open_at(
+    text: &[u8],
+    rows: &[u32],
+    marks: &mut [u32],
+    labels: &mut [u32],
+    x: TypeKey,
+    y: TypeKey,
+    p: usize,
+) -> u32
     requires { ⌜ Library (now text) (now rows) ⌝ }
     requires { ⌜ (p < pairs) × (markWords ≤ length (now marks)) ⌝ }
     requires { ⌜ State (tableOf (now text) (now rows)) (now marks) x y ⌝ }
+    requires { ⌜ Follows (tableOf (now text) (now rows)) (now marks) (now labels) ⌝ }
     ensures { λ r. ⌜ Turn (tableOf (now (text .entry)) (now (rows .entry))) (Clean (now (marks .entry)) p) (now (marks .entry)) (now (marks .exit)) x y r ⌝ }
+    ensures { λ _. ⌜ Follows (tableOf (now (text .entry)) (now (rows .entry))) (now (marks .exit)) (now (labels .exit)) ⌝ }
 {
     if !is_met(marks, p) {
         return 1;
@@ -160,7 +203,7 @@ fn open_at(text: &[u8], rows: &[u32], marks: &mut [u32], x: TypeKey, y: TypeKey,
     set_met(marks, PAIRS + p);
     let a = TypeKey((p / TYPES) as u32);
     let b = TypeKey((p % TYPES) as u32);
-    if identical_impl_o(text, rows, marks, a, b, DEEP) {
+    if identical_impl_o(text, rows, marks, labels, a, b, DEEP) {
         2
     } else {
         0
@@ -168,16 +211,26 @@ fn open_at(text: &[u8], rows: &[u32], marks: &mut [u32], x: TypeKey, y: TypeKey,
 }
 
 // The pairs of word w are opened that were put off: 1 where none was, 2 where one was, and 0 where the types of one differ, and so x and y.
-fn open_pairs(text: &[u8], rows: &[u32], marks: &mut [u32], x: TypeKey, y: TypeKey, w: usize) -> u32
+fn open_pairs(
+    text: &[u8],
+    rows: &[u32],
+    marks: &mut [u32],
+    labels: &mut [u32],
+    x: TypeKey,
+    y: TypeKey,
+    w: usize,
+) -> u32
     requires { ⌜ Library (now text) (now rows) ⌝ }
     requires { ⌜ (w < pairWords) × (markWords ≤ length (now marks)) ⌝ }
     requires { ⌜ State (tableOf (now text) (now rows)) (now marks) x y ⌝ }
+    requires { ⌜ Follows (tableOf (now text) (now rows)) (now marks) (now labels) ⌝ }
     ensures { λ r. ⌜ Turn (tableOf (now (text .entry)) (now (rows .entry))) (WordClean (now (marks .entry)) w) (now (marks .entry)) (now (marks .exit)) x y r ⌝ }
+    ensures { λ _. ⌜ Follows (tableOf (now (text .entry)) (now (rows .entry))) (now (marks .exit)) (now (labels .exit)) ⌝ }
 {
     let mut found: u32 = 1;
     let mut i: usize = 0;
     while i < BITS {
-        let r = open_at(text, rows, marks, x, y, BITS * w + i);
+        let r = open_at(text, rows, marks, labels, x, y, BITS * w + i);
         if r == 0 {
             return 0;
         }
@@ -190,29 +243,48 @@ fn open_pairs(text: &[u8], rows: &[u32], marks: &mut [u32], x: TypeKey, y: TypeK
 }
 
 // The same, where a look at the word has it that a pair may be put off: the bits of those met are not the bits of those opened.
-fn open_word(text: &[u8], rows: &[u32], marks: &mut [u32], x: TypeKey, y: TypeKey, w: usize) -> u32
+fn open_word(
+    text: &[u8],
+    rows: &[u32],
+    marks: &mut [u32],
+    labels: &mut [u32],
+    x: TypeKey,
+    y: TypeKey,
+    w: usize,
+) -> u32
     requires { ⌜ Library (now text) (now rows) ⌝ }
     requires { ⌜ (w < pairWords) × (markWords ≤ length (now marks)) ⌝ }
     requires { ⌜ State (tableOf (now text) (now rows)) (now marks) x y ⌝ }
+    requires { ⌜ Follows (tableOf (now text) (now rows)) (now marks) (now labels) ⌝ }
     ensures { λ r. ⌜ Turn (tableOf (now (text .entry)) (now (rows .entry))) (WordClean (now (marks .entry)) w) (now (marks .entry)) (now (marks .exit)) x y r ⌝ }
+    ensures { λ _. ⌜ Follows (tableOf (now (text .entry)) (now (rows .entry))) (now (marks .exit)) (now (labels .exit)) ⌝ }
 {
     if marks[w] == marks[PAIR_WORDS + w] {
         return 1;
     }
-    open_pairs(text, rows, marks, x, y, w)
+    open_pairs(text, rows, marks, labels, x, y, w)
 }
 
 // The words are seen to in turn. A pair that is opened may put off pairs of words before it, which are left to the next round.
-fn open_round(text: &[u8], rows: &[u32], marks: &mut [u32], x: TypeKey, y: TypeKey) -> u32
+fn open_round(
+    text: &[u8],
+    rows: &[u32],
+    marks: &mut [u32],
+    labels: &mut [u32],
+    x: TypeKey,
+    y: TypeKey,
+) -> u32
     requires { ⌜ Library (now text) (now rows) ⌝ }
     requires { ⌜ markWords ≤ length (now marks) ⌝ }
     requires { ⌜ State (tableOf (now text) (now rows)) (now marks) x y ⌝ }
+    requires { ⌜ Follows (tableOf (now text) (now rows)) (now marks) (now labels) ⌝ }
     ensures { λ r. ⌜ Turn (tableOf (now (text .entry)) (now (rows .entry))) (AllClean (now (marks .entry))) (now (marks .entry)) (now (marks .exit)) x y r ⌝ }
+    ensures { λ _. ⌜ Follows (tableOf (now (text .entry)) (now (rows .entry))) (now (marks .exit)) (now (labels .exit)) ⌝ }
 {
     let mut found: u32 = 1;
     let mut w: usize = 0;
     while w < PAIR_WORDS {
-        let r = open_word(text, rows, marks, x, y, w);
+        let r = open_word(text, rows, marks, labels, x, y, w);
         if r == 0 {
             return 0;
         }
@@ -282,22 +354,42 @@ fn apart(text: &[u8], rows: &[u32], x: TypeKey, y: TypeKey) -> bool
 }
 
 // Types x and y are identical. What was put off is opened, round and round, until nothing is left.
+fn decide_by(
+    text: &[u8],
+    rows: &[u32],
+    marks: &mut [u32],
+    labels: &mut [u32],
+    x: TypeKey,
+    y: TypeKey,
+) -> bool
+    requires { ⌜ Library (now text) (now rows) ⌝ }
+    requires { ⌜ (x .0 < typeCount (now rows)) × (y .0 < typeCount (now rows)) × (markWords ≤ length (now marks)) ⌝ }
+    requires { ⌜ ((p : ℕ) → met (now marks) p ≡ false) ⌝ }
+    requires { ⌜ Follows (tableOf (now text) (now rows)) (now marks) (now labels) ⌝ }
+    ensures { λ r. ⌜ r ≡ identical (tableOf (now (text .entry)) (now (rows .entry))) x y ⌝ }
+{
+    if !identical_impl(text, rows, marks, labels, x, y, DEEP) {
+        return false;
+    }
+    while !settled(marks) {
+        let r = open_round(text, rows, marks, labels, x, y);
+        if r != 2 {
+            return r == 1;
+        }
+    }
+    true
+}
+
+// The same, where every type begins as a class of its own.
 fn decide(text: &[u8], rows: &[u32], marks: &mut [u32], x: TypeKey, y: TypeKey) -> bool
     requires { ⌜ Library (now text) (now rows) ⌝ }
     requires { ⌜ (x .0 < typeCount (now rows)) × (y .0 < typeCount (now rows)) × (markWords ≤ length (now marks)) ⌝ }
     requires { ⌜ ((p : ℕ) → met (now marks) p ≡ false) ⌝ }
     ensures { λ r. ⌜ r ≡ identical (tableOf (now (text .entry)) (now (rows .entry))) x y ⌝ }
 {
-    if !identical_impl(text, rows, marks, x, y, DEEP) {
-        return false;
-    }
-    while !settled(marks) {
-        let r = open_round(text, rows, marks, x, y);
-        if r != 2 {
-            return r == 1;
-        }
-    }
-    true
+    let mut labels = [0u32; 256];
+    number(&mut labels);
+    decide_by(text, rows, marks, &mut labels, x, y)
 }
 
 // Types x and y are identical. The marks are 0 before and after. Types that differ at once or by their parts at once, and one type with itself, leave them

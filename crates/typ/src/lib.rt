@@ -1,6 +1,7 @@
 // Identity and comparability of types, as goscript's typ.rs has them, on the rows of a loaded table: `identical` and `comparable`. Crate type_parts says
 // what a type is made of, and has `BasicType` with `real_type`.
 
+pub mod classes; // labels of types
 pub mod comparable; // C
 pub mod identical; // I
 pub mod marks; // bits in lent words

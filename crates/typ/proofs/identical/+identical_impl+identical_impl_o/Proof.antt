@@ -5,19 +5,21 @@ use lib.ListN.{length}
 use borrow.Author.Needs.{needs}
 use borrow.Fn.Kinds.{In}
 use borrow.Fn.PlainCycle.{Measures, is, falls, and}
+use Rattle.objects.specs.Rows.{tableOf}
 use Rattle.type_parts.proofs.Rank.{rank, high}
 use Rattle.type_parts.proofs.KinLaws.{kin, left-in, right-in, left-place, right-place, left-inside, right-inside}
 use Rattle.typ.specs.Marks.{unmet}
+use Rattle.typ.specs.Compared.{Follows}
 use Rattle.typ.proofs.Marked.{went-self, went-apart, went-parts}
 use Rattle.typ.proofs.Passing.{Passed, passed-none, at-end, at-name, at-differ, at-same}
-use Rattle.typ.proofs.Cycle.{kinds-apart, owns-apart, entered-not, entered-well, entered-went, entered-falls, part-falls, other-falls}
+use Rattle.typ.proofs.Cycle.{kinds-apart, owns-apart, entered-not, entered-well, entered-went, entered-falls, entered-follows, part-falls, other-falls}
 use Rattle.typ.proofs.identical.identical_impl.Reads as identical-impl
 use Rattle.typ.proofs.identical.identical_impl.Kinds as identical-impl-kinds
 use Rattle.typ.proofs.identical.+identical_impl+identical_impl_o.Lts-identical_impl as identical-impl-lts
 use Rattle.typ.proofs.identical.identical_impl_o.Reads as identical-impl-o
 use Rattle.typ.proofs.identical.identical_impl_o.Kinds as identical-impl-o-kinds
 use Rattle.typ.proofs.identical.+identical_impl+identical_impl_o.Lts-identical_impl_o as identical-impl-o-lts
-use Rattle.typ.proofs.identical.enter.Reads as enter-reads
+use Rattle.typ.proofs.identical.enter_pair.Reads as enter-pair-reads
 use Rattle.typ.proofs.identical.less.Reads as less-reads
 use Rattle.typ.proofs.identical.several.Reads as several-reads
 use Rattle.objects.proofs.rows.kind_number.Reads as kind-number-reads
@@ -32,39 +34,39 @@ use Rattle.typ.proofs.identical.+identical_impl+identical_impl_o.{state
 use Rattle.typ.proofs.identical.+identical_impl+identical_impl_o.Tie.{close}
 
 -- the pairs that are not met, then the number of the type
-abbrev μ-identical-impl : Measures 3 identical-impl-kinds.ps ℕ
-μ-identical-impl κs a = 1024 * unmet (a .1 .1 .0 .now) + rank (a .1 .0 .now) (a .1 .1 .1 .0)
+abbrev μ-identical-impl : Measures 4 identical-impl-kinds.ps ℕ
+μ-identical-impl κs a = 1024 * unmet (a .1 .1 .0 .now) + rank (a .1 .0 .now) (a .1 .1 .1 .1 .0)
 
-abbrev μ-identical-impl-o : Measures 3 identical-impl-o-kinds.ps ℕ
-μ-identical-impl-o κs a = 1024 * unmet (a .1 .1 .0 .now) + high (a .1 .0 .now) (a .1 .1 .1 .0)
+abbrev μ-identical-impl-o : Measures 4 identical-impl-o-kinds.ps ℕ
+μ-identical-impl-o κs a = 1024 * unmet (a .1 .1 .0 .now) + high (a .1 .0 .now) (a .1 .1 .1 .1 .0)
 
-abbrev identical-impl-at : ℕ → In 3 identical-impl-kinds.ps
-identical-impl-at t = and 3 identical-impl-kinds.ps (is 3 identical-impl-kinds.ps μ-identical-impl t) identical-impl.Pre
+abbrev identical-impl-at : ℕ → In 4 identical-impl-kinds.ps
+identical-impl-at t = and 4 identical-impl-kinds.ps (is 4 identical-impl-kinds.ps μ-identical-impl t) identical-impl.Pre
 
-abbrev identical-impl-below : ℕ → In 3 identical-impl-kinds.ps
-identical-impl-below t = and 3 identical-impl-kinds.ps (falls 3 identical-impl-kinds.ps _<_ μ-identical-impl t) identical-impl.Pre
+abbrev identical-impl-below : ℕ → In 4 identical-impl-kinds.ps
+identical-impl-below t = and 4 identical-impl-kinds.ps (falls 4 identical-impl-kinds.ps _<_ μ-identical-impl t) identical-impl.Pre
 
-abbrev identical-impl-o-at : ℕ → In 3 identical-impl-o-kinds.ps
-identical-impl-o-at t = and 3 identical-impl-o-kinds.ps (is 3 identical-impl-o-kinds.ps μ-identical-impl-o t) identical-impl-o.Pre
+abbrev identical-impl-o-at : ℕ → In 4 identical-impl-o-kinds.ps
+identical-impl-o-at t = and 4 identical-impl-o-kinds.ps (is 4 identical-impl-o-kinds.ps μ-identical-impl-o t) identical-impl-o.Pre
 
-abbrev identical-impl-o-below : ℕ → In 3 identical-impl-o-kinds.ps
-identical-impl-o-below t = and 3 identical-impl-o-kinds.ps (falls 3 identical-impl-o-kinds.ps _<_ μ-identical-impl-o t) identical-impl-o.Pre
+abbrev identical-impl-o-below : ℕ → In 4 identical-impl-o-kinds.ps
+identical-impl-o-below t = and 4 identical-impl-o-kinds.ps (falls 4 identical-impl-o-kinds.ps _<_ μ-identical-impl-o t) identical-impl-o.Pre
 
 -- what the callees ask and give
 abbrev calls : ℕ → identical-impl-lts.Claims
-calls t = (kind-number-reads.Asked, kind-number-reads.Learnt, own-number-reads.Asked, own-number-reads.Learnt, less-reads.Asked, less-reads.Learnt, several-reads.Asked, several-reads.Learnt, enter-reads.Asked, enter-reads.Learnt, identical-impl-o-below t, identical-impl-o.Post)
+calls t = (kind-number-reads.Asked, kind-number-reads.Learnt, own-number-reads.Asked, own-number-reads.Learnt, less-reads.Asked, less-reads.Learnt, several-reads.Asked, several-reads.Learnt, enter-pair-reads.Asked, enter-pair-reads.Learnt, identical-impl-o-below t, identical-impl-o.Post)
 
 abbrev calls-o : ℕ → identical-impl-o-lts.Claims
 calls-o t = (part-count-reads.Asked, part-count-reads.Learnt, nameless-reads.Asked, nameless-reads.Learnt, type-word-reads.Asked, type-word-reads.Learnt, first-member-reads.Asked, first-member-reads.Learnt, alike-in-reads.Asked, alike-in-reads.Learnt, part-in-reads.Asked, part-in-reads.Learnt, identical-impl-below t, identical-impl.Post)
 
 abbrev identical-impl-o-Inv-loop : identical-impl-o-lts.InvT-loop
-identical-impl-o-Inv-loop text rows marks₀ x y deep n plain j k first second i₀ marks i = (i ≤ n) × (length marks ≡ length marks₀) × Passed text rows marks₀ marks x y i
+identical-impl-o-Inv-loop text rows marks₀ labels₀ x y deep n plain j k first second i₀ marks labels i = (i ≤ n) × (length marks ≡ length marks₀) × (length labels ≡ length labels₀) × Follows (tableOf text rows) marks labels × Passed text rows marks₀ marks x y i
 
 abbrev identical-impl-o-μ-loop : identical-impl-o-lts.MeasureT-loop
-identical-impl-o-μ-loop text rows marks₀ x y deep n plain j k first second i₀ marks i = n - i
+identical-impl-o-μ-loop text rows marks₀ labels₀ x y deep n plain j k first second i₀ marks labels i = n - i
 
 identical-impl-returns : (t : ℕ) → identical-impl-lts.Need-returns (calls t) (identical-impl-at t) identical-impl.Post
-identical-impl-returns t c = went-self _ _ _ _ (c .before .before .before .before .before .before .pre .1 .1 .1) (c .if1 .taken)
+identical-impl-returns t c = (went-self _ _ _ _ (c .before .before .before .before .before .before .before .pre .1 .1 .1 .0) (c .if1 .taken), c .before .before .before .before .before .before .before .pre .1 .1 .1 .1)
 
 identical-impl-kind-number-requires : (t : ℕ) → identical-impl-lts.Need-kind-number-requires (calls t) (identical-impl-at t) identical-impl.Post
 identical-impl-kind-number-requires t c κs = search needs
@@ -73,7 +75,7 @@ identical-impl-kind-number-requires-2 : (t : ℕ) → identical-impl-lts.Need-ki
 identical-impl-kind-number-requires-2 t c κs = search needs
 
 identical-impl-returns-2 : (t : ℕ) → identical-impl-lts.Need-returns-2 (calls t) (identical-impl-at t) identical-impl.Post
-identical-impl-returns-2 t c = went-apart _ _ _ _ (c .before .before .before .before .before .before .before .before .before .pre .1 .1 .1) (kinds-apart (c .before .before .before .before .before .before .before .before .before .args .text .now) (c .before .before .before .before .before .before .before .before .before .args .rows .now) (c .before .before .before .before .before .before .before .before .before .args .x) (c .before .before .before .before .before .before .before .before .before .args .y) (c .before .before .before .before .before .before .before .before .before .pre .1 .1 .0 .0) (c .before .before .before .before .before .before .before .before .before .pre .1 .1 .0 .1) _ _ (c .before .before .kind-number .ensures) (c .before .kind-number2 .ensures) (c .if2 .taken))
+identical-impl-returns-2 t c = (went-apart _ _ _ _ (c .before .before .before .before .before .before .before .before .before .before .pre .1 .1 .1 .0) (kinds-apart (c .before .before .before .before .before .before .before .before .before .before .args .text .now) (c .before .before .before .before .before .before .before .before .before .before .args .rows .now) (c .before .before .before .before .before .before .before .before .before .before .args .x) (c .before .before .before .before .before .before .before .before .before .before .args .y) (c .before .before .before .before .before .before .before .before .before .before .pre .1 .1 .0 .0) (c .before .before .before .before .before .before .before .before .before .before .pre .1 .1 .0 .1) _ _ (c .before .before .kind-number .ensures) (c .before .kind-number2 .ensures) (c .if2 .taken)), c .before .before .before .before .before .before .before .before .before .before .pre .1 .1 .1 .1)
 
 identical-impl-own-number-requires : (t : ℕ) → identical-impl-lts.Need-own-number-requires (calls t) (identical-impl-at t) identical-impl.Post
 identical-impl-own-number-requires t c κs = search needs
@@ -82,7 +84,7 @@ identical-impl-own-number-requires-2 : (t : ℕ) → identical-impl-lts.Need-own
 identical-impl-own-number-requires-2 t c κs = search needs
 
 identical-impl-returns-3 : (t : ℕ) → identical-impl-lts.Need-returns-3 (calls t) (identical-impl-at t) identical-impl.Post
-identical-impl-returns-3 t c = went-apart _ _ _ _ (c .before .before .before .before .before .before .before .before .before .before .before .before .pre .1 .1 .1) (owns-apart (c .before .before .before .before .before .before .before .before .before .before .before .before .args .text .now) (c .before .before .before .before .before .before .before .before .before .before .before .before .args .rows .now) (c .before .before .before .before .before .before .before .before .before .before .before .before .args .x) (c .before .before .before .before .before .before .before .before .before .before .before .before .args .y) (c .before .before .before .before .before .before .before .before .before .before .before .before .pre .1 .1 .0 .0) (c .before .before .before .before .before .before .before .before .before .before .before .before .pre .1 .1 .0 .1) _ _ (c .before .before .own-number .ensures) (c .before .own-number2 .ensures) (c .if3 .taken))
+identical-impl-returns-3 t c = (went-apart _ _ _ _ (c .before .before .before .before .before .before .before .before .before .before .before .before .before .pre .1 .1 .1 .0) (owns-apart (c .before .before .before .before .before .before .before .before .before .before .before .before .before .args .text .now) (c .before .before .before .before .before .before .before .before .before .before .before .before .before .args .rows .now) (c .before .before .before .before .before .before .before .before .before .before .before .before .before .args .x) (c .before .before .before .before .before .before .before .before .before .before .before .before .before .args .y) (c .before .before .before .before .before .before .before .before .before .before .before .before .before .pre .1 .1 .0 .0) (c .before .before .before .before .before .before .before .before .before .before .before .before .before .pre .1 .1 .0 .1) _ _ (c .before .before .own-number .ensures) (c .before .own-number2 .ensures) (c .if3 .taken)), c .before .before .before .before .before .before .before .before .before .before .before .before .before .pre .1 .1 .1 .1)
 
 identical-impl-less-requires : (t : ℕ) → identical-impl-lts.Need-less-requires (calls t) (identical-impl-at t) identical-impl.Post
 identical-impl-less-requires t c κs = search needs
@@ -90,44 +92,41 @@ identical-impl-less-requires t c κs = search needs
 identical-impl-several-requires : (t : ℕ) → identical-impl-lts.Need-several-requires (calls t) (identical-impl-at t) identical-impl.Post
 identical-impl-several-requires t c κs = search needs
 
-identical-impl-cast-enter : (t : ℕ) → identical-impl-lts.Need-cast-enter (calls t) (identical-impl-at t) identical-impl.Post
-identical-impl-cast-enter t c = search needs
-
-identical-impl-mul-enter : (t : ℕ) → identical-impl-lts.Need-mul-enter (calls t) (identical-impl-at t) identical-impl.Post
-identical-impl-mul-enter t c = search needs
-
-identical-impl-cast-enter-2 : (t : ℕ) → identical-impl-lts.Need-cast-enter-2 (calls t) (identical-impl-at t) identical-impl.Post
-identical-impl-cast-enter-2 t c = search needs
-
-identical-impl-add-enter : (t : ℕ) → identical-impl-lts.Need-add-enter (calls t) (identical-impl-at t) identical-impl.Post
-identical-impl-add-enter t c = search needs
-
-identical-impl-enter-requires : (t : ℕ) → identical-impl-lts.Need-enter-requires (calls t) (identical-impl-at t) identical-impl.Post
-identical-impl-enter-requires t c κs = (omega (arith, c .before .before .before .before .before .before .before .before .before .before .before .before .before .before .before .before .before .before .pre .1 .1 .0 .0, c .before .before .before .before .before .before .before .before .before .before .before .before .before .before .before .before .before .before .pre .1 .1 .0 .1, c .before .before .before .before .before .before .before .before .before .before .before .before .before .before .before .before .before .before .pre .1 .0 .laid .types), c .before .before .before .before .before .before .before .before .before .before .before .before .before .before .before .before .before .before .pre .1 .1 .0 .2)
+identical-impl-enter-pair-requires : (t : ℕ) → identical-impl-lts.Need-enter-pair-requires (calls t) (identical-impl-at t) identical-impl.Post
+identical-impl-enter-pair-requires t c κs = ((omega (arith, c .before .before .before .before .before .before .before .before .before .before .before .before .before .before .before .before .before .before .pre .1 .1 .0 .0, c .before .before .before .before .before .before .before .before .before .before .before .before .before .before .before .before .before .before .pre .1 .0 .laid .types), omega (arith, c .before .before .before .before .before .before .before .before .before .before .before .before .before .before .before .before .before .before .pre .1 .1 .0 .1, c .before .before .before .before .before .before .before .before .before .before .before .before .before .before .before .before .before .before .pre .1 .0 .laid .types)), (c .before .before .before .before .before .before .before .before .before .before .before .before .before .before .before .before .before .before .pre .1 .1 .0 .2, c .before .before .before .before .before .before .before .before .before .before .before .before .before .before .before .before .before .before .pre .1 .1 .1 .1 .long))
 
 identical-impl-same-length : (t : ℕ) → identical-impl-lts.Need-same-length (calls t) (identical-impl-at t) identical-impl.Post
 identical-impl-same-length t c = search needs
 
-identical-impl-returns-4 : (t : ℕ) → identical-impl-lts.Need-returns-4 (calls t) (identical-impl-at t) identical-impl.Post
-identical-impl-returns-4 t c = entered-not _ _ (c .before .before .before .before .before .before .before .before .before .before .before .before .before .before .before .before .before .before .before .before .before .before .pre .1 .0) _ _ (kin (c .before .before .before .before .before .before .before .before .before .before .before .before .before .before .before .before .before .before .before .before .before .before .args .text .now) (c .before .before .before .before .before .before .before .before .before .before .before .before .before .before .before .before .before .before .before .before .before .before .args .rows .now) (c .before .before .before .before .before .before .before .before .before .before .before .before .before .before .before .before .before .before .before .before .before .before .args .x) (c .before .before .before .before .before .before .before .before .before .before .before .before .before .before .before .before .before .before .before .before .before .before .args .y) (c .before .before .before .before .before .before .before .before .before .before .before .before .before .before .before .before .before .before .before .before .before .before .pre .1 .1 .0 .0) (c .before .before .before .before .before .before .before .before .before .before .before .before .before .before .before .before .before .before .before .before .before .before .pre .1 .1 .0 .1) _ _ _ _ (c .before .before .before .before .before .before .before .before .before .before .before .before .before .before .before .kind-number .ensures) (c .before .before .before .before .before .before .before .before .before .before .before .before .before .before .kind-number2 .ensures) (c .before .before .before .before .before .before .before .before .before .before .before .before .before .if2 .left) (c .before .before .before .before .before .before .before .before .before .before .before .before .own-number .ensures) (c .before .before .before .before .before .before .before .before .before .before .before .own-number2 .ensures) (c .before .before .before .before .before .before .before .before .before .before .if3 .left)) _ (c .before .before .before .before .before .before .before .before .before .before .before .before .before .before .before .before .before .before .before .before .before .before .pre .1 .1 .0 .2) (c .before .before .before .before .before .before .before .before .before .before .before .before .before .before .before .before .before .before .before .before .before .before .pre .1 .1 .1) _ _ (c .before .before .before .enter .ensures) (c .if5 .taken)
-
-identical-impl-identical-impl-o-requires : (t : ℕ) → identical-impl-lts.Need-identical-impl-o-requires (calls t) (identical-impl-at t) identical-impl.Post
-identical-impl-identical-impl-o-requires t c κs = (entered-falls _ _ (c .before .before .before .before .before .before .before .before .before .before .before .before .before .before .before .before .before .before .before .before .before .before .before .pre .1 .0) _ _ (kin (c .before .before .before .before .before .before .before .before .before .before .before .before .before .before .before .before .before .before .before .before .before .before .before .args .text .now) (c .before .before .before .before .before .before .before .before .before .before .before .before .before .before .before .before .before .before .before .before .before .before .before .args .rows .now) (c .before .before .before .before .before .before .before .before .before .before .before .before .before .before .before .before .before .before .before .before .before .before .before .args .x) (c .before .before .before .before .before .before .before .before .before .before .before .before .before .before .before .before .before .before .before .before .before .before .before .args .y) (c .before .before .before .before .before .before .before .before .before .before .before .before .before .before .before .before .before .before .before .before .before .before .before .pre .1 .1 .0 .0) (c .before .before .before .before .before .before .before .before .before .before .before .before .before .before .before .before .before .before .before .before .before .before .before .pre .1 .1 .0 .1) _ _ _ _ (c .before .before .before .before .before .before .before .before .before .before .before .before .before .before .before .before .kind-number .ensures) (c .before .before .before .before .before .before .before .before .before .before .before .before .before .before .before .kind-number2 .ensures) (c .before .before .before .before .before .before .before .before .before .before .before .before .before .before .if2 .left) (c .before .before .before .before .before .before .before .before .before .before .before .before .before .own-number .ensures) (c .before .before .before .before .before .before .before .before .before .before .before .before .own-number2 .ensures) (c .before .before .before .before .before .before .before .before .before .before .before .if3 .left)) _ (c .before .before .before .before .before .before .before .before .before .before .before .before .before .before .before .before .before .before .before .before .before .before .before .pre .1 .1 .0 .2) (c .before .before .before .before .before .before .before .before .before .before .before .before .before .before .before .before .before .before .before .before .before .before .before .pre .1 .1 .1) _ _ (c .before .before .before .before .enter .ensures) (c .before .if5 .left) _ (c .before .before .before .before .before .before .before .before .before .before .before .before .before .before .before .before .before .before .before .before .before .before .before .pre .0), (c .before .before .before .before .before .before .before .before .before .before .before .before .before .before .before .before .before .before .before .before .before .before .before .pre .1 .0, (((kin (c .before .before .before .before .before .before .before .before .before .before .before .before .before .before .before .before .before .before .before .before .before .before .before .args .text .now) (c .before .before .before .before .before .before .before .before .before .before .before .before .before .before .before .before .before .before .before .before .before .before .before .args .rows .now) (c .before .before .before .before .before .before .before .before .before .before .before .before .before .before .before .before .before .before .before .before .before .before .before .args .x) (c .before .before .before .before .before .before .before .before .before .before .before .before .before .before .before .before .before .before .before .before .before .before .before .args .y) (c .before .before .before .before .before .before .before .before .before .before .before .before .before .before .before .before .before .before .before .before .before .before .before .pre .1 .1 .0 .0) (c .before .before .before .before .before .before .before .before .before .before .before .before .before .before .before .before .before .before .before .before .before .before .before .pre .1 .1 .0 .1) _ _ _ _ (c .before .before .before .before .before .before .before .before .before .before .before .before .before .before .before .before .kind-number .ensures) (c .before .before .before .before .before .before .before .before .before .before .before .before .before .before .before .kind-number2 .ensures) (c .before .before .before .before .before .before .before .before .before .before .before .before .before .before .if2 .left) (c .before .before .before .before .before .before .before .before .before .before .before .before .before .own-number .ensures) (c .before .before .before .before .before .before .before .before .before .before .before .before .own-number2 .ensures) (c .before .before .before .before .before .before .before .before .before .before .before .if3 .left)), omega (arith, c .before .before .before .before .enter .kept .0, c .before .before .before .before .before .before .before .before .before .before .before .before .before .before .before .before .before .before .before .before .before .before .before .pre .1 .1 .0 .2)), entered-well _ _ (c .before .before .before .before .before .before .before .before .before .before .before .before .before .before .before .before .before .before .before .before .before .before .before .pre .1 .0) _ _ (kin (c .before .before .before .before .before .before .before .before .before .before .before .before .before .before .before .before .before .before .before .before .before .before .before .args .text .now) (c .before .before .before .before .before .before .before .before .before .before .before .before .before .before .before .before .before .before .before .before .before .before .before .args .rows .now) (c .before .before .before .before .before .before .before .before .before .before .before .before .before .before .before .before .before .before .before .before .before .before .before .args .x) (c .before .before .before .before .before .before .before .before .before .before .before .before .before .before .before .before .before .before .before .before .before .before .before .args .y) (c .before .before .before .before .before .before .before .before .before .before .before .before .before .before .before .before .before .before .before .before .before .before .before .pre .1 .1 .0 .0) (c .before .before .before .before .before .before .before .before .before .before .before .before .before .before .before .before .before .before .before .before .before .before .before .pre .1 .1 .0 .1) _ _ _ _ (c .before .before .before .before .before .before .before .before .before .before .before .before .before .before .before .before .kind-number .ensures) (c .before .before .before .before .before .before .before .before .before .before .before .before .before .before .before .kind-number2 .ensures) (c .before .before .before .before .before .before .before .before .before .before .before .before .before .before .if2 .left) (c .before .before .before .before .before .before .before .before .before .before .before .before .before .own-number .ensures) (c .before .before .before .before .before .before .before .before .before .before .before .before .own-number2 .ensures) (c .before .before .before .before .before .before .before .before .before .before .before .if3 .left)) _ (c .before .before .before .before .before .before .before .before .before .before .before .before .before .before .before .before .before .before .before .before .before .before .before .pre .1 .1 .0 .2) (c .before .before .before .before .before .before .before .before .before .before .before .before .before .before .before .before .before .before .before .before .before .before .before .pre .1 .1 .1) _ _ (c .before .before .before .before .enter .ensures) (c .before .if5 .left))))
-
 identical-impl-same-length-2 : (t : ℕ) → identical-impl-lts.Need-same-length-2 (calls t) (identical-impl-at t) identical-impl.Post
 identical-impl-same-length-2 t c = search needs
 
-identical-impl-returns-5 : (t : ℕ) → identical-impl-lts.Need-returns-5 (calls t) (identical-impl-at t) identical-impl.Post
-identical-impl-returns-5 t c = entered-went _ _ (c .before .before .before .before .before .before .before .before .before .before .before .before .before .before .before .before .before .before .before .before .before .before .before .before .before .before .pre .1 .0) _ _ (kin (c .before .before .before .before .before .before .before .before .before .before .before .before .before .before .before .before .before .before .before .before .before .before .before .before .before .before .args .text .now) (c .before .before .before .before .before .before .before .before .before .before .before .before .before .before .before .before .before .before .before .before .before .before .before .before .before .before .args .rows .now) (c .before .before .before .before .before .before .before .before .before .before .before .before .before .before .before .before .before .before .before .before .before .before .before .before .before .before .args .x) (c .before .before .before .before .before .before .before .before .before .before .before .before .before .before .before .before .before .before .before .before .before .before .before .before .before .before .args .y) (c .before .before .before .before .before .before .before .before .before .before .before .before .before .before .before .before .before .before .before .before .before .before .before .before .before .before .pre .1 .1 .0 .0) (c .before .before .before .before .before .before .before .before .before .before .before .before .before .before .before .before .before .before .before .before .before .before .before .before .before .before .pre .1 .1 .0 .1) _ _ _ _ (c .before .before .before .before .before .before .before .before .before .before .before .before .before .before .before .before .before .before .before .kind-number .ensures) (c .before .before .before .before .before .before .before .before .before .before .before .before .before .before .before .before .before .before .kind-number2 .ensures) (c .before .before .before .before .before .before .before .before .before .before .before .before .before .before .before .before .before .if2 .left) (c .before .before .before .before .before .before .before .before .before .before .before .before .before .before .before .before .own-number .ensures) (c .before .before .before .before .before .before .before .before .before .before .before .before .before .before .before .own-number2 .ensures) (c .before .before .before .before .before .before .before .before .before .before .before .before .before .before .if3 .left)) _ (c .before .before .before .before .before .before .before .before .before .before .before .before .before .before .before .before .before .before .before .before .before .before .before .before .before .before .pre .1 .1 .0 .2) (c .before .before .before .before .before .before .before .before .before .before .before .before .before .before .before .before .before .before .before .before .before .before .before .before .before .before .pre .1 .1 .1) _ _ (c .before .before .before .before .before .before .before .enter .ensures) (c .before .before .before .before .if5 .left) _ _ (c .before .before .identical-impl-o .ensures)
+identical-impl-returns-4 : (t : ℕ) → identical-impl-lts.Need-returns-4 (calls t) (identical-impl-at t) identical-impl.Post
+identical-impl-returns-4 t c = (entered-not _ _ (c .before .before .before .before .before .before .before .before .before .before .before .before .before .before .before .before .before .before .before .before .before .before .before .before .pre .1 .0) _ _ (kin (c .before .before .before .before .before .before .before .before .before .before .before .before .before .before .before .before .before .before .before .before .before .before .before .before .args .text .now) (c .before .before .before .before .before .before .before .before .before .before .before .before .before .before .before .before .before .before .before .before .before .before .before .before .args .rows .now) (c .before .before .before .before .before .before .before .before .before .before .before .before .before .before .before .before .before .before .before .before .before .before .before .before .args .x) (c .before .before .before .before .before .before .before .before .before .before .before .before .before .before .before .before .before .before .before .before .before .before .before .before .args .y) (c .before .before .before .before .before .before .before .before .before .before .before .before .before .before .before .before .before .before .before .before .before .before .before .before .pre .1 .1 .0 .0) (c .before .before .before .before .before .before .before .before .before .before .before .before .before .before .before .before .before .before .before .before .before .before .before .before .pre .1 .1 .0 .1) _ _ _ _ (c .before .before .before .before .before .before .before .before .before .before .before .before .before .before .before .before .kind-number .ensures) (c .before .before .before .before .before .before .before .before .before .before .before .before .before .before .before .kind-number2 .ensures) (c .before .before .before .before .before .before .before .before .before .before .before .before .before .before .if2 .left) (c .before .before .before .before .before .before .before .before .before .before .before .before .before .own-number .ensures) (c .before .before .before .before .before .before .before .before .before .before .before .before .own-number2 .ensures) (c .before .before .before .before .before .before .before .before .before .before .before .if3 .left)) _ (c .before .before .before .before .before .before .before .before .before .before .before .before .before .before .before .before .before .before .before .before .before .before .before .before .pre .1 .1 .0 .2) (c .before .before .before .before .before .before .before .before .before .before .before .before .before .before .before .before .before .before .before .before .before .before .before .before .pre .1 .1 .1 .0) _ _ (c .before .before .before .before .before .before .before .before .before .before .before .before .before .before .before .before .before .before .before .before .before .before .before .before .pre .1 .1 .1 .1) _ _ (c .before .before .before .before .before .enter-pair .ensures) (c .if5 .taken), entered-follows _ _ (c .before .before .before .before .before .before .before .before .before .before .before .before .before .before .before .before .before .before .before .before .before .before .before .before .pre .1 .0) _ _ (kin (c .before .before .before .before .before .before .before .before .before .before .before .before .before .before .before .before .before .before .before .before .before .before .before .before .args .text .now) (c .before .before .before .before .before .before .before .before .before .before .before .before .before .before .before .before .before .before .before .before .before .before .before .before .args .rows .now) (c .before .before .before .before .before .before .before .before .before .before .before .before .before .before .before .before .before .before .before .before .before .before .before .before .args .x) (c .before .before .before .before .before .before .before .before .before .before .before .before .before .before .before .before .before .before .before .before .before .before .before .before .args .y) (c .before .before .before .before .before .before .before .before .before .before .before .before .before .before .before .before .before .before .before .before .before .before .before .before .pre .1 .1 .0 .0) (c .before .before .before .before .before .before .before .before .before .before .before .before .before .before .before .before .before .before .before .before .before .before .before .before .pre .1 .1 .0 .1) _ _ _ _ (c .before .before .before .before .before .before .before .before .before .before .before .before .before .before .before .before .kind-number .ensures) (c .before .before .before .before .before .before .before .before .before .before .before .before .before .before .before .kind-number2 .ensures) (c .before .before .before .before .before .before .before .before .before .before .before .before .before .before .if2 .left) (c .before .before .before .before .before .before .before .before .before .before .before .before .before .own-number .ensures) (c .before .before .before .before .before .before .before .before .before .before .before .before .own-number2 .ensures) (c .before .before .before .before .before .before .before .before .before .before .before .if3 .left)) _ (c .before .before .before .before .before .before .before .before .before .before .before .before .before .before .before .before .before .before .before .before .before .before .before .before .pre .1 .1 .0 .2) (c .before .before .before .before .before .before .before .before .before .before .before .before .before .before .before .before .before .before .before .before .before .before .before .before .pre .1 .1 .1 .0) _ _ (c .before .before .before .before .before .before .before .before .before .before .before .before .before .before .before .before .before .before .before .before .before .before .before .before .pre .1 .1 .1 .1) _ _ (c .before .before .before .before .before .enter-pair .ensures))
 
-identical-impl-identical-impl-o-requires-2 : (t : ℕ) → identical-impl-lts.Need-identical-impl-o-requires-2 (calls t) (identical-impl-at t) identical-impl.Post
-identical-impl-identical-impl-o-requires-2 t c κs = (other-falls _ _ _ _ _ _ (c .before .before .before .before .before .before .before .before .before .kind-number .ensures) (c .before .before .several .ensures) (c .before .if4 .left) (c .before .before .before .before .before .before .before .before .before .before .before .before .before .before .before .before .pre .0), (c .before .before .before .before .before .before .before .before .before .before .before .before .before .before .before .before .pre .1 .0, (((kin (c .before .before .before .before .before .before .before .before .before .before .before .before .before .before .before .before .args .text .now) (c .before .before .before .before .before .before .before .before .before .before .before .before .before .before .before .before .args .rows .now) (c .before .before .before .before .before .before .before .before .before .before .before .before .before .before .before .before .args .x) (c .before .before .before .before .before .before .before .before .before .before .before .before .before .before .before .before .args .y) (c .before .before .before .before .before .before .before .before .before .before .before .before .before .before .before .before .pre .1 .1 .0 .0) (c .before .before .before .before .before .before .before .before .before .before .before .before .before .before .before .before .pre .1 .1 .0 .1) _ _ _ _ (c .before .before .before .before .before .before .before .before .before .kind-number .ensures) (c .before .before .before .before .before .before .before .before .kind-number2 .ensures) (c .before .before .before .before .before .before .before .if2 .left) (c .before .before .before .before .before .before .own-number .ensures) (c .before .before .before .before .before .own-number2 .ensures) (c .before .before .before .before .if3 .left)), c .before .before .before .before .before .before .before .before .before .before .before .before .before .before .before .before .pre .1 .1 .0 .2), c .before .before .before .before .before .before .before .before .before .before .before .before .before .before .before .before .pre .1 .1 .1)))
+identical-impl-identical-impl-o-requires : (t : ℕ) → identical-impl-lts.Need-identical-impl-o-requires (calls t) (identical-impl-at t) identical-impl.Post
+identical-impl-identical-impl-o-requires t c κs = (entered-falls _ _ (c .before .before .before .before .before .before .before .before .before .before .before .before .before .before .before .before .before .before .before .before .before .before .before .before .before .before .pre .1 .0) _ _ (kin (c .before .before .before .before .before .before .before .before .before .before .before .before .before .before .before .before .before .before .before .before .before .before .before .before .before .before .args .text .now) (c .before .before .before .before .before .before .before .before .before .before .before .before .before .before .before .before .before .before .before .before .before .before .before .before .before .before .args .rows .now) (c .before .before .before .before .before .before .before .before .before .before .before .before .before .before .before .before .before .before .before .before .before .before .before .before .before .before .args .x) (c .before .before .before .before .before .before .before .before .before .before .before .before .before .before .before .before .before .before .before .before .before .before .before .before .before .before .args .y) (c .before .before .before .before .before .before .before .before .before .before .before .before .before .before .before .before .before .before .before .before .before .before .before .before .before .before .pre .1 .1 .0 .0) (c .before .before .before .before .before .before .before .before .before .before .before .before .before .before .before .before .before .before .before .before .before .before .before .before .before .before .pre .1 .1 .0 .1) _ _ _ _ (c .before .before .before .before .before .before .before .before .before .before .before .before .before .before .before .before .before .before .kind-number .ensures) (c .before .before .before .before .before .before .before .before .before .before .before .before .before .before .before .before .before .kind-number2 .ensures) (c .before .before .before .before .before .before .before .before .before .before .before .before .before .before .before .before .if2 .left) (c .before .before .before .before .before .before .before .before .before .before .before .before .before .before .before .own-number .ensures) (c .before .before .before .before .before .before .before .before .before .before .before .before .before .before .own-number2 .ensures) (c .before .before .before .before .before .before .before .before .before .before .before .before .before .if3 .left)) _ (c .before .before .before .before .before .before .before .before .before .before .before .before .before .before .before .before .before .before .before .before .before .before .before .before .before .before .pre .1 .1 .0 .2) (c .before .before .before .before .before .before .before .before .before .before .before .before .before .before .before .before .before .before .before .before .before .before .before .before .before .before .pre .1 .1 .1 .0) _ _ (c .before .before .before .before .before .before .before .before .before .before .before .before .before .before .before .before .before .before .before .before .before .before .before .before .before .before .pre .1 .1 .1 .1) _ _ (c .before .before .before .before .before .before .before .enter-pair .ensures) (c .before .before .if5 .left) _ (c .before .before .before .before .before .before .before .before .before .before .before .before .before .before .before .before .before .before .before .before .before .before .before .before .before .before .pre .0), (c .before .before .before .before .before .before .before .before .before .before .before .before .before .before .before .before .before .before .before .before .before .before .before .before .before .before .pre .1 .0, (((kin (c .before .before .before .before .before .before .before .before .before .before .before .before .before .before .before .before .before .before .before .before .before .before .before .before .before .before .args .text .now) (c .before .before .before .before .before .before .before .before .before .before .before .before .before .before .before .before .before .before .before .before .before .before .before .before .before .before .args .rows .now) (c .before .before .before .before .before .before .before .before .before .before .before .before .before .before .before .before .before .before .before .before .before .before .before .before .before .before .args .x) (c .before .before .before .before .before .before .before .before .before .before .before .before .before .before .before .before .before .before .before .before .before .before .before .before .before .before .args .y) (c .before .before .before .before .before .before .before .before .before .before .before .before .before .before .before .before .before .before .before .before .before .before .before .before .before .before .pre .1 .1 .0 .0) (c .before .before .before .before .before .before .before .before .before .before .before .before .before .before .before .before .before .before .before .before .before .before .before .before .before .before .pre .1 .1 .0 .1) _ _ _ _ (c .before .before .before .before .before .before .before .before .before .before .before .before .before .before .before .before .before .before .kind-number .ensures) (c .before .before .before .before .before .before .before .before .before .before .before .before .before .before .before .before .before .kind-number2 .ensures) (c .before .before .before .before .before .before .before .before .before .before .before .before .before .before .before .before .if2 .left) (c .before .before .before .before .before .before .before .before .before .before .before .before .before .before .before .own-number .ensures) (c .before .before .before .before .before .before .before .before .before .before .before .before .before .before .own-number2 .ensures) (c .before .before .before .before .before .before .before .before .before .before .before .before .before .if3 .left)), omega (arith, c .before .before .before .before .before .before .before .enter-pair .kept .0, c .before .before .before .before .before .before .before .before .before .before .before .before .before .before .before .before .before .before .before .before .before .before .before .before .before .before .pre .1 .1 .0 .2)), (entered-well _ _ (c .before .before .before .before .before .before .before .before .before .before .before .before .before .before .before .before .before .before .before .before .before .before .before .before .before .before .pre .1 .0) _ _ (kin (c .before .before .before .before .before .before .before .before .before .before .before .before .before .before .before .before .before .before .before .before .before .before .before .before .before .before .args .text .now) (c .before .before .before .before .before .before .before .before .before .before .before .before .before .before .before .before .before .before .before .before .before .before .before .before .before .before .args .rows .now) (c .before .before .before .before .before .before .before .before .before .before .before .before .before .before .before .before .before .before .before .before .before .before .before .before .before .before .args .x) (c .before .before .before .before .before .before .before .before .before .before .before .before .before .before .before .before .before .before .before .before .before .before .before .before .before .before .args .y) (c .before .before .before .before .before .before .before .before .before .before .before .before .before .before .before .before .before .before .before .before .before .before .before .before .before .before .pre .1 .1 .0 .0) (c .before .before .before .before .before .before .before .before .before .before .before .before .before .before .before .before .before .before .before .before .before .before .before .before .before .before .pre .1 .1 .0 .1) _ _ _ _ (c .before .before .before .before .before .before .before .before .before .before .before .before .before .before .before .before .before .before .kind-number .ensures) (c .before .before .before .before .before .before .before .before .before .before .before .before .before .before .before .before .before .kind-number2 .ensures) (c .before .before .before .before .before .before .before .before .before .before .before .before .before .before .before .before .if2 .left) (c .before .before .before .before .before .before .before .before .before .before .before .before .before .before .before .own-number .ensures) (c .before .before .before .before .before .before .before .before .before .before .before .before .before .before .own-number2 .ensures) (c .before .before .before .before .before .before .before .before .before .before .before .before .before .if3 .left)) _ (c .before .before .before .before .before .before .before .before .before .before .before .before .before .before .before .before .before .before .before .before .before .before .before .before .before .before .pre .1 .1 .0 .2) (c .before .before .before .before .before .before .before .before .before .before .before .before .before .before .before .before .before .before .before .before .before .before .before .before .before .before .pre .1 .1 .1 .0) _ _ (c .before .before .before .before .before .before .before .before .before .before .before .before .before .before .before .before .before .before .before .before .before .before .before .before .before .before .pre .1 .1 .1 .1) _ _ (c .before .before .before .before .before .before .before .enter-pair .ensures) (c .before .before .if5 .left), entered-follows _ _ (c .before .before .before .before .before .before .before .before .before .before .before .before .before .before .before .before .before .before .before .before .before .before .before .before .before .before .pre .1 .0) _ _ (kin (c .before .before .before .before .before .before .before .before .before .before .before .before .before .before .before .before .before .before .before .before .before .before .before .before .before .before .args .text .now) (c .before .before .before .before .before .before .before .before .before .before .before .before .before .before .before .before .before .before .before .before .before .before .before .before .before .before .args .rows .now) (c .before .before .before .before .before .before .before .before .before .before .before .before .before .before .before .before .before .before .before .before .before .before .before .before .before .before .args .x) (c .before .before .before .before .before .before .before .before .before .before .before .before .before .before .before .before .before .before .before .before .before .before .before .before .before .before .args .y) (c .before .before .before .before .before .before .before .before .before .before .before .before .before .before .before .before .before .before .before .before .before .before .before .before .before .before .pre .1 .1 .0 .0) (c .before .before .before .before .before .before .before .before .before .before .before .before .before .before .before .before .before .before .before .before .before .before .before .before .before .before .pre .1 .1 .0 .1) _ _ _ _ (c .before .before .before .before .before .before .before .before .before .before .before .before .before .before .before .before .before .before .kind-number .ensures) (c .before .before .before .before .before .before .before .before .before .before .before .before .before .before .before .before .before .kind-number2 .ensures) (c .before .before .before .before .before .before .before .before .before .before .before .before .before .before .before .before .if2 .left) (c .before .before .before .before .before .before .before .before .before .before .before .before .before .before .before .own-number .ensures) (c .before .before .before .before .before .before .before .before .before .before .before .before .before .before .own-number2 .ensures) (c .before .before .before .before .before .before .before .before .before .before .before .before .before .if3 .left)) _ (c .before .before .before .before .before .before .before .before .before .before .before .before .before .before .before .before .before .before .before .before .before .before .before .before .before .before .pre .1 .1 .0 .2) (c .before .before .before .before .before .before .before .before .before .before .before .before .before .before .before .before .before .before .before .before .before .before .before .before .before .before .pre .1 .1 .1 .0) _ _ (c .before .before .before .before .before .before .before .before .before .before .before .before .before .before .before .before .before .before .before .before .before .before .before .before .before .before .pre .1 .1 .1 .1) _ _ (c .before .before .before .before .before .before .before .enter-pair .ensures)))))
 
 identical-impl-same-length-3 : (t : ℕ) → identical-impl-lts.Need-same-length-3 (calls t) (identical-impl-at t) identical-impl.Post
 identical-impl-same-length-3 t c = search needs
 
+identical-impl-same-length-4 : (t : ℕ) → identical-impl-lts.Need-same-length-4 (calls t) (identical-impl-at t) identical-impl.Post
+identical-impl-same-length-4 t c = search needs
+
+identical-impl-returns-5 : (t : ℕ) → identical-impl-lts.Need-returns-5 (calls t) (identical-impl-at t) identical-impl.Post
+identical-impl-returns-5 t c = (entered-went _ _ (c .before .before .before .before .before .before .before .before .before .before .before .before .before .before .before .before .before .before .before .before .before .before .before .before .before .before .before .before .before .before .before .pre .1 .0) _ _ (kin (c .before .before .before .before .before .before .before .before .before .before .before .before .before .before .before .before .before .before .before .before .before .before .before .before .before .before .before .before .before .before .before .args .text .now) (c .before .before .before .before .before .before .before .before .before .before .before .before .before .before .before .before .before .before .before .before .before .before .before .before .before .before .before .before .before .before .before .args .rows .now) (c .before .before .before .before .before .before .before .before .before .before .before .before .before .before .before .before .before .before .before .before .before .before .before .before .before .before .before .before .before .before .before .args .x) (c .before .before .before .before .before .before .before .before .before .before .before .before .before .before .before .before .before .before .before .before .before .before .before .before .before .before .before .before .before .before .before .args .y) (c .before .before .before .before .before .before .before .before .before .before .before .before .before .before .before .before .before .before .before .before .before .before .before .before .before .before .before .before .before .before .before .pre .1 .1 .0 .0) (c .before .before .before .before .before .before .before .before .before .before .before .before .before .before .before .before .before .before .before .before .before .before .before .before .before .before .before .before .before .before .before .pre .1 .1 .0 .1) _ _ _ _ (c .before .before .before .before .before .before .before .before .before .before .before .before .before .before .before .before .before .before .before .before .before .before .before .kind-number .ensures) (c .before .before .before .before .before .before .before .before .before .before .before .before .before .before .before .before .before .before .before .before .before .before .kind-number2 .ensures) (c .before .before .before .before .before .before .before .before .before .before .before .before .before .before .before .before .before .before .before .before .before .if2 .left) (c .before .before .before .before .before .before .before .before .before .before .before .before .before .before .before .before .before .before .before .before .own-number .ensures) (c .before .before .before .before .before .before .before .before .before .before .before .before .before .before .before .before .before .before .before .own-number2 .ensures) (c .before .before .before .before .before .before .before .before .before .before .before .before .before .before .before .before .before .before .if3 .left)) _ (c .before .before .before .before .before .before .before .before .before .before .before .before .before .before .before .before .before .before .before .before .before .before .before .before .before .before .before .before .before .before .before .pre .1 .1 .0 .2) (c .before .before .before .before .before .before .before .before .before .before .before .before .before .before .before .before .before .before .before .before .before .before .before .before .before .before .before .before .before .before .before .pre .1 .1 .1 .0) _ _ (c .before .before .before .before .before .before .before .before .before .before .before .before .before .before .before .before .before .before .before .before .before .before .before .before .before .before .before .before .before .before .before .pre .1 .1 .1 .1) _ _ (c .before .before .before .before .before .before .before .before .before .before .before .before .enter-pair .ensures) (c .before .before .before .before .before .before .before .if5 .left) _ _ (c .before .before .before .before .identical-impl-o .ensures .0), c .before .before .before .before .identical-impl-o .ensures .1)
+
+identical-impl-identical-impl-o-requires-2 : (t : ℕ) → identical-impl-lts.Need-identical-impl-o-requires-2 (calls t) (identical-impl-at t) identical-impl.Post
+identical-impl-identical-impl-o-requires-2 t c κs = (other-falls _ _ _ _ _ _ (c .before .before .before .before .before .before .before .before .before .before .kind-number .ensures) (c .before .before .before .several .ensures) (c .before .before .if4 .left) (c .before .before .before .before .before .before .before .before .before .before .before .before .before .before .before .before .before .before .pre .0), (c .before .before .before .before .before .before .before .before .before .before .before .before .before .before .before .before .before .before .pre .1 .0, (((kin (c .before .before .before .before .before .before .before .before .before .before .before .before .before .before .before .before .before .before .args .text .now) (c .before .before .before .before .before .before .before .before .before .before .before .before .before .before .before .before .before .before .args .rows .now) (c .before .before .before .before .before .before .before .before .before .before .before .before .before .before .before .before .before .before .args .x) (c .before .before .before .before .before .before .before .before .before .before .before .before .before .before .before .before .before .before .args .y) (c .before .before .before .before .before .before .before .before .before .before .before .before .before .before .before .before .before .before .pre .1 .1 .0 .0) (c .before .before .before .before .before .before .before .before .before .before .before .before .before .before .before .before .before .before .pre .1 .1 .0 .1) _ _ _ _ (c .before .before .before .before .before .before .before .before .before .before .kind-number .ensures) (c .before .before .before .before .before .before .before .before .before .kind-number2 .ensures) (c .before .before .before .before .before .before .before .before .if2 .left) (c .before .before .before .before .before .before .before .own-number .ensures) (c .before .before .before .before .before .before .own-number2 .ensures) (c .before .before .before .before .before .if3 .left)), c .before .before .before .before .before .before .before .before .before .before .before .before .before .before .before .before .before .before .pre .1 .1 .0 .2), (c .before .before .before .before .before .before .before .before .before .before .before .before .before .before .before .before .before .before .pre .1 .1 .1 .0, c .before .before .before .before .before .before .before .before .before .before .before .before .before .before .before .before .before .before .pre .1 .1 .1 .1))))
+
+identical-impl-same-length-5 : (t : ℕ) → identical-impl-lts.Need-same-length-5 (calls t) (identical-impl-at t) identical-impl.Post
+identical-impl-same-length-5 t c = search needs
+
+identical-impl-same-length-6 : (t : ℕ) → identical-impl-lts.Need-same-length-6 (calls t) (identical-impl-at t) identical-impl.Post
+identical-impl-same-length-6 t c = search needs
+
 identical-impl-returns-6 : (t : ℕ) → identical-impl-lts.Need-returns-6 (calls t) (identical-impl-at t) identical-impl.Post
-identical-impl-returns-6 t c = went-parts _ _ _ _ _ _ (c .before .before .identical-impl-o2 .ensures)
+identical-impl-returns-6 t c = (went-parts _ _ _ _ _ _ (c .before .before .before .before .identical-impl-o2 .ensures .0), c .before .before .before .before .identical-impl-o2 .ensures .1)
 
 identical-impl-o-part-count-requires : (t : ℕ) → identical-impl-o-lts.Need-part-count-requires (calls-o t) (identical-impl-o-at t) identical-impl-o.Post identical-impl-o-Inv-loop identical-impl-o-μ-loop
 identical-impl-o-part-count-requires t c κs = search needs
@@ -148,46 +147,55 @@ identical-impl-o-first-member-requires-2 : (t : ℕ) → identical-impl-o-lts.Ne
 identical-impl-o-first-member-requires-2 t c κs = search needs
 
 identical-impl-o-loop-holds : (t : ℕ) → identical-impl-o-lts.Need-loop-holds (calls-o t) (identical-impl-o-at t) identical-impl-o.Post identical-impl-o-Inv-loop identical-impl-o-μ-loop
-identical-impl-o-loop-holds t c = (search needs, search needs, passed-none _ _ _ _ _ (c .before .before .before .before .before .before .before .before .before .pre .1 .1 .1))
+identical-impl-o-loop-holds t c = (search needs, search needs, search needs, c .before .before .before .before .before .before .before .before .before .before .pre .1 .1 .1 .1, passed-none _ _ _ _ _ (c .before .before .before .before .before .before .before .before .before .before .pre .1 .1 .1 .0))
 
 identical-impl-o-alike-in-requires : (t : ℕ) → identical-impl-o-lts.Need-alike-in-requires (calls-o t) (identical-impl-o-at t) identical-impl-o.Post identical-impl-o-Inv-loop identical-impl-o-μ-loop
-identical-impl-o-alike-in-requires t c κs = (c .before .before .before .before .before .before .before .before .before .before .before .pre .1 .0, ((c .before .before .before .before .before .before .before .before .before .before .before .pre .1 .1 .0 .0, omega (arith, c .before .before .before .before .before .before .before .part-count .ensures, c .loop-test .taken)), c .before .before .before .before .before .before .nameless .ensures))
+identical-impl-o-alike-in-requires t c κs = (c .before .before .before .before .before .before .before .before .before .before .before .before .pre .1 .0, ((c .before .before .before .before .before .before .before .before .before .before .before .before .pre .1 .1 .0 .0, omega (arith, c .before .before .before .before .before .before .before .part-count .ensures, c .loop-test .taken)), c .before .before .before .before .before .before .nameless .ensures))
 
 identical-impl-o-same-length : (t : ℕ) → identical-impl-o-lts.Need-same-length (calls-o t) (identical-impl-o-at t) identical-impl-o.Post identical-impl-o-Inv-loop identical-impl-o-μ-loop
 identical-impl-o-same-length t c = search needs
 
-identical-impl-o-returns : (t : ℕ) → identical-impl-o-lts.Need-returns (calls-o t) (identical-impl-o-at t) identical-impl-o.Post identical-impl-o-Inv-loop identical-impl-o-μ-loop
-identical-impl-o-returns t c = at-name (c .before .before .before .before .before .before .before .before .before .before .before .before .before .args .text .now) (c .before .before .before .before .before .before .before .before .before .before .before .before .before .args .rows .now) _ _ (left-in _ _ (c .before .before .before .before .before .before .before .before .before .before .before .before .before .pre .1 .0) _ _ (c .before .before .before .before .before .before .before .before .before .before .before .before .before .pre .1 .1 .0 .0)) (right-in _ _ (c .before .before .before .before .before .before .before .before .before .before .before .before .before .pre .1 .0) _ _ (c .before .before .before .before .before .before .before .before .before .before .before .before .before .pre .1 .1 .0 .0)) ((c .before .before .before .before .before .before .before .before .before .before .before .before .before .pre .1 .1 .0 .0) .kinds) ((c .before .before .before .before .before .before .before .before .before .before .before .before .before .pre .1 .1 .0 .0) .owns) _ _ (c .before .before .before .before .before .before .before .before .before .part-count .ensures) (c .before .before .loop-test .taken) _ _ _ (c .before .before .before .loop .inv .2) (c .before .alike-in .ensures) (c .if1 .taken)
-
-identical-impl-o-part-in-requires : (t : ℕ) → identical-impl-o-lts.Need-part-in-requires (calls-o t) (identical-impl-o-at t) identical-impl-o.Post identical-impl-o-Inv-loop identical-impl-o-μ-loop
-identical-impl-o-part-in-requires t c κs = ((c .before .before .before .before .before .before .before .type-word .ensures, c .before .before .before .before .before .first-member .ensures), left-place _ _ (c .before .before .before .before .before .before .before .before .before .before .before .before .before .pre .1 .0) _ _ (c .before .before .before .before .before .before .before .before .before .before .before .before .before .pre .1 .1 .0 .0) _ _ (c .before .before .before .before .before .before .before .before .before .part-count .ensures) (c .before .before .loop-test .taken))
-
-identical-impl-o-part-in-requires-2 : (t : ℕ) → identical-impl-o-lts.Need-part-in-requires-2 (calls-o t) (identical-impl-o-at t) identical-impl-o.Post identical-impl-o-Inv-loop identical-impl-o-μ-loop
-identical-impl-o-part-in-requires-2 t c κs = ((c .before .before .before .before .before .before .before .type-word2 .ensures, c .before .before .before .before .before .first-member2 .ensures), right-place _ _ (c .before .before .before .before .before .before .before .before .before .before .before .before .before .before .pre .1 .0) _ _ (c .before .before .before .before .before .before .before .before .before .before .before .before .before .before .pre .1 .1 .0 .0) _ _ (c .before .before .before .before .before .before .before .before .before .before .part-count .ensures) (c .before .before .before .loop-test .taken))
-
-identical-impl-o-identical-impl-requires : (t : ℕ) → identical-impl-o-lts.Need-identical-impl-requires (calls-o t) (identical-impl-o-at t) identical-impl-o.Post identical-impl-o-Inv-loop identical-impl-o-μ-loop
-identical-impl-o-identical-impl-requires t c κs = (part-falls _ _ (c .before .before .before .before .before .before .before .before .before .before .before .before .before .before .before .before .pre .1 .0) _ _ (c .before .before .before .before .before .before .before .before .before .before .before .before .before .before .before .before .pre .1 .1 .0 .0) _ _ (c .before .before .before .before .before .before .before .before .before .before .before .before .part-count .ensures) (c .before .before .before .before .before .loop-test .taken) _ _ _ _ (c .before .before .part-in .ensures) (c .before .before .before .before .before .before .loop .inv .2) (c .before .before .before .before .before .before .before .before .before .before .before .before .before .before .before .before .pre .0), (c .before .before .before .before .before .before .before .before .before .before .before .before .before .before .before .before .pre .1 .0, ((left-inside _ _ (c .before .before .before .before .before .before .before .before .before .before .before .before .before .before .before .before .pre .1 .0) _ _ (c .before .before .before .before .before .before .before .before .before .before .before .before .before .before .before .before .pre .1 .1 .0 .0) _ _ (c .before .before .before .before .before .before .before .before .before .before .before .before .part-count .ensures) (c .before .before .before .before .before .loop-test .taken) _ (c .before .before .part-in .ensures), right-inside _ _ (c .before .before .before .before .before .before .before .before .before .before .before .before .before .before .before .before .pre .1 .0) _ _ (c .before .before .before .before .before .before .before .before .before .before .before .before .before .before .before .before .pre .1 .1 .0 .0) _ _ (c .before .before .before .before .before .before .before .before .before .before .before .before .part-count .ensures) (c .before .before .before .before .before .loop-test .taken) _ (c .before .part-in2 .ensures), omega (arith, c .before .before .before .before .before .before .loop .inv .1, c .before .before .before .before .before .before .before .before .before .before .before .before .before .before .before .before .pre .1 .1 .0 .1)), c .before .before .before .before .before .before .loop .inv .2 .well)))
-
 identical-impl-o-same-length-2 : (t : ℕ) → identical-impl-o-lts.Need-same-length-2 (calls-o t) (identical-impl-o-at t) identical-impl-o.Post identical-impl-o-Inv-loop identical-impl-o-μ-loop
 identical-impl-o-same-length-2 t c = search needs
 
+identical-impl-o-returns : (t : ℕ) → identical-impl-o-lts.Need-returns (calls-o t) (identical-impl-o-at t) identical-impl-o.Post identical-impl-o-Inv-loop identical-impl-o-μ-loop
+identical-impl-o-returns t c = (at-name (c .before .before .before .before .before .before .before .before .before .before .before .before .before .before .args .text .now) (c .before .before .before .before .before .before .before .before .before .before .before .before .before .before .args .rows .now) _ _ (left-in _ _ (c .before .before .before .before .before .before .before .before .before .before .before .before .before .before .pre .1 .0) _ _ (c .before .before .before .before .before .before .before .before .before .before .before .before .before .before .pre .1 .1 .0 .0)) (right-in _ _ (c .before .before .before .before .before .before .before .before .before .before .before .before .before .before .pre .1 .0) _ _ (c .before .before .before .before .before .before .before .before .before .before .before .before .before .before .pre .1 .1 .0 .0)) ((c .before .before .before .before .before .before .before .before .before .before .before .before .before .before .pre .1 .1 .0 .0) .kinds) ((c .before .before .before .before .before .before .before .before .before .before .before .before .before .before .pre .1 .1 .0 .0) .owns) _ _ (c .before .before .before .before .before .before .before .before .before .part-count .ensures) (c .before .before .loop-test .taken) _ _ _ (c .before .before .before .loop .inv .4) (c .before .alike-in .ensures) (c .if1 .taken), c .before .before .before .loop .inv .3)
+
+identical-impl-o-part-in-requires : (t : ℕ) → identical-impl-o-lts.Need-part-in-requires (calls-o t) (identical-impl-o-at t) identical-impl-o.Post identical-impl-o-Inv-loop identical-impl-o-μ-loop
+identical-impl-o-part-in-requires t c κs = ((c .before .before .before .before .before .before .before .type-word .ensures, c .before .before .before .before .before .first-member .ensures), left-place _ _ (c .before .before .before .before .before .before .before .before .before .before .before .before .before .before .pre .1 .0) _ _ (c .before .before .before .before .before .before .before .before .before .before .before .before .before .before .pre .1 .1 .0 .0) _ _ (c .before .before .before .before .before .before .before .before .before .part-count .ensures) (c .before .before .loop-test .taken))
+
+identical-impl-o-part-in-requires-2 : (t : ℕ) → identical-impl-o-lts.Need-part-in-requires-2 (calls-o t) (identical-impl-o-at t) identical-impl-o.Post identical-impl-o-Inv-loop identical-impl-o-μ-loop
+identical-impl-o-part-in-requires-2 t c κs = ((c .before .before .before .before .before .before .before .type-word2 .ensures, c .before .before .before .before .before .first-member2 .ensures), right-place _ _ (c .before .before .before .before .before .before .before .before .before .before .before .before .before .before .before .pre .1 .0) _ _ (c .before .before .before .before .before .before .before .before .before .before .before .before .before .before .before .pre .1 .1 .0 .0) _ _ (c .before .before .before .before .before .before .before .before .before .before .part-count .ensures) (c .before .before .before .loop-test .taken))
+
+identical-impl-o-identical-impl-requires : (t : ℕ) → identical-impl-o-lts.Need-identical-impl-requires (calls-o t) (identical-impl-o-at t) identical-impl-o.Post identical-impl-o-Inv-loop identical-impl-o-μ-loop
+identical-impl-o-identical-impl-requires t c κs = (part-falls _ _ (c .before .before .before .before .before .before .before .before .before .before .before .before .before .before .before .before .before .before .pre .1 .0) _ _ (c .before .before .before .before .before .before .before .before .before .before .before .before .before .before .before .before .before .before .pre .1 .1 .0 .0) _ _ (c .before .before .before .before .before .before .before .before .before .before .before .before .before .part-count .ensures) (c .before .before .before .before .before .before .loop-test .taken) _ _ _ _ (c .before .before .before .part-in .ensures) (c .before .before .before .before .before .before .before .loop .inv .4) (c .before .before .before .before .before .before .before .before .before .before .before .before .before .before .before .before .before .before .pre .0), (c .before .before .before .before .before .before .before .before .before .before .before .before .before .before .before .before .before .before .pre .1 .0, ((left-inside _ _ (c .before .before .before .before .before .before .before .before .before .before .before .before .before .before .before .before .before .before .pre .1 .0) _ _ (c .before .before .before .before .before .before .before .before .before .before .before .before .before .before .before .before .before .before .pre .1 .1 .0 .0) _ _ (c .before .before .before .before .before .before .before .before .before .before .before .before .before .part-count .ensures) (c .before .before .before .before .before .before .loop-test .taken) _ (c .before .before .before .part-in .ensures), right-inside _ _ (c .before .before .before .before .before .before .before .before .before .before .before .before .before .before .before .before .before .before .pre .1 .0) _ _ (c .before .before .before .before .before .before .before .before .before .before .before .before .before .before .before .before .before .before .pre .1 .1 .0 .0) _ _ (c .before .before .before .before .before .before .before .before .before .before .before .before .before .part-count .ensures) (c .before .before .before .before .before .before .loop-test .taken) _ (c .before .before .part-in2 .ensures), omega (arith, c .before .before .before .before .before .before .before .loop .inv .1, c .before .before .before .before .before .before .before .before .before .before .before .before .before .before .before .before .before .before .pre .1 .1 .0 .1)), (c .before .before .before .before .before .before .before .loop .inv .4 .well, c .before .before .before .before .before .before .before .loop .inv .3))))
+
+identical-impl-o-same-length-3 : (t : ℕ) → identical-impl-o-lts.Need-same-length-3 (calls-o t) (identical-impl-o-at t) identical-impl-o.Post identical-impl-o-Inv-loop identical-impl-o-μ-loop
+identical-impl-o-same-length-3 t c = search needs
+
+identical-impl-o-same-length-4 : (t : ℕ) → identical-impl-o-lts.Need-same-length-4 (calls-o t) (identical-impl-o-at t) identical-impl-o.Post identical-impl-o-Inv-loop identical-impl-o-μ-loop
+identical-impl-o-same-length-4 t c = search needs
+
 identical-impl-o-returns-2 : (t : ℕ) → identical-impl-o-lts.Need-returns-2 (calls-o t) (identical-impl-o-at t) identical-impl-o.Post identical-impl-o-Inv-loop identical-impl-o-μ-loop
-identical-impl-o-returns-2 t c = at-differ (c .before .before .before .before .before .before .before .before .before .before .before .before .before .before .before .before .before .before .before .before .args .text .now) (c .before .before .before .before .before .before .before .before .before .before .before .before .before .before .before .before .before .before .before .before .args .rows .now) _ _ (left-in _ _ (c .before .before .before .before .before .before .before .before .before .before .before .before .before .before .before .before .before .before .before .before .pre .1 .0) _ _ (c .before .before .before .before .before .before .before .before .before .before .before .before .before .before .before .before .before .before .before .before .pre .1 .1 .0 .0)) (right-in _ _ (c .before .before .before .before .before .before .before .before .before .before .before .before .before .before .before .before .before .before .before .before .pre .1 .0) _ _ (c .before .before .before .before .before .before .before .before .before .before .before .before .before .before .before .before .before .before .before .before .pre .1 .1 .0 .0)) ((c .before .before .before .before .before .before .before .before .before .before .before .before .before .before .before .before .before .before .before .before .pre .1 .1 .0 .0) .kinds) ((c .before .before .before .before .before .before .before .before .before .before .before .before .before .before .before .before .before .before .before .before .pre .1 .1 .0 .0) .owns) _ _ (c .before .before .before .before .before .before .before .before .before .before .before .before .before .before .before .before .part-count .ensures) (c .before .before .before .before .before .before .before .before .before .loop-test .taken) _ _ _ _ _ _ (c .before .before .before .before .before .before .before .before .before .before .loop .inv .2) (c .before .before .before .before .before .before .part-in .ensures) (c .before .before .before .before .before .part-in2 .ensures) (c .before .before .before .identical-impl .ensures) (c .if2 .taken)
+identical-impl-o-returns-2 t c = (at-differ (c .before .before .before .before .before .before .before .before .before .before .before .before .before .before .before .before .before .before .before .before .before .before .before .before .args .text .now) (c .before .before .before .before .before .before .before .before .before .before .before .before .before .before .before .before .before .before .before .before .before .before .before .before .args .rows .now) _ _ (left-in _ _ (c .before .before .before .before .before .before .before .before .before .before .before .before .before .before .before .before .before .before .before .before .before .before .before .before .pre .1 .0) _ _ (c .before .before .before .before .before .before .before .before .before .before .before .before .before .before .before .before .before .before .before .before .before .before .before .before .pre .1 .1 .0 .0)) (right-in _ _ (c .before .before .before .before .before .before .before .before .before .before .before .before .before .before .before .before .before .before .before .before .before .before .before .before .pre .1 .0) _ _ (c .before .before .before .before .before .before .before .before .before .before .before .before .before .before .before .before .before .before .before .before .before .before .before .before .pre .1 .1 .0 .0)) ((c .before .before .before .before .before .before .before .before .before .before .before .before .before .before .before .before .before .before .before .before .before .before .before .before .pre .1 .1 .0 .0) .kinds) ((c .before .before .before .before .before .before .before .before .before .before .before .before .before .before .before .before .before .before .before .before .before .before .before .before .pre .1 .1 .0 .0) .owns) _ _ (c .before .before .before .before .before .before .before .before .before .before .before .before .before .before .before .before .before .before .before .part-count .ensures) (c .before .before .before .before .before .before .before .before .before .before .before .before .loop-test .taken) _ _ _ _ _ _ (c .before .before .before .before .before .before .before .before .before .before .before .before .before .loop .inv .4) (c .before .before .before .before .before .before .before .before .before .part-in .ensures) (c .before .before .before .before .before .before .before .before .part-in2 .ensures) (c .before .before .before .before .before .identical-impl .ensures .0) (c .if2 .taken), c .before .before .before .before .before .identical-impl .ensures .1)
 
 identical-impl-o-add-i : (t : ℕ) → identical-impl-o-lts.Need-add-i (calls-o t) (identical-impl-o-at t) identical-impl-o.Post identical-impl-o-Inv-loop identical-impl-o-μ-loop
-identical-impl-o-add-i t c = search needs
+identical-impl-o-add-i t c = omega (arith, c .before .before .before .before .before .before .before .before .before .before .before .before .before .before .before .before .before .before .before .part-count .ok, c .before .before .before .before .before .before .before .before .before .before .before .before .loop-test .taken)
 
 identical-impl-o-loop-less : (t : ℕ) → identical-impl-o-lts.Need-loop-less (calls-o t) (identical-impl-o-at t) identical-impl-o.Post identical-impl-o-Inv-loop identical-impl-o-μ-loop
 identical-impl-o-loop-less t c = search needs
 
 identical-impl-o-loop-again : (t : ℕ) → identical-impl-o-lts.Need-loop-again (calls-o t) (identical-impl-o-at t) identical-impl-o.Post identical-impl-o-Inv-loop identical-impl-o-μ-loop
-identical-impl-o-loop-again t c = (search needs, search needs, at-same (c .before .before .before .before .before .before .before .before .before .before .before .before .before .before .before .before .before .before .before .before .args .text .now) (c .before .before .before .before .before .before .before .before .before .before .before .before .before .before .before .before .before .before .before .before .args .rows .now) _ _ (left-in _ _ (c .before .before .before .before .before .before .before .before .before .before .before .before .before .before .before .before .before .before .before .before .pre .1 .0) _ _ (c .before .before .before .before .before .before .before .before .before .before .before .before .before .before .before .before .before .before .before .before .pre .1 .1 .0 .0)) (right-in _ _ (c .before .before .before .before .before .before .before .before .before .before .before .before .before .before .before .before .before .before .before .before .pre .1 .0) _ _ (c .before .before .before .before .before .before .before .before .before .before .before .before .before .before .before .before .before .before .before .before .pre .1 .1 .0 .0)) ((c .before .before .before .before .before .before .before .before .before .before .before .before .before .before .before .before .before .before .before .before .pre .1 .1 .0 .0) .kinds) ((c .before .before .before .before .before .before .before .before .before .before .before .before .before .before .before .before .before .before .before .before .pre .1 .1 .0 .0) .owns) _ _ (c .before .before .before .before .before .before .before .before .before .before .before .before .before .before .before .before .part-count .ensures) (c .before .before .before .before .before .before .before .before .before .loop-test .taken) _ _ _ _ _ _ (c .before .before .before .before .before .before .before .before .before .before .loop .inv .2) (c .before .before .before .before .before .before .part-in .ensures) (c .before .before .before .before .before .part-in2 .ensures) (c .before .before .before .identical-impl .ensures) _ (c .before .before .before .before .before .before .before .before .alike-in .ensures) (c .before .before .before .before .before .before .before .if1 .left) (c .if2 .left))
+identical-impl-o-loop-again t c = (search needs, search needs, search needs, c .before .before .before .before .before .identical-impl .ensures .1, at-same (c .before .before .before .before .before .before .before .before .before .before .before .before .before .before .before .before .before .before .before .before .before .before .before .before .args .text .now) (c .before .before .before .before .before .before .before .before .before .before .before .before .before .before .before .before .before .before .before .before .before .before .before .before .args .rows .now) _ _ (left-in _ _ (c .before .before .before .before .before .before .before .before .before .before .before .before .before .before .before .before .before .before .before .before .before .before .before .before .pre .1 .0) _ _ (c .before .before .before .before .before .before .before .before .before .before .before .before .before .before .before .before .before .before .before .before .before .before .before .before .pre .1 .1 .0 .0)) (right-in _ _ (c .before .before .before .before .before .before .before .before .before .before .before .before .before .before .before .before .before .before .before .before .before .before .before .before .pre .1 .0) _ _ (c .before .before .before .before .before .before .before .before .before .before .before .before .before .before .before .before .before .before .before .before .before .before .before .before .pre .1 .1 .0 .0)) ((c .before .before .before .before .before .before .before .before .before .before .before .before .before .before .before .before .before .before .before .before .before .before .before .before .pre .1 .1 .0 .0) .kinds) ((c .before .before .before .before .before .before .before .before .before .before .before .before .before .before .before .before .before .before .before .before .before .before .before .before .pre .1 .1 .0 .0) .owns) _ _ (c .before .before .before .before .before .before .before .before .before .before .before .before .before .before .before .before .before .before .before .part-count .ensures) (c .before .before .before .before .before .before .before .before .before .before .before .before .loop-test .taken) _ _ _ _ _ _ (c .before .before .before .before .before .before .before .before .before .before .before .before .before .loop .inv .4) (c .before .before .before .before .before .before .before .before .before .part-in .ensures) (c .before .before .before .before .before .before .before .before .part-in2 .ensures) (c .before .before .before .before .before .identical-impl .ensures .0) _ (c .before .before .before .before .before .before .before .before .before .before .before .alike-in .ensures) (c .before .before .before .before .before .before .before .before .before .before .if1 .left) (c .if2 .left))
 
-identical-impl-o-same-length-3 : (t : ℕ) → identical-impl-o-lts.Need-same-length-3 (calls-o t) (identical-impl-o-at t) identical-impl-o.Post identical-impl-o-Inv-loop identical-impl-o-μ-loop
-identical-impl-o-same-length-3 t c = search needs
+identical-impl-o-same-length-5 : (t : ℕ) → identical-impl-o-lts.Need-same-length-5 (calls-o t) (identical-impl-o-at t) identical-impl-o.Post identical-impl-o-Inv-loop identical-impl-o-μ-loop
+identical-impl-o-same-length-5 t c = search needs
+
+identical-impl-o-same-length-6 : (t : ℕ) → identical-impl-o-lts.Need-same-length-6 (calls-o t) (identical-impl-o-at t) identical-impl-o.Post identical-impl-o-Inv-loop identical-impl-o-μ-loop
+identical-impl-o-same-length-6 t c = search needs
 
 identical-impl-o-returns-3 : (t : ℕ) → identical-impl-o-lts.Need-returns-3 (calls-o t) (identical-impl-o-at t) identical-impl-o.Post identical-impl-o-Inv-loop identical-impl-o-μ-loop
-identical-impl-o-returns-3 t c = at-end (c .before .before .before .before .before .before .before .before .before .before .before .args .text .now) (c .before .before .before .before .before .before .before .before .before .before .before .args .rows .now) _ _ (left-in _ _ (c .before .before .before .before .before .before .before .before .before .before .before .pre .1 .0) _ _ (c .before .before .before .before .before .before .before .before .before .before .before .pre .1 .1 .0 .0)) (right-in _ _ (c .before .before .before .before .before .before .before .before .before .before .before .pre .1 .0) _ _ (c .before .before .before .before .before .before .before .before .before .before .before .pre .1 .1 .0 .0)) ((c .before .before .before .before .before .before .before .before .before .before .before .pre .1 .1 .0 .0) .kinds) ((c .before .before .before .before .before .before .before .before .before .before .before .pre .1 .1 .0 .0) .owns) _ _ _ _ (c .before .loop .inv .2) (c .before .before .before .before .before .before .before .part-count .ensures) (c .before .loop .inv .0) (c .loop-test .left)
+identical-impl-o-returns-3 t c = (at-end (c .before .before .before .before .before .before .before .before .before .before .before .before .args .text .now) (c .before .before .before .before .before .before .before .before .before .before .before .before .args .rows .now) _ _ (left-in _ _ (c .before .before .before .before .before .before .before .before .before .before .before .before .pre .1 .0) _ _ (c .before .before .before .before .before .before .before .before .before .before .before .before .pre .1 .1 .0 .0)) (right-in _ _ (c .before .before .before .before .before .before .before .before .before .before .before .before .pre .1 .0) _ _ (c .before .before .before .before .before .before .before .before .before .before .before .before .pre .1 .1 .0 .0)) ((c .before .before .before .before .before .before .before .before .before .before .before .before .pre .1 .1 .0 .0) .kinds) ((c .before .before .before .before .before .before .before .before .before .before .before .before .pre .1 .1 .0 .0) .owns) _ _ _ _ (c .before .loop .inv .4) (c .before .before .before .before .before .before .before .part-count .ensures) (c .before .loop .inv .0) (c .loop-test .left), c .before .loop .inv .3)
 
 pub +identical-impl+identical-impl-o-spec : {M : Type 1} → statement M
 +identical-impl+identical-impl-o-spec =
@@ -204,18 +212,17 @@ pub +identical-impl+identical-impl-o-spec : {M : Type 1} → statement M
     (identical-impl-returns-3 t)
     (identical-impl-less-requires t)
     (identical-impl-several-requires t)
-    (identical-impl-cast-enter t)
-    (identical-impl-mul-enter t)
-    (identical-impl-cast-enter-2 t)
-    (identical-impl-add-enter t)
-    (identical-impl-enter-requires t)
+    (identical-impl-enter-pair-requires t)
     (identical-impl-same-length t)
+    (identical-impl-same-length-2 t)
     (identical-impl-returns-4 t)
     (identical-impl-identical-impl-o-requires t)
-    (identical-impl-same-length-2 t)
+    (identical-impl-same-length-3 t)
+    (identical-impl-same-length-4 t)
     (identical-impl-returns-5 t)
     (identical-impl-identical-impl-o-requires-2 t)
-    (identical-impl-same-length-3 t)
+    (identical-impl-same-length-5 t)
+    (identical-impl-same-length-6 t)
     (identical-impl-returns-6 t))
     λ t. identical-impl-o-lts.spec
     (calls-o t)
@@ -232,14 +239,17 @@ pub +identical-impl+identical-impl-o-spec : {M : Type 1} → statement M
     (identical-impl-o-loop-holds t)
     (identical-impl-o-alike-in-requires t)
     (identical-impl-o-same-length t)
+    (identical-impl-o-same-length-2 t)
     (identical-impl-o-returns t)
     (identical-impl-o-part-in-requires t)
     (identical-impl-o-part-in-requires-2 t)
     (identical-impl-o-identical-impl-requires t)
-    (identical-impl-o-same-length-2 t)
+    (identical-impl-o-same-length-3 t)
+    (identical-impl-o-same-length-4 t)
     (identical-impl-o-returns-2 t)
     (identical-impl-o-add-i t)
     (identical-impl-o-loop-less t)
     (identical-impl-o-loop-again t)
-    (identical-impl-o-same-length-3 t)
+    (identical-impl-o-same-length-5 t)
+    (identical-impl-o-same-length-6 t)
     (identical-impl-o-returns-3 t)

@@ -5,28 +5,31 @@ use Prim.Native.Nat.{_-_, _≤_}
 use native.Mathlib.Omega.{arith}
 use lib.ListN.{length}
 use Rattle.objects.specs.Rows.{tableOf}
-use Rattle.typ.specs.Compared.{pairWords, WordClean}
+use Rattle.typ.specs.Compared.{pairWords, WordClean, Follows}
 use Rattle.typ.proofs.Top.{words-clean, turn-differ, turn-as, Turns, turns-none, turns-more}
 use Rattle.typ.proofs.identical.open_round.Statement.{statement}
 use Rattle.typ.proofs.identical.open_round.Tie as tie
 
 abbrev Inv-loop : tie.InvT-loop
-Inv-loop text rows marks₀ x y found₀ w₀ marks found w = (w ≤ pairWords) × (length marks ≡ length marks₀) × Turns (tableOf text rows) x y WordClean marks₀ marks w found
+Inv-loop text rows marks₀ labels₀ x y found₀ w₀ marks labels found w = (w ≤ pairWords) × (length marks ≡ length marks₀) × (length labels ≡ length labels₀) × Follows (tableOf text rows) marks labels × Turns (tableOf text rows) x y WordClean marks₀ marks w found
 
 abbrev μ-loop : tie.MeasureT-loop
-μ-loop text rows marks₀ x y found₀ w₀ marks found w = pairWords - w
+μ-loop text rows marks₀ labels₀ x y found₀ w₀ marks labels found w = pairWords - w
 
 loop-holds : tie.Need-loop-holds Inv-loop μ-loop
-loop-holds c = (search needs, search needs, turns-none _ _ _ _ _ (c .before .before .before .pre .1 .1))
+loop-holds c = (search needs, search needs, search needs, c .before .before .before .before .pre .1 .1 .1, turns-none _ _ _ _ _ (c .before .before .before .before .pre .1 .1 .0))
 
 open-word-requires : tie.Need-open-word-requires Inv-loop μ-loop
-open-word-requires c κs = ((c .before .before .before .before .before .before .pre .0), ((omega (arith, (c .before .loop-test .taken)), omega (arith, (c .before .before .loop .inv .1), (c .before .before .before .before .before .before .pre .1 .0))), (c .before .before .loop .inv .2 .state)))
+open-word-requires c κs = ((c .before .before .before .before .before .before .before .before .pre .0), ((omega (arith, (c .before .before .loop-test .taken)), omega (arith, (c .before .before .before .loop .inv .1), (c .before .before .before .before .before .before .before .before .pre .1 .0))), ((c .before .before .before .loop .inv .4 .state), (c .before .before .before .loop .inv .3))))
 
 same-length : tie.Need-same-length Inv-loop μ-loop
 same-length c = search needs
 
+same-length-2 : tie.Need-same-length-2 Inv-loop μ-loop
+same-length-2 c = search needs
+
 returns : tie.Need-returns Inv-loop μ-loop
-returns c = turn-differ _ _ _ _ _ _ ((c .before .before .before .open-word .ensures .if-0) (c .if1 .taken))
+returns c = (turn-differ _ _ _ _ _ _ ((c .before .before .before .before .before .open-word .ensures .0 .if-0) (c .if1 .taken)), c .before .before .before .before .before .open-word .ensures .1)
 
 add-w : tie.Need-add-w Inv-loop μ-loop
 add-w c = search needs
@@ -35,13 +38,16 @@ loop-less : tie.Need-loop-less Inv-loop μ-loop
 loop-less c = search needs
 
 loop-again : tie.Need-loop-again Inv-loop μ-loop
-loop-again c = (search needs, search needs, turns-more _ _ _ _ _ _ _ _ (c .before .before .before .before .before .before .before .loop .inv .2) _ _ _ (c .before .before .before .before .open-word .ensures) (c .before .if1 .left) (⊎-elim (λ w. inl (w .0 .taken, w .1)) (λ w. inr (w .0 .left, w .1)) (c .if2 .came)))
+loop-again c = (search needs, search needs, search needs, c .before .before .before .before .before .before .open-word .ensures .1, turns-more _ _ _ _ _ _ _ _ (c .before .before .before .before .before .before .before .before .before .before .loop .inv .4) _ _ _ (c .before .before .before .before .before .before .open-word .ensures .0) (c .before .if1 .left) (⊎-elim (λ w. inl (w .0 .taken, w .1)) (λ w. inr (w .0 .left, w .1)) (c .if2 .came)))
 
-same-length-2 : tie.Need-same-length-2 Inv-loop μ-loop
-same-length-2 c = search needs
+same-length-3 : tie.Need-same-length-3 Inv-loop μ-loop
+same-length-3 c = search needs
+
+same-length-4 : tie.Need-same-length-4 Inv-loop μ-loop
+same-length-4 c = search needs
 
 returns-2 : tie.Need-returns-2 Inv-loop μ-loop
-returns-2 c = turn-as _ _ _ _ _ _ _ _ (words-clean _ _ (c .loop-test .left)) (c .before .loop .inv .2 .turn)
+returns-2 c = (turn-as _ _ _ _ _ _ _ _ (words-clean _ _ (c .loop-test .left)) (c .before .loop .inv .4 .turn), c .before .loop .inv .3)
 
 pub open-round-spec : {M : Type 1} → statement M
 open-round-spec =
@@ -52,9 +58,11 @@ open-round-spec =
     loop-holds
     open-word-requires
     same-length
+    same-length-2
     returns
     add-w
     loop-less
     loop-again
-    same-length-2
+    same-length-3
+    same-length-4
     returns-2)

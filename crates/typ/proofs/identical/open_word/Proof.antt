@@ -20,16 +20,19 @@ slice-read-if1-2 : tie.Need-slice-read-if1-2
 slice-read-if1-2 c = search needs
 
 returns : tie.Need-returns
-returns c = turn-clean _ _ _ _ _ (halves-clean _ _ (c .before .before .before .before .before .before .pre .1 .0 .0) (c .if1 .taken))
+returns c = (turn-clean _ _ _ _ _ (halves-clean _ _ (c .before .before .before .before .before .before .before .pre .1 .0 .0) (c .if1 .taken)), c .before .before .before .before .before .before .before .pre .1 .1 .1)
 
 open-pairs-requires : tie.Need-open-pairs-requires
-open-pairs-requires c κs = (c .before .before .before .before .before .before .before .pre)
+open-pairs-requires c κs = (c .before .before .before .before .before .before .before .before .before .pre)
 
 same-length : tie.Need-same-length
 same-length c = search needs
 
+same-length-2 : tie.Need-same-length-2
+same-length-2 c = search needs
+
 returns-2 : tie.Need-returns-2
-returns-2 c = (c .before .before .open-pairs .ensures)
+returns-2 c = (c .before .before .before .before .open-pairs .ensures)
 
 pub open-word-spec : {M : Type 1} → statement M
 open-word-spec =
@@ -43,4 +46,5 @@ open-word-spec =
     returns
     open-pairs-requires
     same-length
+    same-length-2
     returns-2)

@@ -1,0 +1,106 @@
+-- Laws of classes of types (specs/Classes.antt): labels that are numbered, labels that are changed one by one, and two classes that are joined by giving
+-- one the label of the other.
+use mathlib.Core.Path.{_≡_, refl, sym, ap, _∙_}
+use mathlib.Core.List.{List, [], _∷_}
+use mathlib.Core.Logic.{_⊎_, inl, inr}
+use Prim.Native.Nat.{ℕ, zero, suc, _+_, _<_, _≤_}
+use native.Mathlib.Omega.{arith}
+use lib.Dec.{eqb}
+use lib.ListN.{length, getD, set, length-map}
+use lib.Seq.{getD-set-same, getD-set-other, ext-getD}
+use borrow.Author.Count.{below-more}
+use borrow.Author.Tests.{eqb-true, eqb-false, eq-eqb, ne-eqb}
+use Rattle.objects.specs.declared.TypeKey.{TypeKey}
+use Rattle.objects.proofs.ListLaws.{cases, either}
+use Rattle.typ.specs.Classes.{OneClass, newLabel, relabelled, Joined}
+
+-- ---- labels are numbered
+
+pub number-more : (l : List ℕ) (i : ℕ) → i < length l → ((k : ℕ) → k < i → getD l k 0 ≡ k) → (k : ℕ) → k < i + 1 → getD (set l i i) k 0 ≡ k
+number-more l i h z =
+    below-more (λ (k : ℕ). getD (set l i i) k 0 ≡ k) i
+    (λ k lt. getD-set-other l i k i 0 (λ e. omega arith) ∙ z k lt) (getD-set-same l i i 0 h)
+
+-- ---- one label gives way to another
+
+module _ (new old : ℕ) where
+  pub label-old : (c : ℕ) → c ≡ old → newLabel new old c ≡ new
+  unfolding newLabel
+  label-old c e = rw (eq-eqb c old e)
+
+  pub label-other : (c : ℕ) → (c ≡ old → ⊥) → newLabel new old c ≡ c
+  unfolding newLabel
+  label-other c h = rw (ne-eqb c old h)
+
+  -- the new label stays
+  label-new : (c : ℕ) → c ≡ new → newLabel new old c ≡ new
+  label-new c e = cases (eqb c old) (λ p. label-old c (eqb-true c old p)) (λ p. label-other c (eqb-false c old p) ∙ e)
+
+  -- labels that have become one were one, or are the two
+  label-back : (c d : ℕ) → newLabel new old c ≡ newLabel new old d → (c ≡ d) ⊎ (((c ≡ new) × (d ≡ old)) ⊎ ((c ≡ old) × (d ≡ new)))
+  label-back c d e =
+      cases (eqb c old)
+      (λ p. let u = eqb-true c old p in cases (eqb d old)
+      (λ q. inl (u ∙ sym (eqb-true d old q)))
+      (λ q. inr (inr (u, sym (label-other d (eqb-false d old q)) ∙ sym e ∙ label-old c u))))
+      (λ p. let u = label-other c (eqb-false c old p) in cases (eqb d old)
+      (λ q. let v = eqb-true d old q in inr (inl (sym u ∙ e ∙ label-old d v, v)))
+      (λ q. inl (sym u ∙ e ∙ label-other d (eqb-false d old q))))
+
+  relabelled-long : (l : List ℕ) → length (relabelled new old l) ≡ length l
+  unfolding relabelled
+  relabelled-long l = length-map l (newLabel new old)
+
+  relabelled-at : (l : List ℕ) (i : ℕ) → i < length l → getD (relabelled new old l) i 0 ≡ newLabel new old (getD l i 0)
+  unfolding relabelled
+  relabelled-at [] i h = absurd (omega arith)
+  relabelled-at (c ∷ l) zero h = refl
+  relabelled-at (c ∷ l) (suc i) h = relabelled-at l i (omega arith)
+
+  -- ---- one by one
+
+  -- the labels below i are new, the others old
+  abbrev pub Changed : List ℕ → List ℕ → ℕ → Type 0
+  Changed l₀ l i = ((k : ℕ) → k < i → getD l k 0 ≡ newLabel new old (getD l₀ k 0)) × ((k : ℕ) → i ≤ k → getD l k 0 ≡ getD l₀ k 0)
+
+  pub changed-none : (l : List ℕ) → Changed l l 0
+  changed-none l = (λ k h. absurd (omega arith), λ k h. refl)
+
+  pub changed-more : (l₀ l : List ℕ) (i v : ℕ) → i < length l → v ≡ newLabel new old (getD l i 0) → Changed l₀ l i → Changed l₀ (set l i v) (i + 1)
+  changed-more l₀ l i v h e z = (
+    below-more (λ (k : ℕ). getD (set l i v) k 0 ≡ newLabel new old (getD l₀ k 0)) i
+        (λ k lt. getD-set-other l i k v 0 (λ q. omega arith) ∙ z .0 k lt)
+        (getD-set-same l i v 0 h ∙ e ∙ ap (newLabel new old) (z .1 i (omega arith))),
+    λ k le. getD-set-other l i k v 0 (λ q. omega arith) ∙ z .1 k (omega arith),
+  )
+
+  pub changed-all : (l₀ l : List ℕ) (i : ℕ) → length l ≡ length l₀ → length l ≤ i → Changed l₀ l i → l ≡ relabelled new old l₀
+  changed-all l₀ l i e le z = ext-getD 0 l (relabelled new old l₀) (e ∙ sym (relabelled-long l₀)) (λ k lt. z .0 k (omega arith) ∙ sym (relabelled-at l₀ k (omega arith)))
+
+-- ---- two classes are joined
+
+-- the class of y takes the label of x
+pub joined : (l l′ : List ℕ) (x y : TypeKey) → x .0 < length l → y .0 < length l → l′ ≡ relabelled (getD l (x .0) 0) (getD l (y .0) 0) l → Joined l l′ x y
+unfolding OneClass
+joined l l′ x y hx hy e = rw e (record { long = relabelled-long new old l; one = one; kept = kept; only = only })
+  where
+    new : ℕ
+    new = getD l (x .0) 0
+
+    old : ℕ
+    old = getD l (y .0) 0
+
+    at : (i : ℕ) → i < length l → getD (relabelled new old l) i 0 ≡ newLabel new old (getD l i 0)
+    at = relabelled-at new old l
+
+    one : OneClass (relabelled new old l) x y
+    one = at (x .0) hx ∙ label-new new old (getD l (x .0) 0) refl ∙ sym (label-old new old (getD l (y .0) 0) refl) ∙ sym (at (y .0) hy)
+
+    kept : (a b : TypeKey) → a .0 < length l → b .0 < length l → OneClass l a b → OneClass (relabelled new old l) a b
+    kept a b ha hb o = at (a .0) ha ∙ ap (newLabel new old) o ∙ sym (at (b .0) hb)
+
+    only : (a b : TypeKey) → a .0 < length l → b .0 < length l → OneClass (relabelled new old l) a b → OneClass l a b ⊎ ((OneClass l a x × OneClass l y b) ⊎ (OneClass l a y × OneClass l x b))
+    only a b ha hb o =
+        either (label-back new old (getD l (a .0) 0) (getD l (b .0) 0) (sym (at (a .0) ha) ∙ o ∙ at (b .0) hb))
+        (λ s. inl s)
+        (λ s. either s (λ t. inr (inl (t .0, sym (t .1)))) (λ t. inr (inr (t .0, sym (t .1)))))
