@@ -1,15 +1,15 @@
--- Laws of the comparisons of bytes (specs/Bytes.antt): equality is equality, and the order is strict.
+-- Laws of the comparisons of bytes (specs/Bytes.antt): equality is equality, and the order is strict; and of the tests of one byte.
 use mathlib.Core.Path.{_≡_, refl, sym, ap₂, _∙_}
-use mathlib.Core.Bool.{Bool, true, false, _&&_, _||_}
+use mathlib.Core.Bool.{Bool, true, false, _&&_, _||_, and-true, and-false}
 use mathlib.Core.List.{[], _∷_}
 use mathlib.Core.Logic.{_⊎_, inl, inr}
-use Prim.Native.Nat.{ℕ, _<_}
+use Prim.Native.Nat.{ℕ, _≤_, _<_}
 use native.Mathlib.Omega.{arith}
-use lib.Dec.{eqb, ltb}
-use borrow.Author.Tests.{eqb-true, eqb-false, eq-eqb, ltb-true, ltb-false, lt-ltb, le-ltb}
+use lib.Dec.{eqb, ltb, leb}
+use borrow.Author.Tests.{eqb-true, eqb-false, eq-eqb, ne-eqb, ltb-true, ltb-false, lt-ltb, le-ltb, le-leb, lt-leb}
 use Rattle.objects.specs.Lists.{Bytes}
-use Rattle.objects.proofs.ListLaws.{cases, clash, either, and-l, and-r, or-l, or-r, or-true}
-use Rattle.text.specs.Bytes.{sameBytes, belowBytes}
+use Rattle.objects.proofs.ListLaws.{cases, clash, either, and-l, and-r, or-l, or-r, or-true, or-false}
+use Rattle.text.specs.Bytes.{sameBytes, belowBytes, between, isCapital, isNameByte}
 
 pub same-refl : (a : Bytes) → sameBytes a a ≡ true
 same-refl [] = refl
@@ -68,3 +68,21 @@ below-connex (x ∷ xs) (y ∷ ys) h =
     (λ g. inl (ap₂ (λ a b. a ∷ b) (eqb-true x y f) g))
     (λ g. inr (below-rest y x ys xs (sym (eqb-true x y f)) g)))
     (λ f. let l = ltb-false x y (or-l (ltb x y) (eqb x y && belowBytes xs ys) h) in let g = ltb-false y x e in let n = eqb-false x y f in absurd (omega arith)))
+
+-- ---- a byte of names, by the tests of its value
+
+module _ (b : ℕ) where
+  pub name-small : {t : Bool} → t ≡ between 97 122 b → t ≡ true → isNameByte b ≡ true
+  name-small p e = rw (sym p ∙ e, or-true (isCapital b))
+
+  pub name-low : b < 58 → isNameByte b ≡ leb 48 b
+  name-low h =
+      rw (lt-leb 65 b (omega arith), lt-leb 97 b (omega arith), le-leb b 57 (omega arith), ne-eqb b 95 (λ e. omega arith), and-true (leb 48 b), or-false (leb 48 b))
+
+  pub name-middle : 58 ≤ b → b < 91 → isNameByte b ≡ leb 65 b
+  name-middle h k =
+      rw (le-leb b 90 (omega arith), lt-leb 97 b (omega arith), lt-leb b 57 (omega arith), ne-eqb b 95 (λ e. omega arith), and-true (leb 65 b), and-false (leb 48 b), or-false (leb 65 b), or-false (leb 65 b), or-false (leb 65 b))
+
+  pub name-high : 91 ≤ b → {t : Bool} → t ≡ between 97 122 b → t ≡ false → isNameByte b ≡ eqb b 95
+  name-high h p e =
+      rw (lt-leb b 90 (omega arith), lt-leb b 57 (omega arith), sym p ∙ e, and-false (leb 65 b), and-false (leb 48 b))

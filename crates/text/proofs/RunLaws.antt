@@ -1,8 +1,8 @@
 -- The run of bytes that pass a test: how a loop goes on over it, and how it ends.
 use mathlib.Core.Path.{_≡_, refl, sym, ap, _∙_}
-use mathlib.Core.Bool.{Bool, true, false, not}
+use mathlib.Core.Bool.{Bool, true, false, not, _||_}
 use mathlib.Core.List.{List, [], _∷_, _++_}
-use Prim.Native.Nat.{ℕ, _+_, _≤_, _<_}
+use Prim.Native.Nat.{ℕ, _+_, _-_, _≤_, _<_}
 use native.Mathlib.Nat.{add-zero}
 use native.Mathlib.Omega.{arith}
 use lib.Dec.{eqb, leb}
@@ -10,12 +10,11 @@ use lib.ListN.{length, getD, take, drop, take-append-drop}
 use lib.Seq.{take-all}
 use borrow.Author.Tests.{eqb-true, leb-true, leb-false}
 use Rattle.objects.specs.Lists.{Bytes, every}
-use Rattle.objects.proofs.ListLaws.{cases, clash, or-true}
-use Rattle.text.specs.Bytes.{between, isCapital, isNameByte}
+use Rattle.objects.proofs.ListLaws.{cases, clash, or-l, or-r}
 use Rattle.text.specs.Lines.{split}
-use Rattle.text.specs.Runs.{other, runLength, runEnd, Four, stopAt}
+use Rattle.text.specs.Runs.{other, runLength, runEnd, Met, stopAt}
 use Rattle.text.proofs.LineLaws.{Free, split-at, split-end, split-on}
-use Rattle.text.proofs.PartLaws.{drop-short, part-next, part-none}
+use Rattle.text.proofs.PartLaws.{drop-short, stop-in, part-next, part-none}
 
 -- ---- the loop: stop is the end within the text, t the test of the byte at i
 
@@ -46,12 +45,7 @@ module _ (sep b : ℕ) {t : Bool} (pt : t ≡ eqb b sep) where
   unfolding other
   other-yes e = ap not (sym pt ∙ e)
 
--- ---- a small letter is a byte of names
-
-pub small-letter : (b : ℕ) {t : Bool} → t ≡ between 97 122 b → t ≡ true → isNameByte b ≡ true
-small-letter b p e = rw (sym p ∙ e, or-true (isCapital b))
-
--- ---- four bytes at a time
+-- ---- several bytes at a time
 
 pub stop-short : (s : Bytes) (end : ℕ) {stop : ℕ} → stop ≡ stopAt s end → stop ≤ length s
 unfolding stopAt
@@ -62,37 +56,66 @@ unfolding stopAt
 stop-before s end p = cases (leb end (length s)) (λ e. rw (p, e) (omega arith)) (λ e. let l = leb-false end (length s) e in rw (p, e) (omega arith))
 
 module _ (s : Bytes) (i sep : ℕ) where
-  -- the run goes on to i + k
-  abbrev On : ℕ → Type 0
-  On k = (end : ℕ) → i + 4 ≤ stopAt s end → runEnd (other sep) s i end ≡ runEnd (other sep) s (i + k) end
+  -- none of no bytes
+  pub met-none : Met s i 0 sep false
+  met-none = let z : i + 0 ≡ i = omega arith in record {
+    yes = λ end h e. clash e refl;
+    no = λ end h e. ap (λ x. runEnd (other sep) s x end) (sym z);
+  }
 
-  module _ (j : ℕ) (l : j < 4) (on : On j) {b : ℕ} (pb : b ≡ getD s (i + j) 0) {t : Bool} (pt : t ≡ eqb b sep) where
-    pub four-on : t ≡ false → On (j + 1)
-    four-on e end h =
-        let z : i + j + 1 ≡ i + (j + 1) = omega arith in
-        on end h ∙ run-next (other sep) s (i + j) end refl (omega arith) pb (other-yes sep b pt e) ∙ ap (λ x. runEnd (other sep) s x end) z
+  -- one more byte, with its test
+  module _ (k : ℕ) {m : Bool} (pm : Met s i k sep m) {b : ℕ} (pb : b ≡ getD s (i + k) 0) {t : Bool} (pt : t ≡ eqb b sep) {r : Bool} (pr : r ≡ m || t) where
+    met-yes : (end : ℕ) → i + (k + 1) ≤ stopAt s end → r ≡ true → runEnd (other sep) s i end < i + (k + 1)
+    met-yes end h e =
+        cases m
+        (λ f. let l = pm .yes end (omega arith) f in omega arith)
+        (λ f. let g : t ≡ true = sym (ap (λ x. x || t) f) ∙ sym pr ∙ e in
+        let l = pm .no end (omega arith) f ∙ run-stop (other sep) s (i + k) end refl (omega arith) pb (other-no sep b pt g) in
+        omega arith)
 
-    pub four-hit : t ≡ true → Four s i sep (i + j)
-    four-hit e = record {
-      hit = λ end h _. on end h ∙ run-stop (other sep) s (i + j) end refl (omega arith) pb (other-no sep b pt e);
-      miss = λ end h k. absurd (omega arith);
-    }
+    met-no : (end : ℕ) → i + (k + 1) ≤ stopAt s end → r ≡ false → runEnd (other sep) s i end ≡ runEnd (other sep) s (i + (k + 1)) end
+    met-no end h e =
+        let n = sym pr ∙ e in
+        let z : i + k + 1 ≡ i + (k + 1) = omega arith in
+        pm .no end (omega arith) (or-l m t n)
+        ∙ run-next (other sep) s (i + k) end refl (omega arith) pb (other-yes sep b pt (or-r m t n))
+        ∙ ap (λ x. runEnd (other sep) s x end) z
 
-  pub four-start : On 0
-  four-start end h = let z : i + 0 ≡ i = omega arith in ap (λ x. runEnd (other sep) s x end) (sym z)
+    pub met-next : Met s i (k + 1) sep r
+    met-next = record { yes = met-yes; no = met-no }
 
-  pub four-miss : On 4 → Four s i sep (i + 4)
-  four-miss on = record { hit = λ end h k. absurd (omega arith); miss = λ end h _. on end h }
+  -- all n of them
+  pub met-all : (n k : ℕ) {r : Bool} → k ≤ n → n ≤ k → Met s i k sep r → Met s i n sep r
+  met-all n k l h m = let e : k ≡ n = omega arith in rw e at m
 
-  module _ {b₀ : ℕ} (p₀ : b₀ ≡ getD s i 0) {t₀ : Bool} (q₀ : t₀ ≡ eqb b₀ sep) where
-    at-start : b₀ ≡ getD s (i + 0) 0
-    at-start = let z : i + 0 ≡ i = omega arith in rw z p₀
+  -- n bytes that stand before the end
+  module _ {n : ℕ} {r : Bool} (pm : Met s i n sep r) (end : ℕ) {stop : ℕ} (ps : stop ≡ stopAt s end) (l : i ≤ stop) (h : n ≤ stop - i) where
+    pub met-before : r ≡ true → runEnd (other sep) s i end < stopAt s end
+    met-before e = let k = pm .yes end (omega arith) e in omega arith
 
-    pub four-first : t₀ ≡ true → Four s i sep i
-    four-first e = let z : i + 0 ≡ i = omega arith in rw z at (four-hit 0 (omega arith) four-start at-start q₀ e)
+    pub met-past : r ≡ false → runEnd (other sep) s i end ≡ runEnd (other sep) s (i + n) end
+    met-past e = pm .no end (omega arith) e
 
-    pub on-first : t₀ ≡ false → On 1
-    on-first e = four-on 0 (omega arith) four-start at-start q₀ e
+-- ---- a run that a byte ends, whatever end it is read up to
+
+-- such a run from at goes on from i
+abbrev pub GoesOn : (ℕ → Bool) → Bytes → ℕ → ℕ → Type 0
+GoesOn p s at i = (end : ℕ) → runEnd p s at end < stopAt s end → runEnd p s at end ≡ runEnd p s i end
+
+module _ (p : ℕ → Bool) (s : Bytes) (at i : ℕ) (on : GoesOn p s at i) where
+  on-before : (end : ℕ) → runEnd p s at end < stopAt s end → i < stopAt s end
+  unfolding runEnd
+  on-before end h = let e = on end h in omega arith
+
+  pub on-within : (end : ℕ) → runEnd p s at end < stopAt s end → i < length s
+  on-within end h = stop-in s i end refl (on-before end h) .1
+
+  module _ {b : ℕ} (pb : b ≡ getD s i 0) where
+    pub on-next : p b ≡ true → GoesOn p s at (i + 1)
+    on-next e end h = on end h ∙ run-next p s i end refl (on-before end h) pb e
+
+    pub on-stop : p b ≡ false → (end : ℕ) → runEnd p s at end < stopAt s end → i ≡ runEnd p s at end
+    on-stop e end h = sym (on end h ∙ run-stop p s i end refl (on-before end h) pb e)
 
 -- ---- a text as its run and what is left
 

@@ -33,11 +33,11 @@ runEnd p s at end = at + runLength p (part s at end)
 unfoldable pub stopAt : Bytes → ℕ → ℕ
 stopAt s end = cond (leb end (length s)) end (length s)
 
--- where the first separator among four bytes stands, as part of a run up to whatever end lies behind them: the run ends there, or, where there is none, it
--- goes on behind the four
-pub record Four (s : Bytes) (i sep r : ℕ) : Type 0 where
-  pub hit : (end : ℕ) → i + 4 ≤ stopAt s end → r < i + 4 → runEnd (other sep) s i end ≡ r
-  pub miss : (end : ℕ) → i + 4 ≤ stopAt s end → i + 4 ≤ r → runEnd (other sep) s i end ≡ runEnd (other sep) s (i + 4) end
+-- r says whether the separator is one of the n bytes from i on, as part of a run up to whatever end lies behind them: the run ends among them, or, where it
+-- is none of them, it goes on behind them
+pub record Met (s : Bytes) (i n sep : ℕ) (r : Bool) : Type 0 where
+  pub yes : (end : ℕ) → i + n ≤ stopAt s end → r ≡ true → runEnd (other sep) s i end < i + n
+  pub no : (end : ℕ) → i + n ≤ stopAt s end → r ≡ false → runEnd (other sep) s i end ≡ runEnd (other sep) s (i + n) end
 
 -- the byte at a place before an end, and 256 where none is left
 unfoldable pub byteIn : Bytes → ℕ → ℕ → ℕ

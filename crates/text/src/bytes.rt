@@ -40,12 +40,18 @@ pub fn digit(b: u64) -> bool
     within(48, 57, b)
 }
 
-// a letter, a digit or `_`
+// A letter, a digit or `_`. Most are small letters, so these are tried first, and then the others in the order of their values.
 pub fn name_byte(b: u64) -> bool
     ensures { λ r. ⌜ r ≡ isNameByte b ⌝ }
 {
-    or(
-        or(or(within(65, 90, b), within(97, 122, b)), digit(b)),
-        is(b, 95),
-    )
+    if within(97, 122, b) {
+        return true;
+    }
+    if b < 58 {
+        return 48 <= b;
+    }
+    if b < 91 {
+        return 65 <= b;
+    }
+    b == 95
 }

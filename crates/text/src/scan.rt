@@ -1,15 +1,16 @@
 // One pass over a line's bytes: where a run of them ends, and what stands there. Nothing is read at or past `end`, nor past the text.
 ghost use mathlib.Core.Path.{_≡_};
-ghost use Prim.Native.Nat.{_+_, _≤_};
+ghost use Prim.Native.Nat.{ℕ, _+_, _≤_, _<_};
 ghost use lib.ListN.{length};
 ghost use Rattle.text.specs.Bytes.{between, isNameByte, isBlank};
 ghost use Rattle.text.specs.Lines.{fields};
 ghost use Rattle.text.specs.Cursors.{part, lineEnd, pastRead, exactly};
-ghost use Rattle.text.specs.Runs.{other, runEnd, Four, stopAt, byteIn, pastTab};
+ghost use Rattle.text.specs.Runs.{other, runEnd, Met, stopAt, byteIn, pastTab};
 use crate::Cursor;
 use crate::Past;
 use crate::bytes::is;
 use crate::bytes::name_byte;
+use crate::bytes::or;
 use crate::bytes::wide;
 use crate::bytes::within;
 
@@ -42,43 +43,48 @@ fn until_each(s: &[u8], at: usize, end: usize, sep: u64) -> usize
     i
 }
 
-// The same among four bytes, and the place behind them where it is none of them.
-fn until_four(s: &[u8], i: usize, sep: u64) -> usize
-    requires { ⌜ i + 4 ≤ length (now s) ⌝ }
-    ensures { λ r. ⌜ Four (now (s .entry)) i sep r ⌝ }
+// Whether the separator is one of eight bytes. Each of them is looked at, so that the compiler can compare all at once.
+fn met_in_eight(s: &[u8], i: usize, sep: u64) -> bool
+    requires { ⌜ i + 8 ≤ length (now s) ⌝ }
+    ensures { λ r. ⌜ Met (now (s .entry)) i 8 sep r ⌝ }
 {
-    if is(wide(s[i]), sep) {
-        return i;
+    let mut met = false;
+    let mut k: usize = 0;
+    while k < 8 {
+        met = or(met, is(wide(s[i + k]), sep));
+        k += 1;
     }
-    if is(wide(s[i + 1]), sep) {
-        return i + 1;
-    }
-    if is(wide(s[i + 2]), sep) {
-        return i + 2;
-    }
-    if is(wide(s[i + 3]), sep) {
-        return i + 3;
-    }
-    i + 4
+    met
 }
 
-// Where the separator stands first, or the end. Four bytes a turn, as this is done for each byte of the text.
+// Where the separator stands first, if it is met before some end: no end is then looked for.
+fn until_met(s: &[u8], at: usize, sep: u64) -> usize
+    requires { ⌜ ((end : ℕ) × (runEnd (other sep) (now s) at end < stopAt (now s) end)) ⌝ }
+    ensures { λ r. ⌜ ((end : ℕ) → runEnd (other sep) (now (s .entry)) at end < stopAt (now (s .entry)) end → r ≡ runEnd (other sep) (now (s .entry)) at end) ⌝ }
+{
+    let mut i = at;
+    while !is(wide(s[i]), sep) {
+        i += 1;
+    }
+    i
+}
+
+// Where the separator stands first, or the end. Eight bytes a turn, as this is done for each byte of the text.
 pub fn until(s: &[u8], at: usize, end: usize, sep: u64) -> usize
     ensures { λ r. ⌜ r ≡ runEnd (other sep) (now (s .entry)) at end ⌝ }
 {
     let stop = stop(s, end);
-    let mut i = at;
-    while i < stop {
-        if stop - i < 4 {
-            return until_each(s, i, end, sep);
-        }
-        let to = until_four(s, i, sep);
-        if to < i + 4 {
-            return to;
-        }
-        i += 4;
+    if stop <= at {
+        return at;
     }
-    i
+    let mut i = at;
+    while 8 <= stop - i {
+        if met_in_eight(s, i, sep) {
+            return until_met(s, i, sep);
+        }
+        i += 8;
+    }
+    until_each(s, i, end, sep)
 }
 
 // Where the line that begins at a place ends: at its newline, or at the end of the text.
@@ -88,22 +94,17 @@ pub fn line_end(s: &[u8], from: usize) -> usize
     until(s, from, s.len(), 10)
 }
 
-// Where the bytes of a name end. Most are small letters, so these are tried first.
+// Where the bytes of a name end.
 pub fn name_end(s: &[u8], at: usize, end: usize) -> usize
     ensures { λ r. ⌜ r ≡ runEnd isNameByte (now (s .entry)) at end ⌝ }
 {
     let stop = stop(s, end);
     let mut i = at;
     while i < stop {
-        let b = wide(s[i]);
-        if within(97, 122, b) {
+        if name_byte(wide(s[i])) {
             i += 1;
         } else {
-            if name_byte(b) {
-                i += 1;
-            } else {
-                return i;
-            }
+            return i;
         }
     }
     i

@@ -1,4 +1,6 @@
--- `text::bytes::name_byte` meets its contract. The four kinds of bytes, one test each.
+-- `text::bytes::name_byte` meets its contract. What the value's place among the kinds of bytes leaves to test.
+use mathlib.Core.Path.{sym}
+use Rattle.text.proofs.ByteLaws.{name-small, name-low, name-middle, name-high}
 use borrow.Author.Needs.{needs}
 use Rattle.text.proofs.bytes.name_byte.Statement.{statement}
 use Rattle.text.proofs.bytes.name_byte.Tie as tie
@@ -6,36 +8,17 @@ use Rattle.text.proofs.bytes.name_byte.Tie as tie
 within-requires : tie.Need-within-requires
 within-requires c κs = search needs
 
-within-requires-2 : tie.Need-within-requires-2
-within-requires-2 c κs = search needs
-
-or-requires : tie.Need-or-requires
-or-requires c κs = search needs
-
-digit-requires : tie.Need-digit-requires
-digit-requires c κs = search needs
-
-or-requires-2 : tie.Need-or-requires-2
-or-requires-2 c κs = search needs
-
-is-requires : tie.Need-is-requires
-is-requires c κs = search needs
-
-or-requires-3 : tie.Need-or-requires-3
-or-requires-3 c κs = search needs
-
 returns : tie.Need-returns
-returns c = simp ((c .or3 .ensures), (c .before .before .or2 .ensures), (c .before .before .before .before .or .ensures), (c .before .is .ensures), (c .before .before .before .digit .ensures), (c .before .before .before .before .before .within2 .ensures), (c .before .before .before .before .before .before .within .ensures))
+returns c = sym (name-small (c .before .before .args .b) (c .before .within .ensures) (c .if1 .taken))
+
+returns-2 : tie.Need-returns-2
+returns-2 c = sym (name-low (c .before .before .before .args .b) (c .if2 .taken))
+
+returns-3 : tie.Need-returns-3
+returns-3 c = sym (name-middle (c .before .before .before .before .args .b) (c .before .if2 .left) (c .if3 .taken))
+
+returns-4 : tie.Need-returns-4
+returns-4 c = sym (name-high (c .before .before .before .before .args .b) (c .if3 .left) (c .before .before .before .within .ensures) (c .before .before .if1 .left))
 
 pub name-byte-spec : {M : Type 1} → statement M
-name-byte-spec =
-    tie.close
-    (tie.spec
-    within-requires
-    within-requires-2
-    or-requires
-    digit-requires
-    or-requires-2
-    is-requires
-    or-requires-3
-    returns)
+name-byte-spec = tie.close (tie.spec within-requires returns returns-2 returns-3 returns-4)

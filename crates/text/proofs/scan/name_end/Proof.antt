@@ -4,7 +4,7 @@ use Prim.Native.Nat.{_-_}
 use Rattle.text.specs.Bytes.{isNameByte}
 use Rattle.text.specs.Runs.{runEnd}
 use Rattle.text.proofs.PartLaws.{stop-in}
-use Rattle.text.proofs.RunLaws.{run-done, run-next, run-stop, small-letter}
+use Rattle.text.proofs.RunLaws.{run-done, run-next, run-stop}
 use borrow.Author.Needs.{needs}
 use Rattle.text.proofs.scan.name_end.Statement.{statement}
 use Rattle.text.proofs.scan.name_end.Tie as tie
@@ -27,8 +27,8 @@ shared-slice-read-wide c = stop-in _ _ _ (c .before .before .before .stop .ensur
 wide-requires : tie.Need-wide-requires Inv-loop μ-loop
 wide-requires c κs = search needs
 
-within-requires : tie.Need-within-requires Inv-loop μ-loop
-within-requires c κs = search needs
+name-byte-requires : tie.Need-name-byte-requires Inv-loop μ-loop
+name-byte-requires c κs = search needs
 
 add-i : tie.Need-add-i Inv-loop μ-loop
 add-i c = search needs
@@ -37,22 +37,10 @@ loop-less : tie.Need-loop-less Inv-loop μ-loop
 loop-less c = search needs
 
 loop-again : tie.Need-loop-again Inv-loop μ-loop
-loop-again c = (c .before .before .before .before .before .loop .inv) ∙ run-next _ _ _ _ (c .before .before .before .before .before .before .stop .ensures) (c .before .before .before .before .loop-test .taken) (c .before .before .wide .ensures) (small-letter (c .before .before .wide .result) (c .before .within .ensures) (c .if1 .taken))
-
-name-byte-requires : tie.Need-name-byte-requires Inv-loop μ-loop
-name-byte-requires c κs = search needs
-
-add-i-2 : tie.Need-add-i-2 Inv-loop μ-loop
-add-i-2 c = search needs
-
-loop-less-2 : tie.Need-loop-less-2 Inv-loop μ-loop
-loop-less-2 c = search needs
-
-loop-again-2 : tie.Need-loop-again-2 Inv-loop μ-loop
-loop-again-2 c = (c .before .before .before .before .before .before .before .loop .inv) ∙ run-next _ _ _ _ (c .before .before .before .before .before .before .before .before .stop .ensures) (c .before .before .before .before .before .before .loop-test .taken) (c .before .before .before .before .wide .ensures) (sym (c .before .name-byte .ensures) ∙ (c .if2 .taken))
+loop-again c = (c .before .before .before .before .before .loop .inv) ∙ run-next _ _ _ _ (c .before .before .before .before .before .before .stop .ensures) (c .before .before .before .before .loop-test .taken) (c .before .before .wide .ensures) (sym (c .before .name-byte .ensures) ∙ (c .if1 .taken))
 
 returns : tie.Need-returns Inv-loop μ-loop
-returns c = sym ((c .before .before .before .before .before .before .before .loop .inv) ∙ run-stop _ _ _ _ (c .before .before .before .before .before .before .before .before .stop .ensures) (c .before .before .before .before .before .before .loop-test .taken) (c .before .before .before .before .wide .ensures) (sym (c .before .name-byte .ensures) ∙ (c .if2 .left)))
+returns c = sym ((c .before .before .before .before .before .loop .inv) ∙ run-stop _ _ _ _ (c .before .before .before .before .before .before .stop .ensures) (c .before .before .before .before .loop-test .taken) (c .before .before .wide .ensures) (sym (c .before .name-byte .ensures) ∙ (c .if1 .left)))
 
 returns-2 : tie.Need-returns-2 Inv-loop μ-loop
 returns-2 c = sym ((c .before .loop .inv) ∙ run-done _ _ _ _ (c .before .before .stop .ensures) (c .loop-test .left))
@@ -67,13 +55,9 @@ name-end-spec =
     loop-holds
     shared-slice-read-wide
     wide-requires
-    within-requires
+    name-byte-requires
     add-i
     loop-less
     loop-again
-    name-byte-requires
-    add-i-2
-    loop-less-2
-    loop-again-2
     returns
     returns-2)
