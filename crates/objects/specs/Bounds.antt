@@ -63,7 +63,8 @@ markWords = 4_096
 abbrev pub workWords : ℕ
 workWords = markWords
 
--- selection: a row of six words for each type that a search reaches, and for each type a word that says which row it has
+-- selection: a row of six words for each type that a search reaches, then a word of two halves for each type that there may be: the lower half of word k
+-- says which row type k has, the upper is the sign of row k's type
 abbrev pub searchRow : ℕ
 searchRow = 6
 
