@@ -19,11 +19,10 @@ use Rattle.objects.specs.Types.{namedRead}
 use Rattle.objects.proofs.KeyLaws.{key-eq, same-self}
 use Rattle.objects.proofs.BoolLaws.{false-of}
 use Rattle.objects.proofs.RowLaws.{number-read}
-use Rattle.rules.specs.Sound.{Sound}
 use Rattle.rules.specs.Identity.{identical}
 use Rattle.rules.specs.Library.{Library}
 use Rattle.rules.proofs.IdentityLaws.{identical-self}
-use Rattle.rules.proofs.Sounds.{loads-sound}
+use Rattle.rules.proofs.Sounds.{library-sound}
 use Rattle.ways.specs.Graph.{Graph}
 use Rattle.ways.specs.OfTable.{graph}
 use Rattle.ways.specs.Search.{Row, typ, range, consolidated, enterAll}
@@ -41,9 +40,6 @@ use Rattle.level_rows.proofs.StateLaws.{rows-few, no-row, room, old, ne
 
 pub library-few : {text : Bytes} {rows : Words} → Library text rows → typeCount rows ≤ maxTypes
 library-few l = l .laid .types
-
-pub library-sound : {text : Bytes} {rows : Words} → Library text rows → Sound (tableOf text rows)
-library-sound {text} {rows} l = loads-sound text (tableOf text rows) (l .loads)
 
 -- the words after a call are those that its contract says
 pub by-words : {text : Bytes} {rows ws : Words} {before n : ℕ} {X : List Row} {after said : Words} {end : ℕ} → after ≡ said → Enters text rows ws before n X said end → Enters text rows ws before n X after end

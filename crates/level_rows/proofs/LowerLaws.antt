@@ -22,6 +22,7 @@ use Rattle.objects.proofs.RowLaws.{size-read, bare-read, pointer-read, under-re
 use Rattle.rules.specs.Library.{Library}
 use Rattle.rules.specs.Ways.{Place, placesFrom}
 use Rattle.rules.proofs.RangeLaws.{under-in}
+use Rattle.rules.proofs.Sounds.{library-sound}
 use Rattle.ways.specs.Graph.{Graph}
 use Rattle.ways.specs.OfTable.{graph, stepOf}
 use Rattle.ways.specs.Search.{Row, noRow, row, typ, range, enterAll, embeds}
@@ -33,7 +34,7 @@ use Rattle.level_rows.specs.State.{Searching, Enters, FieldsTyped, rowsB
 use Rattle.level_rows.proofs.RangeLaws.{range-at, range-more}
 use Rattle.level_rows.proofs.WordLaws.{row-typ, row-multiples}
 use Rattle.level_rows.proofs.StateLaws.{rows-few}
-use Rattle.level_rows.proofs.EnterLaws.{library-few, library-sound, row-typed}
+use Rattle.level_rows.proofs.EnterLaws.{library-few, row-typed}
 
 -- ---- one after the other
 

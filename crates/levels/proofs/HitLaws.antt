@@ -19,6 +19,7 @@ use Rattle.rules.specs.Library.{Library}
 use Rattle.rules.specs.Members.{Identity, identityOf, sameId}
 use Rattle.rules.specs.Sound.{Sound}
 use Rattle.rules.specs.Ways.{Place, placesFrom, owned, matching, hasOwn, fieldPlaces}
+use Rattle.rules.proofs.Sounds.{library-sound}
 use Rattle.ways.specs.Levels.{firstOf}
 use Rattle.ways.specs.Search.{typ}
 use Rattle.ways.proofs.TableLaws.{places-from}
@@ -28,7 +29,6 @@ use Rattle.multiples.specs.declared.EmbeddedType.{EmbeddedType}
 use Rattle.multiples.specs.Records.{recOf}
 use Rattle.level_rows.specs.Words.{rowOf}
 use Rattle.level_rows.proofs.WordLaws.{row-typ}
-use Rattle.level_rows.proofs.EnterLaws.{library-sound}
 use Rattle.levels.specs.declared.Hit.{Hit}
 use Rattle.levels.specs.Hits.{hitRow, hitsIn, HitAt, Told}
 

@@ -26,7 +26,7 @@ use Rattle.rules.specs.Missing.{Lack, compared, unmetThere, unmetBy, unmet, fir
 use Rattle.rules.specs.Sound.{Sound}
 use Rattle.rules.specs.Ways.{Place, matching, select}
 use Rattle.rules.proofs.MemberLaws.{sameId-true, sameId-self}
-use Rattle.rules.proofs.Sounds.{loads-sound}
+use Rattle.rules.proofs.Sounds.{library-sound}
 use Rattle.obj.proofs.IdentityLaws.{member-has, member-asked}
 use Rattle.selection.specs.declared.Name.{Name}
 use Rattle.selection.specs.declared.Entity.{Entity}
@@ -126,7 +126,7 @@ module _ (text : Bytes) (rows : Words) (m found : ObjKey) {x y : TypeKey} (px : 
 
 module _ (text : Bytes) (rows : Words) (lib : Library text rows) (t : TypeKey) (h : t .0 < typeCount rows) where
   sound : Sound (tableOf text rows)
-  sound = loads-sound text (tableOf text rows) (lib .loads)
+  sound = library-sound lib
 
   iface-is-read : ifaceUnder (tableOf text rows) t ≡ ifaceRead rows t
   iface-is-read = iface-read text rows t h (under-in text rows lib t h refl)

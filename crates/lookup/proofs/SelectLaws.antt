@@ -17,7 +17,7 @@ use Rattle.rules.specs.Members.{Identity, identityFrom}
 use Rattle.rules.specs.Library.{Library}
 use Rattle.rules.specs.Sound.{Sound}
 use Rattle.rules.specs.Ways.{Selected, notfound, noMethod, searched, select}
-use Rattle.rules.proofs.Sounds.{loads-sound}
+use Rattle.rules.proofs.Sounds.{library-sound}
 use Rattle.obj.specs.Ids.{askedId}
 use Rattle.ways.specs.OfTable.{graph}
 use Rattle.ways.specs.Search.{lookup-rows}
@@ -61,7 +61,7 @@ module _ (text : Bytes) (rows : Words) (places : Words) where
 
 module _ (text : Bytes) (rows : Words) (lib : Library text rows) (t : TypeKey) (h : t .0 < typeCount rows) where
   sound : Sound (tableOf text rows)
-  sound = loads-sound text (tableOf text rows) (lib .loads)
+  sound = library-sound lib
 
   pub bare-inside : {u : TypeKey} → u ≡ bareRead rows t → u .0 < typeCount rows
   bare-inside pu =

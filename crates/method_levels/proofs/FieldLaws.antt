@@ -25,7 +25,7 @@ use Rattle.objects.proofs.RowLaws.{size-read, number-read, pointer-read, bare-r
 use Rattle.rules.specs.Library.{Library}
 use Rattle.rules.specs.Sound.{Sound}
 use Rattle.rules.specs.Ways.{Place, Walk, placesFrom, fieldPlaces, embedded}
-use Rattle.rules.proofs.Sounds.{loads-sound}
+use Rattle.rules.proofs.Sounds.{library-sound}
 use Rattle.rules.proofs.RangeLaws.{under-in}
 use Rattle.ways.proofs.TableLaws.{places-from, bare-in}
 use Rattle.method_levels.specs.Levels.{levelAt, upToTwo, times, firstWord}
@@ -86,7 +86,7 @@ module _ (text : Bytes) (rows : Words) (lib : Library text rows) where
   T = tableOf text rows
 
   sound : Sound T
-  sound = loads-sound text T (lib .loads)
+  sound = library-sound lib
 
   -- as the laws of the table want it
   pub in-table : {x : TypeKey} → x .0 < typeCount rows → x .0 < size T

@@ -20,7 +20,7 @@ use Rattle.objects.proofs.RowLaws.{size-read, bare-read, pointer-read}
 use Rattle.objects.proofs.Stores.{word-put, word-kept}
 use Rattle.rules.specs.Library.{Library}
 use Rattle.rules.specs.Ways.{Walk, start}
-use Rattle.rules.proofs.Sounds.{loads-sound}
+use Rattle.rules.proofs.Sounds.{library-sound}
 use Rattle.ways.proofs.TableLaws.{bare-in}
 use Rattle.method_levels.specs.Levels.{levelAt, standing, times, firstWord, placesTo, Came, OnLevel, Blank}
 use Rattle.method_levels.specs.Entering.{rowPut}
@@ -48,7 +48,7 @@ module _ (text : Bytes) (rows : Words) (lib : Library text rows) (t : TypeKey) (
   pub start-in : v .0 < typeCount rows
   start-in =
       let e = size-read text rows in
-      let i = subst (λ x. x .0 < size T) start-is (bare-in T (loads-sound text T (lib .loads)) t (omega (arith, e, h))) in
+      let i = subst (λ x. x .0 < size T) start-is (bare-in T (library-sound lib) t (omega (arith, e, h))) in
       omega (arith, e, i)
 
   pub start-small : v .0 < maxTypes

@@ -12,7 +12,7 @@ use Rattle.objects.proofs.RowLaws.{size-read}
 use Rattle.rules.specs.Library.{Library}
 use Rattle.rules.specs.Ways.{fieldPlaces}
 use Rattle.rules.specs.Sound.{Sound}
-use Rattle.rules.proofs.Sounds.{loads-sound}
+use Rattle.rules.proofs.Sounds.{library-sound}
 use Rattle.method_levels.specs.Levels.{levelAt, OnLevel, Between, FirstFrom, Blank}
 use Rattle.method_levels.specs.Entering.{walksFrom, through, Entered, Enters, Reaching}
 use Rattle.method_levels.proofs.CountLaws.{count-more}
@@ -59,7 +59,7 @@ module _ (text : Bytes) (rows : Words) (lib : Library text rows) (d : ℕ) (leve
 
   module _ (t : TypeKey) (h : t .0 < typeCount rows) (o : OnLevel T t d level first₀) {next first : Words} (r : Reaching T d level first₀ (typeCount rows) next first) where
     sound : Sound T
-    sound = loads-sound text T (lib .loads)
+    sound = library-sound lib
 
     pub reaching-end : OnLevel T t (suc d) next first
     reaching-end = level-next T sound t (in-table text rows lib h) d level first₀ next first o (subst (λ i. Entered T t d first₀ (walksFrom T t d i) next first) (sym (size-read text rows)) (r .so-far t o))

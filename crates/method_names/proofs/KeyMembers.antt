@@ -16,8 +16,8 @@ use Rattle.objects.specs.Table.{Member, Basic, typeKey, objKey, size, membersOf
 use Rattle.objects.specs.Rows.{Words, typeCount, memberCountOf, memberAt, membersFrom, kindOf, kindRead, tableOf}
 use Rattle.objects.proofs.RowLaws.{by-kind, named-kind, members-In, member-key, size-read, member-count-read, kind-beyond, kind-read}
 use Rattle.rules.specs.Library.{Library}
-use Rattle.rules.specs.Sound.{Sound, MemberOf}
-use Rattle.rules.proofs.Sounds.{loads-sound}
+use Rattle.rules.specs.Sound.{MemberOf}
+use Rattle.rules.proofs.Sounds.{library-sound}
 use Rattle.rules.proofs.IdLaws.{Proper, member-proper}
 use Rattle.method_names.specs.Names.{identityAt}
 
@@ -53,11 +53,8 @@ place (y ∷ l) x d (inr i) = let r = place l x d i in let h = r .1 in (suc (r .
 -- ---- the numbers of a table's members
 
 module _ (text : Bytes) (rows : Words) (lib : Library text rows) where
-  pub sound-rows : Sound (tableOf text rows)
-  sound-rows = loads-sound text (tableOf text rows) (lib .loads)
-
   numbers : map (λ m. m .key .0) (flat membersOf (tableOf text rows .types)) ≡ upTo (memberCountOf rows)
-  numbers = sound-rows .numbered ∙ ap upTo (member-count-read text rows)
+  numbers = library-sound lib .numbered ∙ ap upTo (member-count-read text rows)
 
   pub key-below : (t : TypeKey) (m : Member) → MemberOf (tableOf text rows) t m → m .key .0 < memberCountOf rows
   unfolding kindAt
@@ -85,8 +82,8 @@ module _ (text : Bytes) (rows : Words) (lib : Library text rows) where
 
   module _ (k : ℕ) (h : k < memberCountOf rows) where
     pub packaged-at : hasPackage (tableOf text rows) (memberAt text rows (objKey k) .pkg) ≡ true
-    packaged-at = let s = stands-at k h in sound-rows .packaged (s .0) (memberAt text rows (objKey k)) (s .1)
+    packaged-at = let s = stands-at k h in library-sound lib .packaged (s .0) (memberAt text rows (objKey k)) (s .1)
 
     pub proper-at : Proper (identityAt text rows k)
     unfolding identityAt
-    proper-at = let s = stands-at k h in member-proper (tableOf text rows) sound-rows (s .0) (memberAt text rows (objKey k)) (s .1)
+    proper-at = let s = stands-at k h in member-proper (tableOf text rows) (library-sound lib) (s .0) (memberAt text rows (objKey k)) (s .1)

@@ -15,7 +15,7 @@ use Rattle.objects.specs.Rows.{Words, typeWord, typeCount, memberCountOf, membe
 use Rattle.objects.specs.Laid.{Laid, endOf}
 use Rattle.objects.specs.Types.{numberOf, ifaceRead, namedRead, numberRead, underRead, firstRead, totalRead}
 use Rattle.rules.specs.Library.{Library}
-use Rattle.rules.proofs.Sounds.{loads-sound}
+use Rattle.rules.proofs.Sounds.{library-sound}
 use Rattle.rules.proofs.RangeLaws.{under-in}
 use Rattle.rules.specs.Ways.{Place, placesFrom, owned}
 use Rattle.method_reach.specs.Reach.{Under}
@@ -25,7 +25,7 @@ use Rattle.method_reach.specs.Reach.{Under}
 pub under-table : (text : Bytes) (rows : Words) → Library text rows → Under rows
 under-table text rows lib = record {
   within = λ u i.
-      rw (← under-read text rows u i, ← size-read text rows) (under-in (tableOf text rows) (loads-sound text (tableOf text rows) (lib .loads)) u (rw (size-read text rows) i));
+      rw (← under-read text rows u i, ← size-read text rows) (under-in (tableOf text rows) (library-sound lib) u (rw (size-read text rows) i));
 }
 
 -- ---- the members under a type

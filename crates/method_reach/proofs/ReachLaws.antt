@@ -17,7 +17,7 @@ use Rattle.objects.specs.Rows.{Words, typeCount, memberAt, membersFrom, tableOf
 use Rattle.objects.specs.Types.{numberRead, namedRead, underRead, bareRead, firstRead, totalRead, memberTypeRead, embeddedRead}
 use Rattle.rules.specs.Library.{Library}
 use Rattle.rules.specs.Sound.{Sound}
-use Rattle.rules.proofs.Sounds.{loads-sound}
+use Rattle.rules.proofs.Sounds.{library-sound}
 use Rattle.rules.specs.Ways.{Place, Walk, fieldPlaces, owned, along, embedded, onward}
 use Rattle.rules.specs.MethodSet.{below, barred, reaches}
 use Rattle.ways.proofs.TableLaws.{places-from, bare-in}
@@ -31,7 +31,7 @@ module _ (text : Bytes) (rows : Words) (lib : Library text rows) where
   T = tableOf text rows
 
   sound : Sound T
-  sound = loads-sound text T (lib .loads)
+  sound = library-sound lib
 
   inside : {x : TypeKey} → x .0 < size T → x .0 < typeCount rows
   inside h = let e = size-read text rows in omega (arith, e)

@@ -12,7 +12,7 @@ use Rattle.objects.specs.Table.{Table, typeKey, objKey}
 use Rattle.objects.specs.Rows.{Words, typeCount, tableOf}
 use Rattle.rules.specs.Library.{Library}
 use Rattle.rules.specs.Sound.{Sound}
-use Rattle.rules.proofs.Sounds.{loads-sound}
+use Rattle.rules.proofs.Sounds.{library-sound}
 use Rattle.rules.specs.MethodSet.{settled, standing}
 use Rattle.method_levels.specs.Levels.{levelAt, OnLevel}
 use Rattle.method_levels.proofs.ReachLaws.{level-in}
@@ -44,7 +44,7 @@ module _ (text : Bytes) (rows : Words) (lib : Library text rows) (t : TypeKey) (
   T = tableOf text rows
 
   sound : Sound T
-  sound = loads-sound text T (lib .loads)
+  sound = library-sound lib
 
   -- no level yet
   pub doing-start : (sels level first : Words) → OnLevel T t 0 level first → sels ≡ replicate (length sels) 0 → Doing text rows t index sels level first 0

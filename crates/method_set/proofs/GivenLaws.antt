@@ -16,7 +16,7 @@ use Rattle.objects.specs.Types.{methodRead}
 use Rattle.text.proofs.ByteLaws.{below-irrefl, below-trans}
 use Rattle.rules.specs.Library.{Library}
 use Rattle.rules.specs.Sound.{Sound, MemberOf}
-use Rattle.rules.proofs.Sounds.{loads-sound}
+use Rattle.rules.proofs.Sounds.{library-sound}
 use Rattle.rules.specs.Members.{Identity, identityOf, sameId, idBytes}
 use Rattle.rules.proofs.MemberLaws.{sameId-true}
 use Rattle.rules.proofs.MethodNames.{Lower, names-ascend}
@@ -88,7 +88,7 @@ module _ (text : Bytes) (rows : Words) (lib : Library text rows) (t : TypeKey) (
   T = tableOf text rows
 
   sound : Sound T
-  sound = loads-sound text T (lib .loads)
+  sound = library-sound lib
 
   -- a member that a type owns is the one of its number
   owned-at : (u : TypeKey) (p : Place) → In p (owned T u) → (p .member .key .0 < memberCountOf rows) × (p .member ≡ memberAt text rows (objKey (p .member .key .0)))

@@ -20,7 +20,7 @@ use Rattle.objects.specs.Types.{bareRead}
 use Rattle.text.proofs.ByteLaws.{below-irrefl}
 use Rattle.rules.specs.Library.{Library}
 use Rattle.rules.specs.Sound.{Sound}
-use Rattle.rules.proofs.Sounds.{loads-sound}
+use Rattle.rules.proofs.Sounds.{library-sound}
 use Rattle.rules.specs.Members.{Identity, sameId, idBytes}
 use Rattle.rules.proofs.MemberLaws.{sameId-true, sameId-eq}
 use Rattle.rules.proofs.MethodNames.{Lower}
@@ -124,7 +124,7 @@ module _ (text : Bytes) (rows : Words) (lib : Library text rows) (t : TypeKey) (
   U = tableOf text rows
 
   whole : Sound U
-  whole = loads-sound text U (lib .loads)
+  whole = library-sound lib
 
   bare-there : bareRead rows t .0 < typeCount rows
   bare-there = rw (← bare-read text rows t there, ← size-read text rows) (bare-in U whole t (rw (size-read text rows) there))

@@ -11,6 +11,7 @@ use Rattle.objects.specs.Bounds.{refusalUnit}
 use Rattle.objects.specs.Lists.{Bytes, any, every, lastOf, headOr, In, Sorted}
 use Rattle.objects.specs.declared.TypeKey.{TypeKey}
 use Rattle.objects.specs.Table.{Table, size, sameType, Member, Kind, Basic, isIface, isNamed, refs, membersOf, fieldsOf, declaredOf, allMethodsOf, byValue, hasType, hasPackage, kindAt, under}
+use Rattle.objects.specs.Rows.{Words, tableOf}
 use Rattle.objects.proofs.ListLaws.{cases, clash, and-r, or-l, or-r, none-In}
 use Rattle.objects.proofs.KindLaws.{named-ref, if-In}
 use Rattle.objects.proofs.PartLaws.{parted, sorted-from, ascending, getD-In}
@@ -21,6 +22,7 @@ use Rattle.rules.specs.Chains.{Chain}
 use Rattle.rules.specs.Checks.{typeItem, memberItem, forbidden, clashing, containing, typeAllowed, memberAllowed, ascends, equalsField, contents}
 use Rattle.rules.specs.Load.{loaded, load}
 use Rattle.rules.specs.Sound.{MemberOf, Apart, Lower, Sound}
+use Rattle.rules.specs.Library.{Library}
 use Rattle.rules.proofs.ChainLaws.{leads-iff, types-few}
 use Rattle.rules.proofs.LoadLaws.{WellFormed, fresh, Built}
 use Rattle.rules.proofs.CheckLaws.{Passed, Right, type-item, load-right}
@@ -135,3 +137,7 @@ module _ (T : Table) (line : ℕ) (b : Built line T) (p : Passed T) where
 -- EVERY TABLE THAT LOADS IS SOUND
 pub loads-sound : (text : Bytes) (T : Table) → load text ≡ loaded T → Sound T
 loads-sound text T e = let r : Right refusalUnit (loaded T) = rw e at (load-right text) in sound-of T refusalUnit (r .0) (r .1)
+
+-- and so is the table that rows of a library hold
+pub library-sound : {text : Bytes} {rows : Words} → Library text rows → Sound (tableOf text rows)
+library-sound {text} {rows} lib = loads-sound text (tableOf text rows) (lib .loads)

@@ -20,7 +20,7 @@ use Rattle.objects.proofs.RowLaws.{members-have, members-meant, number-meant, k
 use Rattle.rules.specs.Members.{Identity, identityOf, sameId}
 use Rattle.rules.specs.Library.{Library}
 use Rattle.rules.specs.Ways.{Place, placesFrom, fieldPlaces, owned, matching}
-use Rattle.rules.proofs.Sounds.{loads-sound}
+use Rattle.rules.proofs.Sounds.{library-sound}
 use Rattle.selection.specs.declared.Name.{Name}
 use Rattle.selection.specs.declared.Own.{Own}
 use Rattle.selection.specs.Results.{first, nameMeant, ownMeant}
@@ -84,7 +84,7 @@ module _ (text : Bytes) (rows : Words) (t : TypeKey) where
     pub list-packaged : 8 ≤ numberRead rows t → (i : ℕ) → i < count → hasPackage (tableOf text rows) (memberAt text rows (objKey (from + i)) .pkg) ≡ true
     list-packaged g i l =
         let k : i < totalRead rows t = rw pc at l in
-        rw pf (loads-sound text (tableOf text rows) (lib .loads) .packaged t (memberAt text rows (objKey (firstRead rows t + i)))
+        rw pf (library-sound lib .packaged t (memberAt text rows (objKey (firstRead rows t + i)))
         (rw (members-row h g) (members-have text rows (firstRead rows t) (totalRead rows t) i k)))
 
   module _ (names : Bytes) (q : Name) (h : t .0 < typeCount rows) (g : 8 ≤ numberRead rows t) {from count : ℕ} (pf : from ≡ firstRead rows t) (pc : count ≡ totalRead rows t) (i : ℕ)
@@ -130,7 +130,7 @@ module _ (text : Bytes) (rows : Words) where
   unfolding under
   under-in lib t h {u = u} e =
       cases (isNamed (kindAt (tableOf text rows) t))
-      (λ n. let l = loads-sound text (tableOf text rows) (lib .loads) .refers t (headOr t (refs (kindAt (tableOf text rows) t))) (named-ref t (kindAt (tableOf text rows) t) n) in
+      (λ n. let l = library-sound lib .refers t (headOr t (refs (kindAt (tableOf text rows) t))) (named-ref t (kindAt (tableOf text rows) t) n) in
       let z : under (tableOf text rows) t ≡ headOr t (refs (kindAt (tableOf text rows) t)) = rw n in
       let v : u ≡ headOr t (refs (kindAt (tableOf text rows) t)) = e ∙ sym (under-read text rows t h) ∙ z in
       let s = size-read text rows in

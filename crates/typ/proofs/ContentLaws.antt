@@ -26,8 +26,9 @@ use Rattle.rules.specs.Library.{Library, rankRead}
 use Rattle.rules.specs.Sound.{Sound}
 use Rattle.rules.proofs.RangeLaws.{content-in}
 use Rattle.rules.proofs.ComparableLaws.{comparable-step}
+use Rattle.rules.proofs.Sounds.{library-sound}
 use Rattle.type_parts.proofs.Spans.{SpanIs, span-is, span-small}
-use Rattle.type_parts.proofs.ReadLaws.{member-types, meant-at, library-sound}
+use Rattle.type_parts.proofs.ReadLaws.{member-types, meant-at}
 use Rattle.typ.specs.Contents.{mayCompareIn, heldIn, contentIn, mayCompare, contentCount, contentAt, MetComparable, Judged}
 use Rattle.typ.proofs.Zero.{getD-zeros}
 
@@ -103,7 +104,7 @@ Passed text rows t i = (k : ℕ) → k < i → comparable (tableOf text rows) (c
 
 module _ (text : Bytes) (rows : Words) (lib : Library text rows) (t : TypeKey) (h : t .0 < typeCount rows) where
   sound : Sound (tableOf text rows)
-  sound = library-sound text rows lib
+  sound = library-sound lib
 
   step : comparable (tableOf text rows) t ≡ mayCompare rows t && every (comparable (tableOf text rows)) (contents (tableOf text rows) t)
   step = comparable-step (tableOf text rows) sound t ∙ kind-at text rows t h (comparable (tableOf text rows))

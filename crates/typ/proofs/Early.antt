@@ -16,8 +16,9 @@ use Rattle.rules.specs.Identity.{identical}
 use Rattle.rules.specs.StepIdentity.{sameIn}
 use Rattle.rules.specs.Library.{Library}
 use Rattle.rules.proofs.StepLaws.{same-split}
+use Rattle.rules.proofs.Sounds.{library-sound}
 use Rattle.type_parts.specs.Parts.{ownRead, partCount, partAt, alikeAt, Kin}
-use Rattle.type_parts.proofs.ReadLaws.{own-read, library-sound}
+use Rattle.type_parts.proofs.ReadLaws.{own-read}
 use Rattle.type_parts.proofs.StepAt.{step-split}
 use Rattle.type_parts.proofs.KinLaws.{left-in, right-in, left-inside, right-inside}
 use Rattle.typ.proofs.Top.{differed}
@@ -40,13 +41,13 @@ module _ (text : Bytes) (rows : Words) (lib : Library text rows) (x y : TypeKey)
   -- the members at place i are not called alike
   pub names-differ : (b : Bool) → b ≡ alikeAt text rows x y i → not b ≡ true → identical (tableOf text rows) x y ≡ false
   names-differ b f z =
-      sym (differed (tableOf text rows) x y (library-sound text rows lib)
+      sym (differed (tableOf text rows) x y (library-sound lib)
       (1, false-of (sameIn (tableOf text rows) 1 x y) (λ s. clash (step-split text rows x y (left-in text rows lib x y k) (right-in text rows lib x y k) (k .kinds) (k .owns) 0 s i in-parts .0) (sym f ∙ not-true b z))))
 
   -- the parts at place i are of two kinds or of two own numbers
   pub parts-differ : (p q : TypeKey) → p ≡ partAt rows x i → q ≡ partAt rows y i → (numberRead rows p ≡ numberRead rows q → ownRead rows p ≡ ownRead rows q → ⊥) → identical (tableOf text rows) x y ≡ false
   parts-differ p q l r u =
-      sym (differed (tableOf text rows) x y (library-sound text rows lib) (2, false-of (sameIn (tableOf text rows) 2 x y) (λ s. two s)))
+      sym (differed (tableOf text rows) x y (library-sound lib) (2, false-of (sameIn (tableOf text rows) 2 x y) (λ s. two s)))
     where
       hp : p .0 < typeCount rows
       hp = left-inside text rows lib x y k i n e h p l

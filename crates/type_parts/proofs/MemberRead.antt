@@ -19,8 +19,8 @@ use Rattle.text.specs.Bytes.{sameBytes}
 use Rattle.rules.specs.Members.{sameMember}
 use Rattle.rules.specs.Identity.{alikeMember}
 use Rattle.rules.specs.Library.{Library}
+use Rattle.rules.proofs.Sounds.{library-sound}
 use Rattle.type_parts.specs.Parts.{partCount, tagLength, alikeAt}
-use Rattle.type_parts.proofs.ReadLaws.{library-sound}
 use Rattle.type_parts.proofs.StepAt.{named-count, members-read, count-members}
 
 -- parts of the text, given by numbers that were read
@@ -92,5 +92,5 @@ member-packaged text rows lib x h k i a e g l f =
     let eight : 8 ≤ numberRead rows x = omega arith in
     let n : numberRead rows x ≢ 10 = λ z. let w = named-count text rows x h z in omega arith in
     let c = count-members text rows x h eight n in
-    rw f (library-sound text rows lib .packaged x (memberAt text rows (objKey (firstRead rows x + i)))
+    rw f (library-sound lib .packaged x (memberAt text rows (objKey (firstRead rows x + i)))
     (rw (members-read text rows x h eight) (members-have text rows (firstRead rows x) (totalRead rows x) i (omega arith))))

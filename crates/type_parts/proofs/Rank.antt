@@ -24,8 +24,9 @@ use Rattle.rules.specs.Checks.{mayRefer, smallerTuple, typeAllowed, memberAllow
 use Rattle.rules.specs.Load.{stands}
 use Rattle.rules.specs.Library.{Library}
 use Rattle.rules.proofs.RangeLaws.{part-in}
+use Rattle.rules.proofs.Sounds.{library-sound}
 use Rattle.type_parts.specs.Parts.{partCount, partAt}
-use Rattle.type_parts.proofs.ReadLaws.{library-sound, parts-read}
+use Rattle.type_parts.proofs.ReadLaws.{parts-read}
 use Rattle.type_parts.proofs.StepAt.{named-count}
 
 -- ---- where references go
@@ -121,11 +122,11 @@ module _ (text : Bytes) (rows : Words) (lib : Library text rows) (x : TypeKey) (
   part-has = rw (parts-read text rows x hx) (map-In-to (partAt rows x) (upTo (partCount rows x)) i (upTo-has (partCount rows x) i hi))
 
   pub part-inside : partAt rows x i .0 < typeCount rows
-  part-inside = let r = part-in (tableOf text rows) (library-sound text rows lib) x (partAt rows x i) part-has in rw (size-read text rows) at r
+  part-inside = let r = part-in (tableOf text rows) (library-sound lib) x (partAt rows x i) part-has in rw (size-read text rows) at r
 
   down : numberRead rows x ≢ 9 → (partAt rows x i .0 < x .0) ⊎ ((numberRead rows (partAt rows x i) ≡ 10) ⊎ (numberRead rows (partAt rows x i) ≡ 9))
   down n =
-      let s = library-sound text rows lib in
+      let s = library-sound lib in
       let e = number-read text rows (partAt rows x i) part-inside in
       either (kind-down (tableOf text rows) x (kindAt (tableOf text rows) x) (s .allowed x) (λ m j. (s .standing x m j, s .allowedMember x m j)) (rw (number-read text rows x hx) n) (partAt rows x i) part-has)
       (λ p. inl p) (λ p. either p (λ q. inr (inl (sym e ∙ q))) (λ q. inr (inr (sym e ∙ q))))

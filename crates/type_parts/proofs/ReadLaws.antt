@@ -18,9 +18,6 @@ use Rattle.objects.proofs.ListLaws.{map-map}
 use Rattle.objects.proofs.Reading.{is-tuple, is-func, is-struct, is-iface}
 use Rattle.objects.proofs.RowLaws.{type-meant, kind-read, members-length, elements-length}
 use Rattle.rules.specs.Identity.{realType, ownNumber, parts}
-use Rattle.rules.specs.Library.{Library}
-use Rattle.rules.specs.Sound.{Sound}
-use Rattle.rules.proofs.Sounds.{loads-sound}
 use Rattle.type_parts.specs.Parts.{ownIn, countIn, partIn, ownRead, partCount, partAt, alikeAt}
 use Rattle.type_parts.proofs.Spans.{SpanIs, span-is, span-small}
 
@@ -69,10 +66,6 @@ module _ (text : Bytes) (rows : Words) where
     pub parts-read : parts (kindAt (tableOf text rows) t) ≡ map (partAt rows t) (upTo (partCount rows t))
     unfolding partAt partCount
     parts-read = ap parts meant-at ∙ parts-meant (typeRead rows t)
-
--- the table that a library's rows hold is sound
-pub library-sound : (text : Bytes) (rows : Words) → Library text rows → Sound (tableOf text rows)
-library-sound text rows lib = loads-sound text (tableOf text rows) (lib .loads)
 
 -- a part's place is a small number
 count-small : (first count : ℕ) (ty : «Type») → SpanIs first count ty → countIn ty ≤ count + 2

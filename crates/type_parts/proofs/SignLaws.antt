@@ -22,9 +22,10 @@ use Rattle.rules.specs.StepIdentity.{sameIn}
 use Rattle.rules.specs.Library.{Library}
 use Rattle.rules.proofs.IdentityLaws.{identical-steps}
 use Rattle.rules.proofs.StepLaws.{same-split}
+use Rattle.rules.proofs.Sounds.{library-sound}
 use Rattle.type_parts.specs.Parts.{ownRead, partCount, partAt}
 use Rattle.type_parts.specs.Sign.{signs, counted, countedAll, plainSign, partCounted, signRead}
-use Rattle.type_parts.proofs.ReadLaws.{own-read, library-sound, place-small}
+use Rattle.type_parts.proofs.ReadLaws.{own-read, place-small}
 use Rattle.type_parts.proofs.StepAt.{counts, alike-at, step-split}
 use Rattle.type_parts.proofs.Rank.{part-inside}
 
@@ -113,7 +114,7 @@ module _ (text : Bytes) (rows : Words) (x y : TypeKey) (hx : x .0 < typeCount ro
 
 module _ (text : Bytes) (rows : Words) (lib : Library text rows) (x y : TypeKey) (hx : x .0 < typeCount rows) (hy : y .0 < typeCount rows) (same : identical (tableOf text rows) x y ≡ true) where
   steps : (n : ℕ) → sameIn (tableOf text rows) n x y ≡ true
-  steps = identical-steps (tableOf text rows) (library-sound text rows lib) x y .0 same
+  steps = identical-steps (tableOf text rows) (library-sound lib) x y .0 same
 
   kinds : numberRead rows x ≡ numberRead rows y
   kinds = number-same text rows x y hx hy 0 (steps 1)

@@ -4,7 +4,7 @@ use native.Mathlib.Omega.{arith}
 use lib.ListN.{length}
 use borrow.Author.Tests.{not-true, not-false}
 use Rattle.objects.specs.Rows.{tableOf}
-use Rattle.type_parts.proofs.ReadLaws.{library-sound}
+use Rattle.rules.proofs.Sounds.{library-sound}
 use Rattle.typ.specs.Marks.{unmet}
 use Rattle.typ.specs.Compared.{Follows, State}
 use Rattle.typ.proofs.Marked.{well-none}
@@ -28,7 +28,7 @@ same-length-2 : tie.Need-same-length-2 Inv-loop μ-loop
 same-length-2 c = search needs
 
 returns : tie.Need-returns Inv-loop μ-loop
-returns c = differed _ _ _ (library-sound _ _ (c .before .before .before .before .before .before .before .before .before .before .before .before .pre .0)) ((c .before .before .before .before .before .identical-impl .ensures .0 .differ-if) (not-true _ (c .if1 .taken)))
+returns c = differed _ _ _ (library-sound (c .before .before .before .before .before .before .before .before .before .before .before .before .pre .0)) ((c .before .before .before .before .before .identical-impl .ensures .0 .differ-if) (not-true _ (c .if1 .taken)))
 
 loop-holds : tie.Need-loop-holds Inv-loop μ-loop
 loop-holds c = (search needs, search needs, c .before .before .before .before .before .identical-impl .ensures .1, begun _ _ _ _ _ _ (c .before .before .before .before .before .before .before .before .before .before .before .before .pre .1 .1 .0) (c .before .before .before .before .before .identical-impl .ensures .0) (c .if1 .left))
@@ -46,7 +46,7 @@ same-length-4 : tie.Need-same-length-4 Inv-loop μ-loop
 same-length-4 c = search needs
 
 returns-2 : tie.Need-returns-2 Inv-loop μ-loop
-returns-2 c = answered _ _ _ (library-sound _ _ (c .before .before .before .before .before .before .before .before .before .before .before .before .before .before .before .before .before .before .before .before .before .before .before .before .pre .0)) _ _ _ (c .before .before .before .before .before .before .before .before .before .before .before .loop .inv .3) (c .before .before .before .before .before .open-round .ensures .0) (c .if3 .taken)
+returns-2 c = answered _ _ _ (library-sound (c .before .before .before .before .before .before .before .before .before .before .before .before .before .before .before .before .before .before .before .before .before .before .before .before .pre .0)) _ _ _ (c .before .before .before .before .before .before .before .before .before .before .before .loop .inv .3) (c .before .before .before .before .before .open-round .ensures .0) (c .if3 .taken)
 
 loop-less : tie.Need-loop-less Inv-loop μ-loop
 loop-less c = (c .before .before .before .before .before .open-round .ensures .0 .if-2) (c .if3 .left) .0
@@ -61,7 +61,7 @@ same-length-6 : tie.Need-same-length-6 Inv-loop μ-loop
 same-length-6 c = search needs
 
 returns-3 : tie.Need-returns-3 Inv-loop μ-loop
-returns-3 c = agreed _ _ _ (library-sound _ _ (c .before .before .before .before .before .before .before .before .before .before .before .before .before .before .before .before .pre .0)) _ (c .before .before .before .loop .inv .3) ((c .before .settled .ensures) (not-false _ (c .if2 .left)))
+returns-3 c = agreed _ _ _ (library-sound (c .before .before .before .before .before .before .before .before .before .before .before .before .before .before .before .before .pre .0)) _ (c .before .before .before .loop .inv .3) ((c .before .settled .ensures) (not-false _ (c .if2 .left)))
 
 pub decide-by-spec : {M : Type 1} → statement M
 decide-by-spec =

@@ -1,8 +1,8 @@
 use borrow.Author.Needs.{needs}
+use Rattle.rules.proofs.Sounds.{library-sound}
 use mathlib.Core.Path.{refl, sym, ap, _∙_}
 use Prim.Native.Nat.{ℕ}
 use lib.ListN.{replicate}
-use Rattle.type_parts.proofs.ReadLaws.{library-sound}
 use Rattle.type_parts.proofs.KinLaws.{kin}
 use Rattle.typ.proofs.Zero.{none-met}
 use Rattle.typ.proofs.Cycle.{kinds-apart, owns-apart}
@@ -11,7 +11,7 @@ use Rattle.typ.proofs.identical.identical.Statement.{statement}
 use Rattle.typ.proofs.identical.identical.Tie as tie
 
 returns : tie.Need-returns
-returns c = (selfsame _ _ _ (library-sound _ _ (c .before .before .before .before .before .before .pre .0)) (c .if1 .taken), refl)
+returns c = (selfsame _ _ _ (library-sound (c .before .before .before .before .before .before .pre .0)) (c .if1 .taken), refl)
 
 kind-number-requires : tie.Need-kind-number-requires
 kind-number-requires c κs = search needs
@@ -20,7 +20,7 @@ kind-number-requires-2 : tie.Need-kind-number-requires-2
 kind-number-requires-2 c κs = search needs
 
 returns-2 : tie.Need-returns-2
-returns-2 c = (differed _ _ _ (library-sound _ _ (c .before .before .before .before .before .before .before .before .before .pre .0)) (kinds-apart _ _ _ _ (c .before .before .before .before .before .before .before .before .before .pre .1 .0 .0) (c .before .before .before .before .before .before .before .before .before .pre .1 .0 .1) _ _ (c .before .before .kind-number .ensures) (c .before .kind-number2 .ensures) (c .if2 .taken)), refl)
+returns-2 c = (differed _ _ _ (library-sound (c .before .before .before .before .before .before .before .before .before .pre .0)) (kinds-apart _ _ _ _ (c .before .before .before .before .before .before .before .before .before .pre .1 .0 .0) (c .before .before .before .before .before .before .before .before .before .pre .1 .0 .1) _ _ (c .before .before .kind-number .ensures) (c .before .kind-number2 .ensures) (c .if2 .taken)), refl)
 
 own-number-requires : tie.Need-own-number-requires
 own-number-requires c κs = search needs
@@ -29,7 +29,7 @@ own-number-requires-2 : tie.Need-own-number-requires-2
 own-number-requires-2 c κs = search needs
 
 returns-3 : tie.Need-returns-3
-returns-3 c = (differed _ _ _ (library-sound _ _ (c .before .before .before .before .before .before .before .before .before .before .before .before .pre .0)) (owns-apart _ _ _ _ (c .before .before .before .before .before .before .before .before .before .before .before .before .pre .1 .0 .0) (c .before .before .before .before .before .before .before .before .before .before .before .before .pre .1 .0 .1) _ _ (c .before .before .own-number .ensures) (c .before .own-number2 .ensures) (c .if3 .taken)), refl)
+returns-3 c = (differed _ _ _ (library-sound (c .before .before .before .before .before .before .before .before .before .before .before .before .pre .0)) (owns-apart _ _ _ _ (c .before .before .before .before .before .before .before .before .before .before .before .before .pre .1 .0 .0) (c .before .before .before .before .before .before .before .before .before .before .before .before .pre .1 .0 .1) _ _ (c .before .before .own-number .ensures) (c .before .own-number2 .ensures) (c .if3 .taken)), refl)
 
 apart-requires : tie.Need-apart-requires
 apart-requires c κs = ((c .before .before .before .before .before .before .before .before .before .before .before .before .pre .0), kin _ _ _ _ (c .before .before .before .before .before .before .before .before .before .before .before .before .pre .1 .0 .0) (c .before .before .before .before .before .before .before .before .before .before .before .before .pre .1 .0 .1) _ _ _ _ (c .before .before .before .before .before .kind-number .ensures) (c .before .before .before .before .kind-number2 .ensures) (c .before .before .before .if2 .left) (c .before .before .own-number .ensures) (c .before .own-number2 .ensures) (c .if3 .left))
