@@ -5,3 +5,4 @@ pub mod classes; // labels of types
 pub mod comparable; // C
 pub mod identical; // I
 pub mod marks; // bits in lent words
+pub mod opening; // pairs that were put off

@@ -3,8 +3,8 @@ use mathlib.Core.Path.{sym, _∙_}
 use native.Mathlib.Omega.{arith}
 use Rattle.typ.proofs.Following.{follows-grown}
 use Rattle.typ.proofs.Top.{skip-unmet, skip-opened, known, open-well, open-grown, open-same, open-differ}
-use Rattle.typ.proofs.identical.open_at.Statement.{statement}
-use Rattle.typ.proofs.identical.open_at.Tie as tie
+use Rattle.typ.proofs.opening.open_at.Statement.{statement}
+use Rattle.typ.proofs.opening.open_at.Tie as tie
 
 is-met-requires : tie.Need-is-met-requires
 is-met-requires c κs = search needs

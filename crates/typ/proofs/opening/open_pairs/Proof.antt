@@ -7,8 +7,8 @@ use lib.ListN.{length}
 use Rattle.objects.specs.Rows.{tableOf}
 use Rattle.typ.specs.Compared.{Follows}
 use Rattle.typ.proofs.Top.{PairClean, pairs-clean, turn-differ, turn-as, Turns, turns-none, turns-more}
-use Rattle.typ.proofs.identical.open_pairs.Statement.{statement}
-use Rattle.typ.proofs.identical.open_pairs.Tie as tie
+use Rattle.typ.proofs.opening.open_pairs.Statement.{statement}
+use Rattle.typ.proofs.opening.open_pairs.Tie as tie
 
 abbrev Inv-loop : tie.InvT-loop
 Inv-loop text rows marks₀ labels₀ x y w found₀ i₀ marks labels found i = (i ≤ 32) × (length marks ≡ length marks₀) × (length labels ≡ length labels₀) × Follows (tableOf text rows) marks labels × Turns (tableOf text rows) x y (PairClean w) marks₀ marks i found

@@ -6,8 +6,8 @@ use native.Mathlib.Omega.{arith}
 use borrow.Author.Tests.{eqb-true}
 use Rattle.typ.specs.Compared.{pairWords, WordClean}
 use Rattle.typ.proofs.Top.{words-clean, clean-more}
-use Rattle.typ.proofs.identical.settled.Statement.{statement}
-use Rattle.typ.proofs.identical.settled.Tie as tie
+use Rattle.typ.proofs.opening.settled.Statement.{statement}
+use Rattle.typ.proofs.opening.settled.Tie as tie
 
 abbrev Inv-loop : tie.InvT-loop
 Inv-loop marks off₀ w₀ off w = (w ≤ pairWords) × (off ≤ w) × (off ≡ 0 → (v : ℕ) → v < w → WordClean marks v)

@@ -7,8 +7,8 @@ use lib.ListN.{length}
 use Rattle.objects.specs.Rows.{tableOf}
 use Rattle.typ.specs.Compared.{pairWords, WordClean, Follows}
 use Rattle.typ.proofs.Top.{words-clean, turn-differ, turn-as, Turns, turns-none, turns-more}
-use Rattle.typ.proofs.identical.open_round.Statement.{statement}
-use Rattle.typ.proofs.identical.open_round.Tie as tie
+use Rattle.typ.proofs.opening.open_round.Statement.{statement}
+use Rattle.typ.proofs.opening.open_round.Tie as tie
 
 abbrev Inv-loop : tie.InvT-loop
 Inv-loop text rows marks₀ labels₀ x y found₀ w₀ marks labels found w = (w ≤ pairWords) × (length marks ≡ length marks₀) × (length labels ≡ length labels₀) × Follows (tableOf text rows) marks labels × Turns (tableOf text rows) x y WordClean marks₀ marks w found

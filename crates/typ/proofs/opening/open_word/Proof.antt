@@ -1,8 +1,8 @@
 use borrow.Author.Needs.{needs}
 use native.Mathlib.Omega.{arith}
 use Rattle.typ.proofs.Top.{halves-clean, turn-clean}
-use Rattle.typ.proofs.identical.open_word.Statement.{statement}
-use Rattle.typ.proofs.identical.open_word.Tie as tie
+use Rattle.typ.proofs.opening.open_word.Statement.{statement}
+use Rattle.typ.proofs.opening.open_word.Tie as tie
 
 mul-if1 : tie.Need-mul-if1
 mul-if1 c = search needs
