@@ -5,19 +5,20 @@ use mathlib.Core.List.{List, [], _∷_}
 use mathlib.Core.Option.{Option, none, some}
 use Prim.Native.Nat.{ℕ, _+_, _≤_, _<_}
 use native.Mathlib.Omega.{arith}
-use lib.Dec.{eqb}
-use lib.ListN.{getD}
-use borrow.Author.Tests.{eqb-true, eqb-false}
+use lib.Dec.{eqb, ltb}
+use lib.ListN.{length, getD}
+use borrow.Author.Tests.{eqb-true, eqb-false, leb-true, ltb-true, ltb-false}
 use Rattle.objects.specs.Bounds.{maxName, maxPath, maxTag}
-use Rattle.objects.specs.Lists.{Bytes, every, headOr, when}
-use Rattle.objects.proofs.ListLaws.{cases}
+use Rattle.objects.specs.Lists.{Bytes, every, when}
+use Rattle.objects.proofs.ListLaws.{cases, and-l}
 use Rattle.text.specs.declared.Cursor.{Cursor}
 use Rattle.text.specs.declared.Part.{Part}
 use Rattle.text.specs.Bytes.{between, sized, firstIs, isDigit, isNameByte, isName, isBlank, isPath, isTag}
 use Rattle.text.specs.Readers.{field}
 use Rattle.text.specs.Cursors.{part, partRead, fieldsLeft}
-use Rattle.text.specs.Runs.{stopAt, byteIn, runEnd, closedAt, Exact, runRead}
-use Rattle.text.proofs.PartLaws.{part-next, part-none}
+use Rattle.text.specs.Runs.{stopAt, byteIn, runEnd, Ended, EndsAt, closedAt, Exact, runRead}
+use Rattle.text.proofs.PartLaws.{stop-in, part-next, part-none, byte-there, byte-within}
+use Rattle.text.proofs.RunLaws.{fence-ended, fence-end}
 use Rattle.text.proofs.AnswerLaws.{none-some, passed}
 use Rattle.text.proofs.FieldLaws.{closed-reads, closed-exact}
 
@@ -79,9 +80,24 @@ path-both : (b : Bytes) → isPath b ≡ ((sized maxPath b && every (between 33 
 unfolding isPath
 path-both b = refl
 
-first-head : (l : Bytes) → isDigit (headOr 256 l) ≡ firstIs isDigit l
-first-head [] = refl
-first-head (b ∷ l) = refl
+-- ---- where the bytes of a name end
+
+-- t says that a newline, which is none of them, stands at the end
+module _ (s : Bytes) (at end : ℕ) {stop : ℕ} (ps : stop ≡ stopAt s end) (h : at < stop) {b : ℕ} {t : Bool} (pb : b ≡ byteIn s stop (length s)) (pt : t ≡ eqb b 10) (e : t ≡ true) where
+  newline : b ≡ 10
+  newline = eqb-true b 10 (sym pt ∙ e)
+
+  newline-within : stop < length s
+  newline-within = let z = newline in byte-within s stop (length s) pb (omega arith)
+
+  newline-other : isNameByte (getD s stop 0) ≡ false
+  newline-other = let z = newline in ap isNameByte (sym (byte-there s stop (length s) pb (omega arith)) ∙ z)
+
+  pub newline-ended : Ended isNameByte s at
+  newline-ended = fence-ended isNameByte s end ps newline-within newline-other at (omega arith)
+
+  pub newline-end : {r : ℕ} → EndsAt isNameByte s at r → r ≡ runEnd isNameByte s at end
+  newline-end = fence-end isNameByte s end ps newline-within newline-other at (omega arith)
 
 -- r is the closed run of a name's bytes; t whether the first of them is a digit
 module _ (s : Bytes) (c : Cursor) {to : ℕ} {r : Part} (pe : to ≡ runEnd isNameByte s (c .at) (c .end)) (pr : r ≡ closedAt s c to maxName) where
@@ -92,10 +108,22 @@ module _ (s : Bytes) (c : Cursor) {to : ℕ} {r : Part} (pe : to ≡ runEnd isNa
   unfolding partRead
   name-wrong = none-less isNameByte maxName (λ b. not (firstIs isDigit b)) isName name-both s (fieldsLeft s c) run
 
-  module _ {from end : ℕ} {d : Cursor} {b : ℕ} {t : Bool} (q : r ≡ Part.Is from end d) (pb : b ≡ byteIn s from end) (pt : t ≡ isDigit b) where
+  -- a name has a first byte
+  name-begins : {from end : ℕ} {d : Cursor} → r ≡ Part.Is from end d → from < stopAt s end
+  unfolding partRead runRead
+  name-begins {from} {end} {d} q =
+      let z = passed (λ b. sized maxName b && every isNameByte b) (fieldsLeft s c) (sym run ∙ ap (partRead s) q) .1 in
+      let l = leb-true 1 (length (part s from end)) (and-l _ _ (and-l _ _ z)) in
+      cases (ltb from (stopAt s end))
+      (λ e. ltb-true from (stopAt s end) e)
+      (λ e. let k : length (part s from end) ≡ 0 = ap length (part-none s from end refl (ltb-false from (stopAt s end) e)) in absurd (omega arith))
+
+  pub name-within : {from end : ℕ} {d : Cursor} → r ≡ Part.Is from end d → from < length s
+  name-within {from} {end} q = stop-in s from end refl (name-begins q) .1
+
+  module _ {from end : ℕ} {d : Cursor} {b : ℕ} {t : Bool} (q : r ≡ Part.Is from end d) (pb : b ≡ getD s from 0) (pt : t ≡ isDigit b) where
     digit-first : not t ≡ not (firstIs isDigit (part s from end))
-    unfolding byteIn
-    digit-first = ap not (pt ∙ ap isDigit pb ∙ first-head (part s from end))
+    digit-first = ap not (pt ∙ ap isDigit pb ∙ sym (ap (firstIs isDigit) (part-next s from end refl (name-begins q))))
 
     pub name-digit : t ≡ true → partRead s Part.Wrong ≡ field (λ b. when (isName b) b) (fieldsLeft s c)
     unfolding partRead

@@ -91,6 +91,9 @@ module _ (s : Bytes) (at end : ℕ) {b : ℕ} (pb : b ≡ byteIn s at end) (h : 
       (λ e. ltb-true at (stopAt s end) e)
       (λ e. let z = byte-none s at end refl (ltb-false at (stopAt s end) e) in omega arith)
 
+  pub byte-there : b ≡ getD s at 0
+  byte-there = pb ∙ byte-is s at end refl byte-in
+
   pub byte-within : at < length s
   byte-within = stop-in s at end refl byte-in .1
 

@@ -2,17 +2,17 @@
 use mathlib.Core.Path.{_≡_, refl, sym, ap, _∙_}
 use mathlib.Core.Bool.{Bool, true, false, not, _||_}
 use mathlib.Core.List.{List, [], _∷_, _++_}
-use Prim.Native.Nat.{ℕ, _+_, _-_, _≤_, _<_}
+use Prim.Native.Nat.{ℕ, zero, suc, _+_, _-_, _≤_, _<_}
 use native.Mathlib.Nat.{add-zero}
 use native.Mathlib.Omega.{arith}
 use lib.Dec.{eqb, leb}
 use lib.ListN.{length, getD, take, drop, take-append-drop}
 use lib.Seq.{take-all}
-use borrow.Author.Tests.{eqb-true, leb-true, leb-false}
+use borrow.Author.Tests.{eqb-true, leb-true, leb-false, le-leb}
 use Rattle.objects.specs.Lists.{Bytes, every}
 use Rattle.objects.proofs.ListLaws.{cases, clash, or-l, or-r}
 use Rattle.text.specs.Lines.{split}
-use Rattle.text.specs.Runs.{other, runLength, runEnd, Met, stopAt}
+use Rattle.text.specs.Runs.{other, runLength, runEnd, Met, Ended, EndsAt, stopAt}
 use Rattle.text.proofs.LineLaws.{Free, split-at, split-end, split-on}
 use Rattle.text.proofs.PartLaws.{drop-short, stop-in, part-next, part-none}
 
@@ -107,15 +107,48 @@ module _ (p : ℕ → Bool) (s : Bytes) (at i : ℕ) (on : GoesOn p s at i) wher
   unfolding runEnd
   on-before end h = let e = on end h in omega arith
 
-  pub on-within : (end : ℕ) → runEnd p s at end < stopAt s end → i < length s
-  on-within end h = stop-in s i end refl (on-before end h) .1
+  pub on-within : Ended p s at → i < length s
+  on-within (end, h) = stop-in s i end refl (on-before end h) .1
 
   module _ {b : ℕ} (pb : b ≡ getD s i 0) where
     pub on-next : p b ≡ true → GoesOn p s at (i + 1)
     on-next e end h = on end h ∙ run-next p s i end refl (on-before end h) pb e
 
-    pub on-stop : p b ≡ false → (end : ℕ) → runEnd p s at end < stopAt s end → i ≡ runEnd p s at end
+    pub on-stop : p b ≡ false → EndsAt p s at i
     on-stop e end h = sym (on end h ∙ run-stop p s i end refl (on-before end h) pb e)
+
+-- The byte at the end, which is none of the run: the run up to the end is the run that this byte ends.
+module _ (p : ℕ → Bool) (s : Bytes) (end : ℕ) {stop : ℕ} (ps : stop ≡ stopAt s end) (l : stop < length s) (n : p (getD s stop 0) ≡ false) where
+  stop-next : stop + 1 ≡ stopAt s (stop + 1)
+  unfolding stopAt
+  stop-next = rw (le-leb (stop + 1) (length s) (omega arith))
+
+  fence : (k i : ℕ) → i + k ≡ stop → (runEnd p s i (stop + 1) ≡ runEnd p s i end) × (runEnd p s i end ≤ stop)
+  fence zero i e =
+      let z : i ≡ stop = omega arith in
+      let d = run-done p s i end ps (omega arith) in
+      let m = run-stop p s i (stop + 1) stop-next (omega arith) refl (rw z n) in
+      (m ∙ sym d, omega arith)
+  fence (suc k) i e =
+      let f = fence k (i + 1) (omega arith) in
+      cases (p (getD s i 0))
+      (λ t. let x = run-next p s i end ps (omega arith) refl t in
+      (run-next p s i (stop + 1) stop-next (omega arith) refl t ∙ f .0 ∙ sym x, rw x (f .1)))
+      (λ t. let x = run-stop p s i end ps (omega arith) refl t in
+      (run-stop p s i (stop + 1) stop-next (omega arith) refl t ∙ sym x, omega arith))
+
+  module _ (at : ℕ) (h : at ≤ stop) where
+    fenced : (runEnd p s at (stop + 1) ≡ runEnd p s at end) × (runEnd p s at end ≤ stop)
+    fenced = fence (stop - at) at (omega arith)
+
+    fence-before : runEnd p s at (stop + 1) < stopAt s (stop + 1)
+    fence-before = let f = fenced .0 in let g = fenced .1 in let z = stop-next in omega arith
+
+    pub fence-ended : Ended p s at
+    fence-ended = (stop + 1, fence-before)
+
+    pub fence-end : {r : ℕ} → EndsAt p s at r → r ≡ runEnd p s at end
+    fence-end e = e (stop + 1) fence-before ∙ fenced .0
 
 -- ---- a text as its run and what is left
 

@@ -39,6 +39,14 @@ pub record Met (s : Bytes) (i n sep : ℕ) (r : Bool) : Type 0 where
   pub yes : (end : ℕ) → i + n ≤ stopAt s end → r ≡ true → runEnd (other sep) s i end < i + n
   pub no : (end : ℕ) → i + n ≤ stopAt s end → r ≡ false → runEnd (other sep) s i end ≡ runEnd (other sep) s (i + n) end
 
+-- a byte ends the run before some end
+abbrev pub Ended : (ℕ → Bool) → Bytes → ℕ → Type 0
+Ended p s at = (end : ℕ) × (runEnd p s at end < stopAt s end)
+
+-- the run ends at r, whatever that end is
+abbrev pub EndsAt : (ℕ → Bool) → Bytes → ℕ → ℕ → Type 0
+EndsAt p s at r = (end : ℕ) → runEnd p s at end < stopAt s end → r ≡ runEnd p s at end
+
 -- the byte at a place before an end, and 256 where none is left
 unfoldable pub byteIn : Bytes → ℕ → ℕ → ℕ
 byteIn s at end = headOr 256 (part s at end)

@@ -139,7 +139,7 @@ impl Cursor {
         let Part::Is(from, to, c) = self.closed(s, stop, MAX_NAME) else {
             return Part::Wrong;
         };
-        if bytes::digit(scan::byte(s, from, to)) {
+        if bytes::digit(bytes::wide(s[from])) {
             Part::Wrong
         } else {
             Part::Is(from, to, c)

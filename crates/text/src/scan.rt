@@ -1,11 +1,12 @@
-// One pass over a line's bytes: where a run of them ends, and what stands there. Nothing is read at or past `end`, nor past the text.
+// One pass over a line's bytes: where a run of them ends, and what stands there. No byte at or past `end` changes what is found, and none past the text
+// is read.
 ghost use mathlib.Core.Path.{_≡_};
-ghost use Prim.Native.Nat.{ℕ, _+_, _≤_, _<_};
+ghost use Prim.Native.Nat.{_+_, _≤_};
 ghost use lib.ListN.{length};
 ghost use Rattle.text.specs.Bytes.{between, isNameByte, isBlank};
 ghost use Rattle.text.specs.Lines.{fields};
 ghost use Rattle.text.specs.Cursors.{part, lineEnd, pastRead, exactly};
-ghost use Rattle.text.specs.Runs.{other, runEnd, Met, stopAt, byteIn, pastTab};
+ghost use Rattle.text.specs.Runs.{other, runEnd, Met, Ended, EndsAt, stopAt, byteIn, pastTab};
 use crate::Cursor;
 use crate::Past;
 use crate::bytes::is;
@@ -59,8 +60,8 @@ fn met_in_eight(s: &[u8], i: usize, sep: u64) -> bool
 
 // Where the separator stands first, if it is met before some end: no end is then looked for.
 fn until_met(s: &[u8], at: usize, sep: u64) -> usize
-    requires { ⌜ ((end : ℕ) × (runEnd (other sep) (now s) at end < stopAt (now s) end)) ⌝ }
-    ensures { λ r. ⌜ ((end : ℕ) → runEnd (other sep) (now (s .entry)) at end < stopAt (now (s .entry)) end → r ≡ runEnd (other sep) (now (s .entry)) at end) ⌝ }
+    requires { ⌜ Ended (other sep) (now s) at ⌝ }
+    ensures { λ r. ⌜ EndsAt (other sep) (now (s .entry)) at r ⌝ }
 {
     let mut i = at;
     while !is(wide(s[i]), sep) {
@@ -94,11 +95,28 @@ pub fn line_end(s: &[u8], from: usize) -> usize
     until(s, from, s.len(), 10)
 }
 
-// Where the bytes of a name end.
+// Where the bytes of a name end, if another byte is met before some end: no end is then looked for.
+fn name_end_met(s: &[u8], at: usize) -> usize
+    requires { ⌜ Ended isNameByte (now s) at ⌝ }
+    ensures { λ r. ⌜ EndsAt isNameByte (now (s .entry)) at r ⌝ }
+{
+    let mut i = at;
+    while name_byte(wide(s[i])) {
+        i += 1;
+    }
+    i
+}
+
+// Where the bytes of a name end. Mostly a newline stands at the end: it is none of them, so no end is looked for before it.
 pub fn name_end(s: &[u8], at: usize, end: usize) -> usize
     ensures { λ r. ⌜ r ≡ runEnd isNameByte (now (s .entry)) at end ⌝ }
 {
     let stop = stop(s, end);
+    if at < stop {
+        if is(byte(s, stop, s.len()), 10) {
+            return name_end_met(s, at);
+        }
+    }
     let mut i = at;
     while i < stop {
         if name_byte(wide(s[i])) {

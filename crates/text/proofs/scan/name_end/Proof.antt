@@ -5,6 +5,7 @@ use Rattle.text.specs.Bytes.{isNameByte}
 use Rattle.text.specs.Runs.{runEnd}
 use Rattle.text.proofs.PartLaws.{stop-in}
 use Rattle.text.proofs.RunLaws.{run-done, run-next, run-stop}
+use Rattle.text.proofs.NameLaws.{newline-ended, newline-end}
 use borrow.Author.Needs.{needs}
 use Rattle.text.proofs.scan.name_end.Statement.{statement}
 use Rattle.text.proofs.scan.name_end.Tie as tie
@@ -18,11 +19,23 @@ abbrev μ-loop : tie.MeasureT-loop
 stop-requires : tie.Need-stop-requires Inv-loop μ-loop
 stop-requires c κs = search needs
 
+byte-requires : tie.Need-byte-requires Inv-loop μ-loop
+byte-requires c κs = search needs
+
+is-requires : tie.Need-is-requires Inv-loop μ-loop
+is-requires c κs = search needs
+
+name-end-met-requires : tie.Need-name-end-met-requires Inv-loop μ-loop
+name-end-met-requires c κs = newline-ended _ _ _ (c .before .before .before .before .stop .ensures) (c .before .before .before .if1 .taken) (c .before .before .byte .ensures) (c .before .is .ensures) (c .if2 .taken)
+
+returns : tie.Need-returns Inv-loop μ-loop
+returns c = newline-end _ _ _ (c .before .before .before .before .before .stop .ensures) (c .before .before .before .before .if1 .taken) (c .before .before .before .byte .ensures) (c .before .before .is .ensures) (c .before .if2 .taken) (c .name-end-met .ensures)
+
 loop-holds : tie.Need-loop-holds Inv-loop μ-loop
 loop-holds c = refl
 
 shared-slice-read-wide : tie.Need-shared-slice-read-wide Inv-loop μ-loop
-shared-slice-read-wide c = stop-in _ _ _ (c .before .before .before .stop .ensures) (c .before .loop-test .taken) .1
+shared-slice-read-wide c = stop-in _ _ _ (c .before .before .before .before .stop .ensures) (c .before .loop-test .taken) .1
 
 wide-requires : tie.Need-wide-requires Inv-loop μ-loop
 wide-requires c κs = search needs
@@ -37,13 +50,13 @@ loop-less : tie.Need-loop-less Inv-loop μ-loop
 loop-less c = search needs
 
 loop-again : tie.Need-loop-again Inv-loop μ-loop
-loop-again c = (c .before .before .before .before .before .loop .inv) ∙ run-next _ _ _ _ (c .before .before .before .before .before .before .stop .ensures) (c .before .before .before .before .loop-test .taken) (c .before .before .wide .ensures) (sym (c .before .name-byte .ensures) ∙ (c .if1 .taken))
-
-returns : tie.Need-returns Inv-loop μ-loop
-returns c = sym ((c .before .before .before .before .before .loop .inv) ∙ run-stop _ _ _ _ (c .before .before .before .before .before .before .stop .ensures) (c .before .before .before .before .loop-test .taken) (c .before .before .wide .ensures) (sym (c .before .name-byte .ensures) ∙ (c .if1 .left)))
+loop-again c = (c .before .before .before .before .before .loop .inv) ∙ run-next _ _ _ _ (c .before .before .before .before .before .before .before .stop .ensures) (c .before .before .before .before .loop-test .taken) (c .before .before .wide .ensures) (sym (c .before .name-byte .ensures) ∙ (c .if3 .taken))
 
 returns-2 : tie.Need-returns-2 Inv-loop μ-loop
-returns-2 c = sym ((c .before .loop .inv) ∙ run-done _ _ _ _ (c .before .before .stop .ensures) (c .loop-test .left))
+returns-2 c = sym ((c .before .before .before .before .before .loop .inv) ∙ run-stop _ _ _ _ (c .before .before .before .before .before .before .before .stop .ensures) (c .before .before .before .before .loop-test .taken) (c .before .before .wide .ensures) (sym (c .before .name-byte .ensures) ∙ (c .if3 .left)))
+
+returns-3 : tie.Need-returns-3 Inv-loop μ-loop
+returns-3 c = sym ((c .before .loop .inv) ∙ run-done _ _ _ _ (c .before .before .before .stop .ensures) (c .loop-test .left))
 
 pub name-end-spec : {M : Type 1} → statement M
 name-end-spec =
@@ -52,6 +65,10 @@ name-end-spec =
     Inv-loop
     μ-loop
     stop-requires
+    byte-requires
+    is-requires
+    name-end-met-requires
+    returns
     loop-holds
     shared-slice-read-wide
     wide-requires
@@ -59,5 +76,5 @@ name-end-spec =
     add-i
     loop-less
     loop-again
-    returns
-    returns-2)
+    returns-2
+    returns-3)

@@ -20,7 +20,7 @@ loop-holds : tie.Need-loop-holds Inv-loop μ-loop
 loop-holds c = λ end h. refl
 
 shared-slice-read-wide : tie.Need-shared-slice-read-wide Inv-loop μ-loop
-shared-slice-read-wide c = on-within _ _ _ _ (c .before .loop .inv) ((c .before .before .before .pre .0)) ((c .before .before .before .pre .1))
+shared-slice-read-wide c = on-within _ _ _ _ (c .before .loop .inv) (c .before .before .before .pre)
 
 wide-requires : tie.Need-wide-requires Inv-loop μ-loop
 wide-requires c κs = search needs
@@ -29,10 +29,10 @@ is-requires : tie.Need-is-requires Inv-loop μ-loop
 is-requires c κs = search needs
 
 add-i : tie.Need-add-i Inv-loop μ-loop
-add-i c = omega (arith, on-within _ _ _ _ (c .before .before .before .before .loop .inv) ((c .before .before .before .before .before .before .pre .0)) ((c .before .before .before .before .before .before .pre .1)))
+add-i c = omega (arith, on-within _ _ _ _ (c .before .before .before .before .loop .inv) (c .before .before .before .before .before .before .pre))
 
 loop-less : tie.Need-loop-less Inv-loop μ-loop
-loop-less c = omega (arith, on-within _ _ _ _ (c .before .before .before .before .loop .inv) ((c .before .before .before .before .before .before .pre .0)) ((c .before .before .before .before .before .before .pre .1)))
+loop-less c = omega (arith, on-within _ _ _ _ (c .before .before .before .before .loop .inv) (c .before .before .before .before .before .before .pre))
 
 loop-again : tie.Need-loop-again Inv-loop μ-loop
 loop-again c = on-next _ _ _ _ (c .before .before .before .before .loop .inv) (c .before .before .wide .ensures) (other-yes _ _ (c .before .is .ensures) (not-true _ (c .if1 .taken)))
