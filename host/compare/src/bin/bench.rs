@@ -1,9 +1,11 @@
 //! Times every engine on every hard table: taking the table text, taking it and answering one question, and all
-//! questions. A pass over the text that looks at each byte is the floor.
+//! questions. A pass over the text that looks at each byte is the floor. With a folder as its argument it times
+//! nothing and writes the tables there, for other tools to measure.
 
 use compare::engine::{self, Engine};
 use compare::tables::{cases, Case};
 use std::hint::black_box;
+use std::path::Path;
 use std::time::{Duration, Instant};
 
 /// A load is repeated so often at least, and until this much time is spent, as is each question for its share of the
@@ -22,6 +24,10 @@ const HEAD: [&str; 7] = [
 ];
 
 fn main() {
+    if let Some(folder) = std::env::args_os().nth(1) {
+        write_tables(Path::new(&folder)).expect("the tables are written");
+        return;
+    }
     if engine::goscript().is_none() {
         println!("{}", engine::NOT_AT_HAND);
     }
@@ -51,6 +57,16 @@ fn main() {
             );
         }
     }
+}
+
+/// Each table in a file of its own, named by its number, which is printed with the case.
+fn write_tables(folder: &Path) -> std::io::Result<()> {
+    for (number, case) in cases().iter().enumerate() {
+        let name = format!("{number:02}.table");
+        std::fs::write(folder.join(&name), &case.table)?;
+        println!("{name}: {}", case.name);
+    }
+    Ok(())
 }
 
 /// A load, a load and a question, a load and all questions.
