@@ -13,7 +13,7 @@ use Rattle.objects.specs.Table.{Table, typeKey, objKey, packageKey, Entity, Fie
 use Rattle.text.specs.Bytes.{ascii}
 use Rattle.rules.specs.Load.{load, loaded}
 use Rattle.rules.specs.Question.{Question, askS}
-use Rattle.rules.specs.Ways.{ambiguous}
+use Rattle.rules.specs.Ways.{isAmbiguous}
 use Rattle.rules.specs.Rows.{called}
 use Rattle.growth.specs.Grown.{Numbers, Grew, grew-tuple, grew-func, grew-iface, grew-pointer, grew-struct, grew-named, Grown, GrownTexts}
 use Rattle.growth.specs.Promise.{Shortest, oldName, newAnswer, PromiseS}
@@ -118,6 +118,6 @@ unfolding called
 disk-shortest = record { some = λ e. cons≢nil e; none = λ j h. let z : j ≡ 0 = omega arith in rw z }
 
 -- the cartridge's is a new way, just as long: `Close` is ambiguous, by the promise and not by computing the answer
-pub disk-tied : (places : List ℕ) × (newAnswer numbers writer catalogue (typeKey 5) true (some (packageKey 0)) (ascii "Close") ≡ ambiguous places)
+pub disk-tied : isAmbiguous (newAnswer numbers writer catalogue (typeKey 5) true (some (packageKey 0)) (ascii "Close")) ≡ true
 unfolding called
 disk-tied = disk-promise .tied 1 disk-shortest (λ j h. let z : j ≡ 0 = omega arith in rw z) refl

@@ -31,6 +31,4 @@ module _ (T : Table) where
 
   pub judged-is : (a : Bool) (ws : List Way) → judged T a ws ≡ over.judge (graph T) a ws
   unfolding judged
-  judged-is a [] = refl
-  judged-is a (w ∷ []) = refl
-  judged-is a (w ∷ v ∷ ws) = refl
+  judged-is a ws = refl
