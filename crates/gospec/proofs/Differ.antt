@@ -1,6 +1,6 @@
 -- The one difference of S from the Go spec's text: a named pointer type with a second pointer behind it. "x.f is shorthand for (*x).f" makes x.f legal if *x is
 -- a *T with field f; document 01 removes one pointer and finds nothing ("a second pointer behind it is not removed"). Everywhere else they agree (`text-is-go`).
-use mathlib.Core.Path.{_≡_, refl, sym, ap, subst}
+use mathlib.Core.Path.{_≡_, refl, ap, subst}
 use mathlib.Core.Bool.{Bool, true, false}
 use mathlib.Core.List.{List, [], _∷_}
 use mathlib.Core.Logic.{_⊎_, inl, inr}

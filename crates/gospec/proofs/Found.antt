@@ -9,7 +9,7 @@ use native.Mathlib.Omega.{arith}
 use Rattle.objects.specs.Lists.{Bytes, In, Sorted}
 use Rattle.objects.specs.declared.TypeKey.{TypeKey}
 use Rattle.objects.specs.declared.PackageKey.{PackageKey}
-use Rattle.objects.specs.Table.{Table, size, Member, isEmbedded, hasPtr, Kind, Struct, Iface, Named, isPointer, isStruct, isIface, isNamed, fieldsOf, declaredOf, allMethodsOf, allMethods, kindAt, bare, pointerAt}
+use Rattle.objects.specs.Table.{Table, size, Member, isEmbedded, Kind, Struct, Iface, Named, isPointer, isStruct, isIface, isNamed, fieldsOf, declaredOf, allMethodsOf, allMethods, kindAt, bare, pointerAt}
 use Rattle.objects.proofs.ListLaws.{cases, clash, either, or-assoc, or-false, In-keep, In-append, In-append-l, In-append-r, In-map, In-flat, map-In-to, flat-In-to, keep-In-to}
 use Rattle.objects.proofs.KindLaws.{pointer-is, struct-is, iface-is, named-is, bare-plain, bare-pointer}
 use Rattle.text.specs.Bytes.{isBlank}

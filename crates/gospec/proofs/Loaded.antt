@@ -1,6 +1,6 @@
 -- THE RULES ARE GO'S, for every table that loads: selection, identity, comparability, and with s 1 what a type lacks of an interface.
 use mathlib.Core.Path.{_≡_}
-use mathlib.Core.Bool.{Bool, true, false}
+use mathlib.Core.Bool.{Bool, true}
 use mathlib.Core.List.{List}
 use mathlib.Core.Logic.{_↔_}
 use mathlib.Core.Option.{Option, none}

@@ -1,11 +1,11 @@
 -- The rows of a level whose type has the name, and what the first of them gives.
 use mathlib.Core.Path.{_≡_}
-use mathlib.Core.Bool.{Bool, true, cond, not, _&&_}
+use mathlib.Core.Bool.{Bool, true, cond}
 use mathlib.Core.List.{List, [], _∷_}
 use Prim.Native.Nat.{ℕ, suc, _-_, _≤_, _<_}
 use Rattle.objects.specs.Lists.{Bytes, keep}
 use Rattle.objects.specs.declared.ObjKey.{ObjKey}
-use Rattle.objects.specs.Table.{Table, hasPtr}
+use Rattle.objects.specs.Table.{Table}
 use Rattle.objects.specs.Rows.{Words, memberAt, tableOf, typeCount}
 use Rattle.objects.specs.Types.{memberTypeRead}
 use Rattle.rules.specs.Members.{Identity}

@@ -1,6 +1,5 @@
 -- What may be said of an answer of S without looking into it.
 use mathlib.Core.Path.{_≡_, refl}
-use mathlib.Core.Bool.{false}
 use Rattle.objects.specs.Table.{isMethod}
 use Rattle.objects.proofs.ListLaws.{cases}
 use Rattle.rules.specs.Ways.{Selected, notfound, badreceiver, entry, ambiguous, isAmbiguous, noMethod}

@@ -1,8 +1,8 @@
 -- Walks and ways over a graph of types. The graph of a table (specs/OfTable.antt) makes them the rules' own; other graphs serve proofs.
-use mathlib.Core.Bool.{Bool, true, false, cond, not, _&&_, _||_}
+use mathlib.Core.Bool.{Bool, _||_}
 use mathlib.Core.List.{List, [], _∷_, _++_, map}
 use Prim.Native.Nat.{ℕ, zero, suc}
-use Rattle.objects.specs.Lists.{any, keep, flat}
+use Rattle.objects.specs.Lists.{keep, flat}
 use Rattle.objects.specs.declared.TypeKey.{TypeKey}
 use Rattle.objects.specs.declared.ObjKey.{ObjKey}
 use Rattle.rules.specs.Members.{Identity}

@@ -1,5 +1,5 @@
 -- The search level by level, as `lookup_field_or_method_impl` makes it.
-use mathlib.Core.Bool.{Bool, true, false, cond, not, _&&_, _||_}
+use mathlib.Core.Bool.{Bool, true, false, cond, not, _||_}
 use mathlib.Core.List.{List, [], _∷_, _++_, map}
 use Prim.Native.Nat.{ℕ, zero, suc}
 use mathlib.Core.Option.{none}
@@ -8,7 +8,7 @@ use Rattle.objects.specs.Lists.{any, keep, flat}
 use Rattle.objects.specs.declared.TypeKey.{TypeKey}
 use Rattle.rules.specs.Members.{Identity}
 use Rattle.rules.specs.Ways.{Place, Walk, Way, notfound, tied, single, Selected}
-use Rattle.ways.specs.Graph.{Graph, Step, along, matching, start}
+use Rattle.ways.specs.Graph.{Graph, along, matching, start}
 
 -- A type reached at a level: the first walk to it, and whether there is more than one.
 pub record EmbeddedType : Type 0 where
