@@ -1,5 +1,6 @@
 pub mod Consolidate
 pub mod Lookup
+pub mod Agrees
 pub mod Maps
 pub mod MethodSets
 pub mod Missing
