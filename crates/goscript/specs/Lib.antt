@@ -6,3 +6,4 @@ pub mod MethodSets
 pub mod Missing
 pub mod Identical
 pub mod Comparable
+pub mod Answer
