@@ -115,18 +115,15 @@ fn written(line: &str) -> String {
         .collect()
 }
 
-/// The examples of a document of the repository.
-fn examples_of(document: &str) -> Vec<Example> {
-    let path = Path::new(env!("CARGO_MANIFEST_DIR"))
-        .join("..")
-        .join(document);
-    let text = fs::read_to_string(&path).unwrap_or_else(|e| panic!("{document}: {e}"));
-    examples(&text)
+/// A file of the repository, by its path from the root.
+fn read(path: &str) -> String {
+    let root = Path::new(env!("CARGO_MANIFEST_DIR")).join("..");
+    fs::read_to_string(root.join(path)).unwrap_or_else(|e| panic!("{path}: {e}"))
 }
 
 /// Runs every example of a document, which are at least so many, and gives them.
 fn run(document: &str, least: usize) -> Vec<Example> {
-    let examples = examples_of(document);
+    let examples = examples(&read(document));
     for example in &examples {
         let printed = typeask::print(example.input.as_bytes(), yifgrun::ask);
         let printed = String::from_utf8(printed).expect("answers are text");
@@ -175,6 +172,16 @@ fn the_manual_is_right_and_shows_every_answer_and_refusal() {
     for form in FORMS {
         assert!(forms.contains(form), "the manual does not show {form}");
     }
+}
+
+#[test]
+fn the_newest_entry_of_the_changelog_is_this_version() {
+    let changelog = read("CHANGELOG.md");
+    let newest = changelog.lines().find_map(|line| line.strip_prefix("## "));
+    assert_eq!(newest, Some(env!("CARGO_PKG_VERSION")));
+    let compare = read("host/compare/Cargo.toml");
+    let version = format!("version = \"{}\"", env!("CARGO_PKG_VERSION"));
+    assert!(compare.lines().any(|line| line == version), "not {version}");
 }
 
 const INPUT: &str = "```typeask\ntypetable 1\nT basic 2  // int\nQ\nC 0\n```\n";
