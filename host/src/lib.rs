@@ -52,6 +52,11 @@ mod refusal;
 
 pub use refusal::Refusal;
 
+/// The example of the README, as a test.
+#[cfg(doctest)]
+#[doc = include_str!("../../README.md")]
+struct Readme;
+
 /// The words of the work area that a call needs; fewer are refusal 1.
 pub const WORK_WORDS: usize = 4_096;
 
