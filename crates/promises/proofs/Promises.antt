@@ -17,7 +17,7 @@ use Rattle.objects.proofs.ListLaws.{and-l}
 use Rattle.objects.proofs.KindLaws.{iface-is, under-plain}
 use Rattle.rules.specs.Members.{identityFrom}
 use Rattle.rules.specs.Question.{Question, askS, askN, askI, askC, inTable}
-use Rattle.rules.specs.Ways.{select}
+use Rattle.rules.specs.Ways.{Selected, select}
 use Rattle.rules.specs.Identity.{identical}
 use Rattle.rules.specs.Comparable.{comparable}
 use Rattle.rules.specs.Missing.{Lack, missing}
@@ -27,6 +27,9 @@ use Rattle.rules.specs.Rows as rows
 use Rattle.rules.specs.Worked.{worked}
 use Rattle.rules.proofs.Computed as computed
 use Rattle.rules.proofs.Numbers.{outcome-bound, answered-fits}
+use Rattle.rules.proofs.Sounds.{loads-sound}
+use Rattle.goscript.specs.Answer.{Unended, goscriptAnswer, Answers}
+use Rattle.goscript.proofs.AnswersAre as goscript
 use Rattle.gospec.specs.Go.{Identical, Comparable}
 use Rattle.gospec.specs.GoSelectors.{OneStar}
 use Rattle.gospec.specs.GoImplements.{Implements}
@@ -59,13 +62,18 @@ module _ (text : Bytes) (c : Lent) (T : Table) where
   pub call-answers : (q : Question) → Answered text c T q → CallSays text c (answer T q)
   call-answers q h = call-says text _ c (outcome-says text (c .line) (length (c .buffer)) T q (h .loads) (h .asks) (h .second) (h .fits)) (h .words)
 
+  -- every answer is what goscript's function for the question returns, whatever a loop of it would give that did not end: they all end
+  pub answers-are-goscripts : (q : Question) → Answered text c T q → (out : Unended) → CallSays text c (answer T q) × Answers (goscriptAnswer out T q) (answer T q)
+  answers-are-goscripts q h out = (call-answers q h, goscript.answers-are-goscripts T (loads-sound text T (h .loads)) q (in-table q h) out)
+
   -- S: "Selectors" of the Go spec
   pub selection-is-go : (t : TypeKey) (a : Bool) (pkg : Option PackageKey) (name : Bytes) → Answered text c T (askS t a pkg name)
-      → CallSays text c (selected (select T (identityFrom T pkg name) t a)) × GoSelects T t a pkg name (select T (identityFrom T pkg name) t a)
+      → (r : Selected) × CallSays text c (selected r) × GoSelects T t a pkg name r
   unfolding answer
   selection-is-go t a pkg name h =
       let in0 = in-range t (and-l (hasType T t) (hasPackage T pkg) (in-table (askS t a pkg name) h)) in
-      (call-answers (askS t a pkg name) h, record { gives = go.selection-is-go text T (h .loads) t in0 a pkg name; alone = go.go-is-selection text T (h .loads) t in0 a pkg name })
+      let says-it : GoSelects T t a pkg name (select T (identityFrom T pkg name) t a) = record { gives = go.selection-is-go text T (h .loads) t in0 a pkg name; alone = go.go-is-selection text T (h .loads) t in0 a pkg name } in
+      (select T (identityFrom T pkg name) t a, call-answers (askS t a pkg name) h, says-it)
 
   -- I: "Type identity"
   pub identity-is-go : (x y : TypeKey) → Answered text c T (askI x y) → (b : Bool) × CallSays text c (says b) × ((b ≡ true) ↔ Identical T x y)
