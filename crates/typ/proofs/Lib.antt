@@ -5,6 +5,7 @@ pub mod Marked
 pub mod JoinLaws
 pub mod Following
 pub mod Passing
+pub mod DepthLaws
 pub mod Cycle
 pub mod Top
 pub mod Early
