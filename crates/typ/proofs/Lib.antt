@@ -1,3 +1,4 @@
+pub mod Lower
 pub mod ContentLaws
 pub mod Bits
 pub mod Zero
