@@ -46,7 +46,7 @@
 //! ```
 //!
 //! The library holds nothing between calls and allocates nothing: calls on different buffers may run at the same
-//! time. A call nests at most 506 levels (`I` on types that lie within one another), less than 400 KB of stack.
+//! time. A call nests at most 506 levels (`I` on types that lie within one another), less than 450 KB of stack.
 
 mod refusal;
 
