@@ -3,7 +3,7 @@ use mathlib.Core.Path.{_≡_}
 use mathlib.Core.Bool.{Bool, true, false, cond, not, _&&_}
 use mathlib.Core.List.{List}
 use mathlib.Core.Option.{Option, none, some}
-use Prim.Native.Nat.{ℕ, _+_, _-_, _≤_, _<_}
+use Prim.Native.Nat.{_+_, _≤_, _<_}
 use lib.Dec.{eqb, leb, ltb}
 use lib.ListN.{length}
 use Rattle.objects.specs.Bounds.{maxQuestion, maxName}
@@ -13,7 +13,6 @@ use Rattle.objects.specs.Types.{numberRead}
 use Rattle.text.specs.Bytes.{isName}
 use Rattle.text.specs.Lines.{fields}
 use Rattle.text.specs.Readers.{_>>=_, field, whole}
-use Rattle.text.specs.Runs.{byteIn}
 use Rattle.rules.specs.Question.{Question, askS, askM, askN, askI, askC, askV, questionForm}
 use Rattle.question.specs.declared.Ask.{Ask}
 
@@ -26,10 +25,6 @@ asksMeant line (Ask.I x y) = some (askI x y)
 asksMeant line (Ask.C t) = some (askC t)
 asksMeant line Ask.V = some askV
 asksMeant line Ask.Wrong = none
-
--- the byte of a part that has one byte, else 256
-unfoldable pub letterAt : Bytes → ℕ → ℕ → ℕ
-letterAt s from to = cond (eqb (to - from) 1) (byteIn s from to) 256
 
 -- what stands behind the letter, as a whole line
 unfoldable pub behindLetter : Bytes → List Bytes → Option Question

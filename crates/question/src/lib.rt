@@ -13,7 +13,7 @@ ghost use Rattle.text.specs.Readers.{done, whole};
 ghost use Rattle.text.specs.Cursors.{fieldsLeft};
 ghost use Rattle.rules.specs.Question.{Question, inTable, questionOf};
 ghost use Rattle.rules.specs.Asked.{wrongSecond};
-ghost use Rattle.question.specs.Asks.{asksMeant, behindLetter, letterAt, formOf, Reads, knownRead, Known};
+ghost use Rattle.question.specs.Asks.{asksMeant, behindLetter, formOf, Reads, knownRead, Known};
 use line_forms::Small;
 use line_forms::fields::MAX_REFERENCE;
 use line_forms::fields::package;
@@ -24,8 +24,8 @@ use objects::rows::package_count;
 use objects::rows::type_count;
 use text::Cursor;
 use text::Part;
+use text::Past;
 use text::bytes::both;
-use text::scan::byte;
 
 // The question of a line. S has the type, whether it is addressable, the word of the package, and place and length of the name in the line.
 pub enum Ask {
@@ -116,19 +116,7 @@ fn ask_c(c: Cursor, line: &[u8]) -> Ask
     ended(d, Ask::C(TypeKey(t)))
 }
 
-// The byte of a part that has one byte, else 256.
-fn letter(line: &[u8], from: usize, to: usize) -> u64
-    ensures { λ r. ⌜ r ≡ letterAt (now (line .entry)) from to ⌝ }
-{
-    if from < to {
-        if to - from == 1 {
-            return byte(line, from, to);
-        }
-    }
-    256
-}
-
-// The form alone.
+// The form alone, by its letter.
 pub fn parse(line: &[u8]) -> Ask
     ensures { λ r. ⌜ Reads (now (line .entry)) r (formOf (now (line .entry))) ⌝ }
 {
@@ -136,18 +124,26 @@ pub fn parse(line: &[u8]) -> Ask
     if MAX_QUESTION < n {
         return Ask::Wrong;
     }
-    let Part::Is(from, to, c) = Cursor::line(0, n).field(line) else {
-        return Ask::Wrong;
-    };
-    match letter(line, from, to) {
-        83 => ask_s(c, line),
-        77 => ask_m(c, line),
-        78 => ask_n(c, line),
-        73 => ask_i(c, line),
-        67 => ask_c(c, line),
-        86 => ended(c, Ask::V),
-        _ => Ask::Wrong,
+    let c = Cursor::line(0, n);
+    if let Past::To(d) = c.word(line, b"S") {
+        return ask_s(d, line);
     }
+    if let Past::To(d) = c.word(line, b"M") {
+        return ask_m(d, line);
+    }
+    if let Past::To(d) = c.word(line, b"N") {
+        return ask_n(d, line);
+    }
+    if let Past::To(d) = c.word(line, b"I") {
+        return ask_i(d, line);
+    }
+    if let Past::To(d) = c.word(line, b"C") {
+        return ask_c(d, line);
+    }
+    if let Past::To(d) = c.word(line, b"V") {
+        return ended(d, Ask::V);
+    }
+    Ask::Wrong
 }
 
 // ---- the table's numbers
