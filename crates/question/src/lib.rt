@@ -3,21 +3,23 @@ ghost use mathlib.Core.Path.{_≡_};
 ghost use mathlib.Core.Bool.{_&&_, true};
 ghost use mathlib.Core.Option.{some};
 ghost use Prim.Native.Nat.{_≤_};
-ghost use lib.Dec.{ltb, leb};
+ghost use lib.Dec.{ltb};
 ghost use lib.ListN.{length};
 ghost use Rattle.objects.specs.Bounds.{maxQuestion};
 ghost use Rattle.objects.specs.Lists.{Bytes};
-ghost use Rattle.objects.specs.Rows.{typeCount, packageCount, tableOf};
+ghost use Rattle.objects.specs.Rows.{typeCount, tableOf};
 ghost use Rattle.text.specs.Bytes.{ascii};
 ghost use Rattle.text.specs.Readers.{done, whole};
 ghost use Rattle.text.specs.Cursors.{fieldsLeft};
 ghost use Rattle.rules.specs.Question.{Question, inTable, questionOf};
 ghost use Rattle.rules.specs.Asked.{wrongSecond};
-ghost use Rattle.question.specs.Asks.{asksMeant, behindLetter, formOf, Reads, knownRead, Known};
+ghost use Rattle.question.specs.Asks.{asksMeant, behindLetter, formOf, Reads, packageKnown, knownRead, Known};
+use line_forms::Packaged;
 use line_forms::Small;
 use line_forms::fields::MAX_REFERENCE;
 use line_forms::fields::package;
 use line_forms::fields::small;
+use objects::Package;
 use objects::TypeKey;
 use objects::rows::kind_number;
 use objects::rows::package_count;
@@ -27,9 +29,9 @@ use text::Part;
 use text::Past;
 use text::bytes::both;
 
-// The question of a line. S has the type, whether it is addressable, the word of the package, and place and length of the name in the line.
+// The question of a line. S has the type, whether it is addressable, the package, and place and length of the name in the line.
 pub enum Ask {
-    S(TypeKey, bool, u32, u32, u32),
+    S(TypeKey, bool, Package, u32, u32),
     M(TypeKey),
     N(TypeKey, TypeKey, bool),
     I(TypeKey, TypeKey),
@@ -61,7 +63,7 @@ fn ask_s(c: Cursor, line: &[u8]) -> Ask
     let Small::Value(a, e) = small(line, d, 1) else {
         return Ask::Wrong;
     };
-    let Small::Value(pkg, f) = package(line, e) else {
+    let Packaged::Is(pkg, f) = package(line, e) else {
         return Ask::Wrong;
     };
     let Part::Is(from, to, g) = f.name(line) else {
@@ -154,10 +156,13 @@ fn has_type(rows: &[u32], t: TypeKey) -> bool
     t.0 < type_count(rows)
 }
 
-fn has_package(rows: &[u32], pkg: u32) -> bool
-    ensures { λ r. ⌜ r ≡ leb pkg (packageCount (now (rows .entry))) ⌝ }
+fn has_package(rows: &[u32], p: Package) -> bool
+    ensures { λ r. ⌜ r ≡ packageKnown (now (rows .entry)) p ⌝ }
 {
-    pkg <= package_count(rows)
+    match p {
+        Package::Absent => true,
+        Package::Is(k) => k.0 < package_count(rows),
+    }
 }
 
 fn known_words(rows: &[u32], a: Ask) -> bool
