@@ -46,11 +46,16 @@
 //! ```
 //!
 //! The library holds nothing between calls and allocates nothing: calls on different buffers may run at the same
-//! time. A call nests at most 506 levels (`I` on types that lie within one another), less than 400 KB of stack.
+//! time. A call nests at most 506 levels (`I` on types that lie within one another), less than 450 KB of stack.
 
 mod refusal;
 
 pub use refusal::Refusal;
+
+/// The example of the README, as a test.
+#[cfg(doctest)]
+#[doc = include_str!("../../README.md")]
+struct Readme;
 
 /// The words of the work area that a call needs; fewer are refusal 1.
 pub const WORK_WORDS: usize = 4_096;

@@ -6,10 +6,10 @@ use mathlib.Core.Option.{Option, some}
 use Prim.Native.Nat.{ℕ, suc, _-_, _≤_, _<_}
 use native.Mathlib.Omega.{arith}
 use lib.ListN.{length, take, drop, drop-of-length-le}
-use borrow.Author.Tests.{le-leb}
 use Rattle.objects.specs.Lists.{Bytes, flat}
 use Rattle.objects.specs.declared.TypeKey.{TypeKey}
-use Rattle.objects.specs.Rows.{Words, typeCount, packageCount, memberCountOf, pkgOf, bytesAt, tableOf}
+use Rattle.objects.specs.declared.«Package».{«Package»}
+use Rattle.objects.specs.Rows.{Words, typeCount, packageCount, memberCountOf, packageMeant, bytesAt, tableOf}
 use Rattle.objects.specs.Table.{size, memberCount, objKey, hasPackage}
 use Rattle.objects.proofs.ListLaws.{flat-map}
 use Rattle.objects.proofs.RowLaws.{size-read, member-count-read, package-count-read}
@@ -86,9 +86,9 @@ module _ (text : Bytes) (rows : Words) (before : Bytes) {after : Bytes} {r : Don
   pub s-due : (names : Bytes) (q : Name) (t : TypeKey) (a : Bool) {s : Selection} (numbers : Words)
       → Selects text rows s (drop 2 numbers) (select (tableOf text rows) (nameMeant text rows names q) t a)
       → Does (fitted (length before) (answerBytes (selected (resultMeant text rows (s .result) (take (s .count) (drop 2 numbers)))))) r before after
-      → Does (due (tableOf text rows) (length before) (askS t a (pkgOf (q .pkg)) (bytesAt names (q .at) (q .len)))) r before after
+      → Does (due (tableOf text rows) (length before) (askS t a (packageMeant (q .pkg)) (bytesAt names (q .at) (q .len)))) r before after
   unfolding answer nameMeant askedId
-  s-due names q t a numbers h d = due-said (askS t a (pkgOf (q .pkg)) (bytesAt names (q .at) (q .len))) (ap (λ x. answerBytes (selected x)) (sym (h .says))) d
+  s-due names q t a numbers h d = due-said (askS t a (packageMeant (q .pkg)) (bytesAt names (q .at) (q .len))) (ap (λ x. answerBytes (selected x)) (sym (h .says))) d
 
   pub n-due : (t i : TypeKey) (s : Bool) (m : Missing) → missingMeant text rows m ≡ missing (tableOf text rows) t i s
       → Does (fitted (length before) (answerBytes (lackAnswer (missingMeant text rows m)))) r before after → Does (due (tableOf text rows) (length before) (askN t i s)) r before after
@@ -134,7 +134,7 @@ module _ (text : Bytes) (rows : Words) (line before : Bytes) {a : Ask} (h : Read
   due-answered {q} m w d = does-as (sym (ap (answered (tableOf text rows) (length before)) (sym (h .meant) ∙ m) ∙ (rw w))) d
 
   module _ {after : Bytes} {r : Done} where
-    pub s-answered : {t : TypeKey} {b : Bool} {pkg at len : ℕ} → a ≡ Ask.S t b pkg at len → Does (due (tableOf text rows) (length before) (askS t b (pkgOf pkg) (bytesAt line at len))) r before after
+    pub s-answered : {t : TypeKey} {b : Bool} {pkg : «Package»} {at len : ℕ} → a ≡ Ask.S t b pkg at len → Does (due (tableOf text rows) (length before) (askS t b (packageMeant pkg) (bytesAt line at len))) r before after
         → Does (answered (tableOf text rows) (length before) (questionOf (tableOf text rows) line)) r before after
     unfolding asksMeant
     s-answered e d = due-answered (ap (asksMeant line) e) refl d
@@ -181,9 +181,10 @@ module _ (text : Bytes) (rows : Words) (line before : Bytes) {a : Ask} (h : Read
 -- ---- the numbers are the table's
 
 module _ (rows : Words) {a : Ask} (k : Known rows a) where
-  pub s-known : {t : TypeKey} {b : Bool} {pkg at len : ℕ} → a ≡ Ask.S t b pkg at len → (t .0 < typeCount rows) × (pkg ≤ packageCount rows)
+  pub s-known : (text : Bytes) {t : TypeKey} {b : Bool} {pkg : «Package»} {at len : ℕ} → a ≡ Ask.S t b pkg at len
+      → (t .0 < typeCount rows) × (hasPackage (tableOf text rows) (packageMeant pkg) ≡ true)
   unfolding Known
-  s-known e = subst (Known rows) e k
+  s-known text {pkg = pkg} e = let s = subst (Known rows) e k in (s .0, package-has text rows pkg ∙ s .1)
 
   pub m-known : {t : TypeKey} → a ≡ Ask.M t → t .0 < typeCount rows
   unfolding Known
@@ -203,7 +204,3 @@ module _ (rows : Words) {a : Ask} (k : Known rows a) where
   pub c-known : {t : TypeKey} → a ≡ Ask.C t → t .0 < typeCount rows
   unfolding Known
   c-known e = subst (Known rows) e k
-
--- the package of a name, by its word
-pub package-known : (text : Bytes) (rows : Words) (pkg : ℕ) → pkg ≤ packageCount rows → hasPackage (tableOf text rows) (pkgOf pkg) ≡ true
-package-known text rows pkg h = package-has text rows pkg ∙ le-leb pkg (packageCount rows) h

@@ -1,9 +1,11 @@
 // The questions, one function for each letter. Each has the local arrays that it alone needs.
 ghost use mathlib.Core.Path.{_≡_};
+ghost use mathlib.Core.Bool.{true};
 ghost use Prim.Native.Nat.{_+_, _≤_, _<_};
 ghost use lib.ListN.{length, drop, replicate};
 ghost use Rattle.objects.specs.Bounds.{markWords, maxPlaces, searchWords};
-ghost use Rattle.objects.specs.Rows.{typeCount, packageCount, pkgOf, bytesAt, tableOf};
+ghost use Rattle.objects.specs.Table.{hasPackage};
+ghost use Rattle.objects.specs.Rows.{typeCount, packageMeant, bytesAt, tableOf};
 ghost use Rattle.rules.specs.Library.{Library};
 ghost use Rattle.rules.specs.Question.{askS, askM, askN, askI, askC, askV};
 ghost use Rattle.rules.specs.Ways.{select};
@@ -36,7 +38,7 @@ fn select_behind(
     a: bool,
 ) -> Selection
     requires { ⌜ Library (now text) (now rows) ⌝ }
-    requires { ⌜ (t .0 < typeCount (now rows)) × (q .pkg ≤ packageCount (now rows)) × (markWords ≤ length (now marks)) × (searchWords ≤ length (now search)) × (maxPlaces + 2 ≤ length (now numbers)) ⌝ }
+    requires { ⌜ (t .0 < typeCount (now rows)) × (hasPackage (tableOf (now text) (now rows)) (packageMeant (q .pkg)) ≡ true) × (markWords ≤ length (now marks)) × (searchWords ≤ length (now search)) × (maxPlaces + 2 ≤ length (now numbers)) ⌝ }
     requires { ⌜ now marks ≡ replicate (length (now marks)) 0 ⌝ }
     ensures { λ r. ⌜ Selects (now (text .entry)) (now (rows .entry)) r (drop 2 (now (numbers .exit))) (select (tableOf (now (text .entry)) (now (rows .entry))) (nameMeant (now (text .entry)) (now (rows .entry)) (now (names .entry)) q) t a) ⌝ }
     ensures { λ _. ⌜ now (marks .exit) ≡ now (marks .entry) ⌝ }
@@ -55,9 +57,9 @@ pub fn ask_s(
     a: bool,
 ) -> Done
     requires { ⌜ Library (now text) (now rows) ⌝ }
-    requires { ⌜ (t .0 < typeCount (now rows)) × (q .pkg ≤ packageCount (now rows)) × (markWords ≤ length (now marks)) ⌝ }
+    requires { ⌜ (t .0 < typeCount (now rows)) × (hasPackage (tableOf (now text) (now rows)) (packageMeant (q .pkg)) ≡ true) × (markWords ≤ length (now marks)) ⌝ }
     requires { ⌜ now marks ≡ replicate (length (now marks)) 0 ⌝ }
-    ensures { λ r. ⌜ Does (due (tableOf (now (text .entry)) (now (rows .entry))) (length (now (answer .entry))) (askS t a (pkgOf (q .pkg)) (bytesAt (now (line .entry)) (q .at) (q .len)))) r (now (answer .entry)) (now (answer .exit)) ⌝ }
+    ensures { λ r. ⌜ Does (due (tableOf (now (text .entry)) (now (rows .entry))) (length (now (answer .entry))) (askS t a (packageMeant (q .pkg)) (bytesAt (now (line .entry)) (q .at) (q .len)))) r (now (answer .entry)) (now (answer .exit)) ⌝ }
     ensures { λ _. ⌜ now (marks .exit) ≡ now (marks .entry) ⌝ }
 {
     let mut search = [0u32; 1_792];

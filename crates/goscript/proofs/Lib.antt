@@ -19,3 +19,4 @@ pub mod Arms
 pub mod Unmet
 pub mod IdenticalIs
 pub mod ComparableIs
+pub mod AnswersAre

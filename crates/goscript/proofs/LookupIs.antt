@@ -1,6 +1,6 @@
--- `lookup_field_or_method` gives the rules' S: on every sound table, for every type of it, name and a.
-use mathlib.Core.Path.{_≡_, refl, sym, ap, _∙_}
-use mathlib.Core.Bool.{Bool, true, false}
+-- `lookup_field_or_method` agrees with the rules' S: on every sound table, for every type of it, name and a.
+use mathlib.Core.Path.{_≡_, refl, sym, ap, _∙_, subst}
+use mathlib.Core.Bool.{Bool, true, false, _&&_}
 use mathlib.Core.List.{List, [], _∷_}
 use mathlib.Core.Logic.{_⊎_, inl, inr}
 use Prim.Native.Nat.{ℕ, zero, suc, _≤_, _<_}
@@ -9,26 +9,25 @@ use Rattle.objects.specs.Lists.{In}
 use Rattle.objects.proofs.ListLaws.{cases, clash, In-flat, In-map, and-r}
 use Rattle.text.specs.Bytes.{isBlank}
 use Rattle.objects.specs.declared.TypeKey.{TypeKey}
-use Rattle.objects.specs.Table.{Table, size, kindNumber, hasPtr, isNamed, isPointer, kindAt, under, bare, pointerAt, namedPointer}
+use Rattle.objects.specs.Table.{Table, size, isMethod, hasPtr, isNamed, isPointer, kindAt, under, bare, pointerAt, ifaceUnder, namedPointer}
 use Rattle.rules.specs.Members.{Identity}
 use Rattle.rules.specs.Sound.{Sound}
 use Rattle.rules.proofs.RangeLaws.{under-in}
 use Rattle.ways.proofs.TableLaws.{closed, lawful, keyed, bare-in}
-use Rattle.rules.specs.Identity.{identical}
-use Rattle.rules.specs.Ways.{Selected, notfound, Walk, Way, memberOf, single, noMethod, start, judged, shortest, searched, select}
+use Rattle.rules.specs.Ways.{Selected, notfound, badreceiver, entry, ambiguous, isAmbiguous, Walk, Way, memberOf, single, noMethod, start, judged, shortest, searched, select}
 use Rattle.ways.specs.Graph as over
-use Rattle.ways.specs.Levels.{raw}
+use Rattle.ways.specs.Levels.{raw, search-levels}
 use Rattle.ways.specs.OfTable.{graph}
 use Rattle.ways.proofs.Merge.{Lawful}
 use Rattle.ways.proofs.Same.{Keyed, search-is, named-skips}
-use Rattle.ways.proofs.Bound.{Closed}
 use Rattle.ways.proofs.Least.{Least, least-or-none, shortest-least, shortest-nothing, shortest-more}
 use Rattle.ways.proofs.Bridge.{judged-is}
 use Rattle.ways.proofs.LevelTest.{shortest-are}
-use Rattle.goscript.specs.Lookup.{enoughTurns, turns, lookupImpl, lookupFieldOrMethod}
+use Rattle.goscript.specs.Lookup.{LookupResult, Ambiguous, NotFound, enoughTurns, turns, discardMethod, lookupImpl, lookupFieldOrMethod}
+use Rattle.goscript.specs.Agrees.{Agrees, entries, one-shown, bad-receivers, not-founds}
 use Rattle.goscript.proofs.Scans.{skipped}
-use Rattle.goscript.proofs.LookupSame.{turns-are}
-use Rattle.goscript.proofs.LoopsEnd.{kinds, lookup-ends}
+use Rattle.goscript.proofs.LookupSame.{turns-agree}
+use Rattle.goscript.proofs.LoopsEnd.{lookup-ends}
 
 -- ---- from a pointer on, the flag is set, and a does not matter
 
@@ -50,33 +49,63 @@ judge-flag T a b [] h = refl
 judge-flag T a b (w ∷ []) h = single-flag a b w (h w (inl refl))
 judge-flag T a b (w ∷ v ∷ ws) h = refl
 
-module _ (T : Table) (law : Lawful (graph T)) (closed : Closed (graph T)) (kinds : (x y : TypeKey) → identical T x y ≡ true → kindNumber (kindAt T x) ≡ kindNumber (kindAt T y))
-    (q : Identity) (real : isBlank (q .name) ≡ false) (kd : Keyed (graph T) q) where
+-- ---- a named pointer type's methods are discarded alike
+
+discard-agrees : {r : LookupResult} {s : Selected} → Agrees r s → Agrees (discardMethod r) (noMethod s)
+discard-agrees (entries {m = m}) = cases (isMethod (m .entity)) (λ e. rw e not-founds) (λ e. rw e entries)
+discard-agrees (one-shown {s = s} e i) = subst (Agrees (Ambiguous _)) (sym (kept s e)) (one-shown e i)
+  where
+    kept : (s : Selected) → isAmbiguous s ≡ true → noMethod s ≡ s
+    kept notfound e = clash e refl
+    kept badreceiver e = clash e refl
+    kept (entry m flag places) e = clash e refl
+    kept (ambiguous places) e = refl
+discard-agrees bad-receivers = bad-receivers
+discard-agrees not-founds = not-founds
+
+-- ---- the search
+
+module _ (T : Table) (sound : Sound T) (q : Identity) (real : isBlank (q .name) ≡ false) where
+  law : Lawful (graph T)
+  law = lawful T sound
+
+  kd : Keyed (graph T) q
+  kd = keyed T sound q real
+
   judged-shortest : (a : Bool) (t : TypeKey) → judged T a (shortest T q t) ≡ over.judge (graph T) a (over.shortest (graph T) q (start T t) 0 (size T))
   judged-shortest a t = judged-is T a (shortest T q t) ∙ ap (over.judge (graph T) a) (shortest-are T t q)
 
-  module _ (t : TypeKey) (in0 : bare T t .0 < size T) where
-    search-all : (a : Bool) (k : ℕ) → size T ≤ k → turns T q notfound a k [] (raw (start T t) ∷ []) ≡ judged T a (shortest T q t)
-    search-all a k le =
-        turns-are T law kinds q real kd a k [] (raw (start T t) ∷ []) [] (raw (start T t) ∷ []) (record { apart = (refl, tt); alive = refl; knows = λ u. refl })
-        ∙ search-is (graph T) law (skipped T) (named-skips (graph T) law (λ u. isNamed (kindAt T u))) (start T t) q kd a k 0 [] (raw (start T t) ∷ []) (record { level = refl; before = λ u h. h; within = λ u h. h }) (λ u h. clash h refl)
-        ∙ ap (over.judge (graph T) a) (shortest-more (graph T) law closed (start T t) in0 q kd k le)
+  module _ (t : TypeKey) (in0 : t .0 < size T) where
+    in1 : bare T t .0 < size T
+    in1 = bare-in T sound t in0
+
+    levels-are : (a : Bool) (k : ℕ) → size T ≤ k → search-levels (graph T) (skipped T) q a k [] (raw (start T t) ∷ []) ≡ judged T a (shortest T q t)
+    levels-are a k le =
+        search-is (graph T) law (skipped T) (named-skips (graph T) law (λ u. isNamed (kindAt T u))) (start T t) q kd a k 0 [] (raw (start T t) ∷ []) (record { level = refl; before = λ u h. h; within = λ u h. h }) (λ u h. clash h refl)
+        ∙ ap (over.judge (graph T) a) (shortest-more (graph T) law (closed T sound) (start T t) in1 q kd k le)
         ∙ sym (judged-shortest a t)
 
-    impl-is : (a : Bool) (k : ℕ) → size T ≤ k → lookupImpl T q notfound k t a ≡ searched T q t a
+    search-agrees : (a : Bool) (k : ℕ) → size T ≤ k → Agrees (turns T q NotFound a k [] (raw (start T t) ∷ [])) (judged T a (shortest T q t))
+    search-agrees a k le =
+        let agree = turns-agree T sound q real a k [] (raw (start T t) ∷ []) [] (raw (start T t) ∷ []) (record { apart = (refl, tt); alive = refl; knows = λ u. refl }) in
+        subst (Agrees (turns T q NotFound a k [] (raw (start T t) ∷ []))) (levels-are a k le) agree
+
+    impl-agrees : (a : Bool) (out : LookupResult) (k : ℕ) → enoughTurns T ≤ k → Agrees (lookupImpl T q out k t a) (searched T q t a)
     unfolding searched
-    impl-is a k le = rw (real, search-all a k le)
+    impl-agrees a out k le =
+        rw (real, lookup-ends T sound t in0 q real a out k le)
+        (cases (pointerAt T t && ifaceUnder T (bare T t)) (λ e. rw e not-founds) (λ e. rw e (search-agrees a k (omega arith))))
 
     pointer-flag : pointerAt T t ≡ true → (a b : Bool) → judged T a (shortest T q t) ≡ judged T b (shortest T q t)
-    pointer-flag p a b = judged-shortest a t ∙ go (least-or-none (graph T) law closed (start T t) in0 q kd) ∙ sym (judged-shortest b t)
+    pointer-flag p a b = judged-shortest a t ∙ go (least-or-none (graph T) law (closed T sound) (start T t) in1 q kd) ∙ sym (judged-shortest b t)
       where
         go : ((d : ℕ) × Least (graph T) q (start T t) d) ⊎ ((j : ℕ) → over.ways (graph T) q (start T t) j ≡ [])
             → over.judge (graph T) a (over.shortest (graph T) q (start T t) 0 (size T)) ≡ over.judge (graph T) b (over.shortest (graph T) q (start T t) 0 (size T))
-        go (inl l) = rw (shortest-least (graph T) law closed (start T t) in0 q kd (l .0) (l .1)) (judge-flag T a b (over.ways (graph T) q (start T t) (l .0)) (λ w i.
+        go (inl l) = rw (shortest-least (graph T) law (closed T sound) (start T t) in1 q kd (l .0) (l .1)) (judge-flag T a b (over.ways (graph T) q (start T t) (l .0)) (λ w i.
             let v = In-flat (over.ends (graph T) q) (over.walks (graph T) (start T t) (l .0)) w i in
             let m = In-map (λ x. record { walk = v .0; last = x }) (over.matching (graph T) q (v .0 .at)) w (v .2) in
             ap (λ (x : Way). x .walk .flag) (m .2) ∙ flag-kept T (start T t) p (l .0) (v .0) (v .1)))
-        go (inr h) = rw (shortest-nothing (graph T) law closed (start T t) in0 q kd h)
+        go (inr h) = rw (shortest-nothing (graph T) law (closed T sound) (start T t) in1 q kd h)
 
     searched-pointer : pointerAt T t ≡ true → (a b : Bool) → searched T q t a ≡ searched T q t b
     unfolding searched
@@ -84,25 +113,20 @@ module _ (T : Table) (law : Lawful (graph T)) (closed : Closed (graph T)) (kinds
 
 -- ---- every sound table
 
-module _ (T : Table) (sound : Sound T) (q : Identity) (t : TypeKey) (in0 : t .0 < size T) (a : Bool) (out : Selected) (k : ℕ) (le : enoughTurns T ≤ k) where
-  impl-ends : isBlank (q .name) ≡ false → (u : TypeKey) → u .0 < size T → (b : Bool) → lookupImpl T q out k u b ≡ lookupImpl T q notfound k u b
-  impl-ends real u h b = rw (lookup-ends T sound u h q real b out k le)
-
-  impl-at : isBlank (q .name) ≡ false → (u : TypeKey) → u .0 < size T → (b : Bool) → lookupImpl T q out k u b ≡ searched T q u b
-  impl-at real u h b = impl-ends real u h b ∙ impl-is T (lawful T sound) (closed T sound) (kinds T sound) q real (keyed T sound q real) u (bare-in T sound u h) b k (omega arith)
-
-  through-pointer : isBlank (q .name) ≡ false → namedPointer T t ≡ true → lookupImpl T q out k (under T t) false ≡ searched T q (under T t) a
+module _ (T : Table) (sound : Sound T) (q : Identity) (t : TypeKey) (in0 : t .0 < size T) (a : Bool) (out : LookupResult) (k : ℕ) (le : enoughTurns T ≤ k) where
+  through-pointer : isBlank (q .name) ≡ false → namedPointer T t ≡ true → Agrees (lookupImpl T q out k (under T t) false) (searched T q (under T t) a)
   unfolding namedPointer pointerAt
   through-pointer real n =
-      impl-at real (under T t) (under-in T sound t in0) false
-      ∙ searched-pointer T (lawful T sound) (closed T sound) (kinds T sound) q real (keyed T sound q real) (under T t) (bare-in T sound (under T t) (under-in T sound t in0)) (and-r (isNamed (kindAt T t)) (isPointer (kindAt T (under T t))) n) false a
+      let in1 = under-in T sound t in0 in
+      let p = and-r (isNamed (kindAt T t)) (isPointer (kindAt T (under T t))) n in
+      subst (Agrees (lookupImpl T q out k (under T t) false)) (searched-pointer T sound q real (under T t) in1 p false a) (impl-agrees T sound q real (under T t) in1 false out k le)
 
-  -- GOSCRIPT'S LOOKUP GIVES WHAT S SAYS, and its loop ends.
-  pub lookup-is-goscript : lookupFieldOrMethod T q out k t a ≡ select T q t a
+  -- GOSCRIPT'S LOOKUP AGREES WITH S, and its loop ends.
+  pub lookup-is-goscript : Agrees (lookupFieldOrMethod T q out k t a) (select T q t a)
   unfolding select
   lookup-is-goscript =
       cases (isBlank (q .name))
-      (λ e. cases (namedPointer T t) (λ n. rw (e, n)) (λ n. rw (e, n)))
+      (λ e. cases (namedPointer T t) (λ n. rw (e, n) not-founds) (λ n. rw (e, n) not-founds))
       (λ e. cases (namedPointer T t)
-      (λ n. rw n (ap noMethod (through-pointer e n) ∙ rw e))
-      (λ n. rw n (impl-at e t in0 a ∙ rw e)))
+      (λ n. rw (n, e) (rw e at (discard-agrees (through-pointer e n))))
+      (λ n. rw (n, e) (rw e at (impl-agrees T sound q e t in0 a out k le))))

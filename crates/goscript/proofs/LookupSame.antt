@@ -1,4 +1,4 @@
--- goscript's lookup gives what the rules' S says, with as many turns of its while as there are types, or any more.
+-- The turns of the lookup's while agree with the search level by level (`search-levels`), however many they are.
 use mathlib.Core.Path.{_≡_, refl, sym, ap, ap₂, _∙_}
 use mathlib.Core.Bool.{Bool, true, false, not, _||_}
 use mathlib.Core.List.{List, [], _∷_, _++_, map}
@@ -9,21 +9,23 @@ use Rattle.objects.proofs.ListLaws.{cases, clash, or-l, or-r, any-append, any-m
 use Rattle.objects.proofs.KeyLaws.{same-key}
 use Rattle.text.specs.Bytes.{isBlank}
 use Rattle.objects.specs.declared.TypeKey.{TypeKey}
-use Rattle.objects.specs.Table.{Table, sameType, kindNumber, isStruct, isIface, isNamed, kindAt, under, allMethods}
+use Rattle.objects.specs.Table.{Table, sameType, isStruct, isIface, isNamed, kindAt, under, allMethods}
 use Rattle.rules.specs.Members.{Identity}
-use Rattle.rules.specs.Identity.{identical}
-use Rattle.rules.specs.Ways.{Selected, notfound, owned}
+use Rattle.rules.specs.Sound.{Sound}
+use Rattle.rules.proofs.IdentityLaws.{identical-parts}
+use Rattle.rules.specs.Ways.{owned}
 use Rattle.ways.specs.Graph as over
 use Rattle.ways.specs.Levels.{EmbeddedType, at, merge, next, hit, unseen, search-levels}
 use Rattle.ways.specs.OfTable.{graph}
-use Rattle.ways.proofs.Merge.{Lawful, Class, merge-keep}
-use Rattle.ways.proofs.Same.{Keyed}
+use Rattle.ways.proofs.Merge.{Class, merge-keep}
+use Rattle.ways.proofs.TableLaws.{lawful, keyed}
 use Rattle.ways.proofs.Extra.{Apart, merge-apart}
 use Rattle.goscript.specs.Consolidate.{consolidateMultiples}
-use Rattle.goscript.specs.Lookup.{searchable, scanned, ended, turns}
+use Rattle.goscript.specs.Lookup.{LookupResult, NotFound, searchable, scanned, ended, turns}
+use Rattle.goscript.specs.Agrees.{Agrees, not-founds}
 use Rattle.goscript.proofs.Consolidating.{consolidate-is}
 use Rattle.goscript.proofs.Scans.{skipped, sawNamed}
-use Rattle.goscript.proofs.ScanLevels.{live, kept, sawAll, liveNext, firstly, scan-none}
+use Rattle.goscript.proofs.ScanLevels.{live, kept, sawAll, liveNext, firstly, told-agrees, scan-none}
 
 -- ---- lists
 
@@ -81,9 +83,9 @@ module _ (T : Table) (u : TypeKey) (named : isNamed (kindAt T u) ≡ true) where
 
 -- ---- the turns
 
-module _ (T : Table) (law : Lawful (graph T)) (kinds : (x y : TypeKey) → identical T x y ≡ true → kindNumber (kindAt T x) ≡ kindNumber (kindAt T y)) where
+module _ (T : Table) (sound : Sound T) where
   live-class : Class (graph T) (λ u. searchable (kindAt T u))
-  live-class x y h = ap (λ n. eqb n 10 || eqb n 8 || eqb n 9) (kinds x y h)
+  live-class x y h = ap (λ n. eqb n 10 || eqb n 8 || eqb n 9) (identical-parts T sound x y .0 h .kinds)
 
   -- What ties the lookup's level L, and what it saw, to the level M of the search by walks.
   pub record Tied (seen : List TypeKey) (L : List EmbeddedType) (seen′ : List TypeKey) (M : List EmbeddedType) : Type 0 where
@@ -117,7 +119,7 @@ module _ (T : Table) (law : Lawful (graph T)) (kinds : (x y : TypeKey) → ident
     alive-on : keep (live T) (merge (graph T) (flat (liveNext T) (kept T seen L))) ≡ keep (live T) (merge (graph T) (flat (next (graph T)) (kept T seen′ M)))
     alive-on =
         ap (λ l. keep (live T) (merge (graph T) l)) (keep-each (live T) (next (graph T)) (kept T seen L) ∙ ap (keep (live T)) same-next)
-        ∙ ap (keep (live T)) (merge-keep (graph T) law (λ u. searchable (kindAt T u)) live-class (flat (next (graph T)) (kept T seen′ M)))
+        ∙ ap (keep (live T)) (merge-keep (graph T) (lawful T sound) (λ u. searchable (kindAt T u)) live-class (flat (next (graph T)) (kept T seen′ M)))
         ∙ keep-weaker (live T) (live T) (λ r h. h) (merge (graph T) (flat (next (graph T)) (kept T seen′ M)))
 
     knows-on : (u : TypeKey) → skipped T (sawAll T seen (kept T seen L)) u ≡ skipped T (map at (kept T seen′ M) ++ seen′) u
@@ -138,7 +140,7 @@ module _ (T : Table) (law : Lawful (graph T)) (kinds : (x y : TypeKey) → ident
             ∙ any-keep (λ r. sameType (at r) u) (live T) (is-live e) (kept T seen′ M)
 
     tied-on : Tied (sawAll T seen (kept T seen L)) (consolidateMultiples T (flat (liveNext T) (kept T seen L))) (map at (kept T seen′ M) ++ seen′) (merge (graph T) (flat (next (graph T)) (kept T seen′ M)))
-    tied-on = rw (consolidate-is T law (flat (liveNext T) (kept T seen L))) (record { apart = merge-apart (graph T) law (flat (liveNext T) (kept T seen L)); alive = alive-on; knows = knows-on })
+    tied-on = rw (consolidate-is T sound (flat (liveNext T) (kept T seen L))) (record { apart = merge-apart (graph T) (lawful T sound) (flat (liveNext T) (kept T seen L)); alive = alive-on; knows = knows-on })
 
   -- the same, where the other level's seen types are the named ones too
   pub tied-saw : (seen : List TypeKey) (L : List EmbeddedType) (seen′ : List TypeKey) (M : List EmbeddedType) → Tied seen L seen′ M → Apart (graph T) M
@@ -147,34 +149,35 @@ module _ (T : Table) (law : Lawful (graph T)) (kinds : (x y : TypeKey) → ident
       let n = tied-on seen L seen′ M tied in
       record { apart = n .apart; alive = n .alive; knows = λ u. n .knows u ∙ sym (knows-on seen′ M seen′ M (record { apart = apart; alive = refl; knows = λ v. refl }) u) }
 
-  module _ (q : Identity) (real : isBlank (q .name) ≡ false) (kd : Keyed (graph T) q) (a : Bool) where
-    module _ (out : Selected) where
-      turns-empty : (k : ℕ) (seen : List TypeKey) → turns T q out a k seen [] ≡ notfound
+  module _ (q : Identity) (real : isBlank (q .name) ≡ false) (a : Bool) where
+    module _ (out : LookupResult) where
+      turns-empty : (k : ℕ) (seen : List TypeKey) → turns T q out a k seen [] ≡ NotFound
       turns-empty zero seen = refl
       turns-empty (suc k) seen = refl
 
       -- an empty level has no turn, and a turn on it would change nothing
       turns-on : (k : ℕ) (seen : List TypeKey) (L : List EmbeddedType)
-          → turns T q out a (suc k) seen L ≡ ended T q a (λ st. turns T q out a k (st .seen) (consolidateMultiples T (st .next))) (scanned T q seen L)
+          → turns T q out a (suc k) seen L ≡ ended a (λ st. turns T q out a k (st .seen) (consolidateMultiples T (st .next))) (scanned T q seen L)
       turns-on k seen [] = sym (turns-empty k seen)
       turns-on k seen (r ∷ L) = refl
 
       pub turns-step : (k : ℕ) (seen : List TypeKey) (L : List EmbeddedType) → Apart (graph T) L
           → turns T q out a (suc k) seen L
           ≡ firstly T q a (keep (hit (graph T) q) (kept T seen L)) (turns T q out a k (sawAll T seen (kept T seen L)) (consolidateMultiples T (flat (liveNext T) (kept T seen L))))
-      turns-step k seen L apart = turns-on k seen L ∙ scan-none T law q real kd a (λ st. turns T q out a k (st .seen) (consolidateMultiples T (st .next))) L seen [] apart
+      turns-step k seen L apart =
+          turns-on k seen L ∙ scan-none T (lawful T sound) q real (keyed T sound q real) a (λ st. turns T q out a k (st .seen) (consolidateMultiples T (st .next))) L seen [] apart
 
-    pub turns-are : (k : ℕ) (seen : List TypeKey) (L : List EmbeddedType) (seen′ : List TypeKey) (M : List EmbeddedType) → Tied seen L seen′ M
-        → turns T q notfound a k seen L ≡ search-levels (graph T) (skipped T) q a k seen′ M
-    turns-are zero seen [] seen′ M tied = refl
-    turns-are zero seen (r ∷ L) seen′ M tied = refl
-    turns-are (suc k) seen L seen′ M tied =
-        turns-step notfound k seen L (tied .apart)
-        ∙ ap₂ (firstly T q a) (same-hits seen L seen′ M tied q) (turns-are k _ _ _ _ (tied-on seen L seen′ M tied))
-        ∙ go (keep (hit (graph T) q) (kept T seen′ M)) refl
+    -- THE TURNS AGREE WITH THE SEARCH BY WALKS
+    pub turns-agree : (k : ℕ) (seen : List TypeKey) (L : List EmbeddedType) (seen′ : List TypeKey) (M : List EmbeddedType) → Tied seen L seen′ M
+        → Agrees (turns T q NotFound a k seen L) (search-levels (graph T) (skipped T) q a k seen′ M)
+    turns-agree zero seen [] seen′ M tied = not-founds
+    turns-agree zero seen (r ∷ L) seen′ M tied = not-founds
+    turns-agree (suc k) seen L seen′ M tied =
+        rw (turns-step NotFound k seen L (tied .apart), same-hits seen L seen′ M tied q)
+        (go (keep (hit (graph T) q) (kept T seen′ M)) refl _ (turns-agree k _ _ _ _ (tied-on seen L seen′ M tied)))
       where
         go : (hs : List EmbeddedType) → keep (hit (graph T) q) (kept T seen′ M) ≡ hs
-            → firstly T q a (keep (hit (graph T) q) (kept T seen′ M)) (search-levels (graph T) (skipped T) q a k (map at (kept T seen′ M) ++ seen′) (merge (graph T) (flat (next (graph T)) (kept T seen′ M))))
-            ≡ search-levels (graph T) (skipped T) q a (suc k) seen′ M
-        go [] e = rw (e, search-levels)
-        go (r ∷ rs) e = rw (e, search-levels)
+            → (r : LookupResult) → Agrees r (search-levels (graph T) (skipped T) q a k (map at (kept T seen′ M) ++ seen′) (merge (graph T) (flat (next (graph T)) (kept T seen′ M))))
+            → Agrees (firstly T q a (keep (hit (graph T) q) (kept T seen′ M)) r) (search-levels (graph T) (skipped T) q a (suc k) seen′ M)
+        go [] e r on = rw (e, search-levels) on
+        go (h ∷ hs) e r on = rw (e, search-levels) (told-agrees T q a h hs)

@@ -1,33 +1,26 @@
 -- Both whiles of lookup.rs end, within `enoughTurns`: what they would give out of turns is never given.
 use mathlib.Core.Path.{_≡_, refl, sym, ap, _∙_}
-use mathlib.Core.Bool.{Bool, true, false}
+use mathlib.Core.Bool.{Bool, false}
 use mathlib.Core.List.{List, [], _∷_, map}
 use Prim.Native.Nat.{ℕ, zero, suc, _+_, _≤_, _<_}
 use native.Mathlib.Omega.{arith}
 use Rattle.objects.specs.Lists.{keep, flat}
 use Rattle.text.specs.Bytes.{isBlank}
 use Rattle.objects.specs.declared.TypeKey.{TypeKey}
-use Rattle.objects.specs.Table.{Table, size, kindNumber, kindAt}
+use Rattle.objects.specs.Table.{Table, size}
 use Rattle.rules.specs.Members.{Identity}
-use Rattle.rules.specs.Identity.{identical}
 use Rattle.rules.specs.Sound.{Sound}
-use Rattle.rules.proofs.IdentityLaws.{identical-parts}
-use Rattle.rules.specs.Ways.{Selected, notfound, start}
+use Rattle.rules.specs.Ways.{start}
 use Rattle.ways.specs.Levels.{EmbeddedType, raw, merge, next, hit}
 use Rattle.ways.specs.OfTable.{graph}
-use Rattle.ways.proofs.TableLaws.{lawful, keyed}
 use Rattle.goscript.specs.Consolidate.{consolidateMultiples}
 use Rattle.goscript.specs.Maps.{Map}
-use Rattle.goscript.specs.Lookup.{enoughTurns, turns}
+use Rattle.goscript.specs.Lookup.{LookupResult, NotFound, enoughTurns, turns}
 use Rattle.goscript.specs.MethodSets.{MethodCollision, Visit, visitAll, addMethods, addCollisions, base}
 use Rattle.goscript.proofs.ScanLevels.{live, kept, sawAll, liveNext, firstly}
 use Rattle.goscript.proofs.LookupSame.{flat-keep, dead-next, Tied, alive-kept, tied-saw, turns-step}
 use Rattle.goscript.proofs.LevelsEnd.{top, level-none}
 use Rattle.goscript.proofs.SetsSame.{setAfter, Turn, begin, all-visited, turn-next, turn-on}
-
--- identical types are of one kind
-pub kinds : (T : Table) → Sound T → (x y : TypeKey) → identical T x y ≡ true → kindNumber (kindAt T x) ≡ kindNumber (kindAt T y)
-kinds T sound x y h = identical-parts T sound x y .0 h .kinds
 
 module _ (T : Table) (sound : Sound T) (t : TypeKey) (in0 : t .0 < size T) where
   -- a level so far down has nothing that was not seen
@@ -67,30 +60,30 @@ module _ (T : Table) (sound : Sound T) (t : TypeKey) (in0 : t .0 < size T) where
 
   -- ---- lookup_field_or_method_impl
 
-  module _ (q : Identity) (real : isBlank (q .name) ≡ false) (a : Bool) (out : Selected) where
+  module _ (q : Identity) (real : isBlank (q .name) ≡ false) (a : Bool) (out : LookupResult) where
     -- types that are not pushed push nothing
-    nothing-pushed : (seen : List TypeKey) (L : List EmbeddedType) (seen′ : List TypeKey) (M : List EmbeddedType) → Tied T (lawful T sound) (kinds T sound) seen L seen′ M → kept T seen′ M ≡ []
+    nothing-pushed : (seen : List TypeKey) (L : List EmbeddedType) (seen′ : List TypeKey) (M : List EmbeddedType) → Tied T sound seen L seen′ M → kept T seen′ M ≡ []
         → flat (liveNext T) (kept T seen L) ≡ []
     nothing-pushed seen L seen′ M tied e =
         sym (flat-keep (live T) (liveNext T) (λ r dead. ap (keep (live T)) (dead-next T r dead)) (kept T seen L))
-        ∙ ap (flat (liveNext T)) (alive-kept T (lawful T sound) (kinds T sound) seen L seen′ M tied ∙ ap (keep (live T)) e)
+        ∙ ap (flat (liveNext T)) (alive-kept T sound seen L seen′ M tied ∙ ap (keep (live T)) e)
 
     same-after : (j d : ℕ) (seen : List TypeKey) (L : List EmbeddedType) (seen′ : List TypeKey) (M : List EmbeddedType)
-        → Tied T (lawful T sound) (kinds T sound) seen L seen′ M → Turn T sound t d seen′ M → size T + top T ≤ d + j
-        → turns T q out a (suc j) seen L ≡ turns T q notfound a (suc j) seen L
+        → Tied T sound seen L seen′ M → Turn T sound t d seen′ M → size T + top T ≤ d + j
+        → turns T q out a (suc j) seen L ≡ turns T q NotFound a (suc j) seen L
     same-after zero d seen L seen′ M tied turn le =
         let e = nothing-pushed seen L seen′ M tied (nothing-new d seen′ M turn (omega arith)) in
-        turns-step T (lawful T sound) (kinds T sound) q real (keyed T sound q real) a out zero seen L (tied .apart)
+        turns-step T sound q real a out zero seen L (tied .apart)
         ∙ ap (λ l. firstly T q a (keep (hit (graph T) q) (kept T seen L)) (turns T q out a zero (sawAll T seen (kept T seen L)) (consolidateMultiples T l))) e
-        ∙ sym (turns-step T (lawful T sound) (kinds T sound) q real (keyed T sound q real) a notfound zero seen L (tied .apart)
-        ∙ ap (λ l. firstly T q a (keep (hit (graph T) q) (kept T seen L)) (turns T q notfound a zero (sawAll T seen (kept T seen L)) (consolidateMultiples T l))) e)
+        ∙ sym (turns-step T sound q real a NotFound zero seen L (tied .apart)
+        ∙ ap (λ l. firstly T q a (keep (hit (graph T) q) (kept T seen L)) (turns T q NotFound a zero (sawAll T seen (kept T seen L)) (consolidateMultiples T l))) e)
     same-after (suc j) d seen L seen′ M tied turn le =
-        turns-step T (lawful T sound) (kinds T sound) q real (keyed T sound q real) a out (suc j) seen L (tied .apart)
+        turns-step T sound q real a out (suc j) seen L (tied .apart)
         ∙ ap (firstly T q a (keep (hit (graph T) q) (kept T seen L)))
-        (same-after j (suc d) _ _ _ _ (tied-saw T (lawful T sound) (kinds T sound) seen L seen′ M tied (turn .apart)) (turn-next T sound t d seen′ M turn) (omega arith))
-        ∙ sym (turns-step T (lawful T sound) (kinds T sound) q real (keyed T sound q real) a notfound (suc j) seen L (tied .apart))
+        (same-after j (suc d) _ _ _ _ (tied-saw T sound seen L seen′ M tied (turn .apart)) (turn-next T sound t d seen′ M turn) (omega arith))
+        ∙ sym (turns-step T sound q real a NotFound (suc j) seen L (tied .apart))
 
     -- THE LOOP OF lookup_field_or_method_impl ENDS
-    pub lookup-ends : (k : ℕ) → enoughTurns T ≤ k → turns T q out a k [] (raw (start T t) ∷ []) ≡ turns T q notfound a k [] (raw (start T t) ∷ [])
+    pub lookup-ends : (k : ℕ) → enoughTurns T ≤ k → turns T q out a k [] (raw (start T t) ∷ []) ≡ turns T q NotFound a k [] (raw (start T t) ∷ [])
     lookup-ends zero le = absurd (omega arith)
     lookup-ends (suc j) le = same-after j 0 [] (raw (start T t) ∷ []) [] (raw (start T t) ∷ []) (record { apart = (refl, tt); alive = refl; knows = λ u. refl }) (begin T sound t) (omega arith)

@@ -1,5 +1,5 @@
 -- `missing_method` gives the rules' N, on every sound table.
-use mathlib.Core.Path.{_≡_, refl, ap, _∙_}
+use mathlib.Core.Path.{_≡_, refl, sym, ap, _∙_}
 use mathlib.Core.Bool.{Bool, true, false}
 use mathlib.Core.List.{List, [], _∷_}
 use mathlib.Core.Logic.{inl, inr}
@@ -14,32 +14,44 @@ use Rattle.objects.specs.Table.{Table, size, isMethod, Member, under, ifaceUnde
 use Rattle.rules.specs.Members.{Identity, identityOf, identityFrom, sameId, sameMember}
 use Rattle.rules.proofs.MemberLaws.{sameId-true, sameId-self}
 use Rattle.rules.specs.Sound.{Sound}
-use Rattle.rules.specs.Ways.{placesFrom, Selected, notfound, badreceiver, entry, ambiguous}
-use Rattle.rules.specs.Missing.{unmetThere, unmetBy, unmet, firstUnmet, missing}
-use Rattle.goscript.specs.Lookup.{enoughTurns, firstMatch, lookupFieldOrMethod}
-use Rattle.goscript.specs.Missing.{firstMissing, found, checkThere, result, checkConcrete, missingMethod}
+use Rattle.rules.specs.Ways.{placesFrom, Selected, notfound, badreceiver, entry, ambiguous, isAmbiguous}
+use Rattle.rules.specs.Missing.{compared, unmetThere, unmetBy, unmet, firstUnmet, missing}
+use Rattle.goscript.specs.Lookup.{LookupResult, enoughTurns, firstMatch}
+use Rattle.goscript.specs.Agrees.{Agrees, entries, one-shown, bad-receivers, not-founds}
+use Rattle.goscript.specs.Missing.{firstMissing, wrongType, found, checkThere, result, checkConcrete, missingMethod}
 use Rattle.ways.proofs.MemberSorts.{listed-In, listed-method}
+use Rattle.goscript.proofs.IdenticalIs.{identical-types}
 use Rattle.goscript.proofs.LookupIs.{lookup-is-goscript}
 
 sameId-turn : (a b : Identity) → sameId a b ≡ sameId b a
 sameId-turn a b =
     iff-eq (sameId a b) (sameId b a) (λ e. ap (sameId b) (sameId-true a b e) ∙ sameId-self b) (λ e. ap (sameId a) (sameId-true b a e) ∙ sameId-self a)
 
-module _ (T : Table) where
+module _ (T : Table) (sound : Sound T) where
+  wrong-type : (m x : Member) → wrongType T m x ≡ compared T m x
+  wrong-type m x = rw (identical-types T sound (m .type) (x .type))
+
   -- the first of the list with the method's identity
   there-is : (s : Bool) (m : Member) (n : ℕ) (ms : List Member) → found T s m (firstMatch T (identityOf T m) (placesFrom n ms)) ≡ unmetThere T s m (keep (sameMember T m) ms)
   there-is s m n [] = refl
   there-is s m n (x ∷ ms) =
       cases (sameId (identityOf T m) (identityOf T x))
-      (λ e. rw (sameId-turn (identityOf T x) (identityOf T m) ∙ e, e))
+      (λ e. rw (sameId-turn (identityOf T x) (identityOf T m) ∙ e, e) (wrong-type m x))
       (λ e. rw (sameId-turn (identityOf T x) (identityOf T m) ∙ e, e) (there-is s m (suc n) ms))
 
-  result-is : (m : Member) (s : Selected) → result T m s ≡ unmetBy T m s
-  result-is m notfound = refl
-  result-is m badreceiver = refl
-  result-is m (entry g flag places) = cases (isMethod (g .entity)) (λ e. rw e) (λ e. rw e)
-  result-is m (ambiguous places) = refl
+  result-is : (m : Member) {r : LookupResult} {s : Selected} → Agrees r s → result T m r ≡ unmetBy T m s
+  result-is m (entries {m = g}) = cases (isMethod (g .entity)) (λ e. rw e (wrong-type m g)) (λ e. rw e)
+  result-is m (one-shown {s = s} e i) = sym (other s e)
+    where
+      other : (s : Selected) → isAmbiguous s ≡ true → unmetBy T m s ≡ some false
+      other notfound e = refl
+      other badreceiver e = refl
+      other (entry g flag places) e = clash e refl
+      other (ambiguous places) e = refl
+  result-is m bad-receivers = refl
+  result-is m not-founds = refl
 
+module _ (T : Table) where
   loop-is : (t : TypeKey) (s : Bool) (check : Member → Option Bool) (ms : List Member) → ((m : Member) → In m ms → check m ≡ unmet T t s m) → firstMissing check ms ≡ firstUnmet T t s ms
   loop-is t s check [] h = refl
   loop-is t s check (m ∷ ms) h = go (unmet T t s m) refl (loop-is t s check ms (λ x i. h x (inr i)))
@@ -48,7 +60,7 @@ module _ (T : Table) where
       go none e ih = rw (h m (inl refl) ∙ e, firstMissing, e, firstUnmet) ih
       go (some w) e ih = rw (h m (inl refl) ∙ e, firstMissing, e, firstUnmet)
 
-module _ (T : Table) (sound : Sound T) (t i : TypeKey) (in0 : t .0 < size T) (s : Bool) (out : Selected) (k : ℕ) (le : enoughTurns T ≤ k) where
+module _ (T : Table) (sound : Sound T) (t i : TypeKey) (in0 : t .0 < size T) (s : Bool) (out : LookupResult) (k : ℕ) (le : enoughTurns T ≤ k) where
   -- an interface's method is not blank
   named-method : (m : Member) → In m (allMethods T i) → isBlank (identityOf T m .name) ≡ false
   unfolding allMethods identityOf identityFrom
@@ -57,11 +69,11 @@ module _ (T : Table) (sound : Sound T) (t i : TypeKey) (in0 : t .0 < size T) (s 
 
   there-met : ifaceUnder T t ≡ true → (m : Member) → In m (allMethods T i) → checkThere T s (allMethods T t) m ≡ unmet T t s m
   unfolding unmet
-  there-met e m j = rw (e, named-method m j) (there-is T s m 0 (allMethods T t))
+  there-met e m j = rw (e, named-method m j) (there-is T sound s m 0 (allMethods T t))
 
   concrete-met : ifaceUnder T t ≡ false → (m : Member) → In m (allMethods T i) → checkConcrete T out k t m ≡ unmet T t s m
   unfolding unmet
-  concrete-met e m j = rw e (result-is T m (lookupFieldOrMethod T (identityOf T m) out k t false) ∙ ap (unmetBy T m) (lookup-is-goscript T sound (identityOf T m) t in0 false out k le))
+  concrete-met e m j = rw e (result-is T sound m (lookup-is-goscript T sound (identityOf T m) t in0 false out k le))
 
   -- GOSCRIPT'S MISSING METHOD IS N'S
   pub missing-is-goscript : missingMethod T out k t i s ≡ missing T t i s

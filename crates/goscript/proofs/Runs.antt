@@ -27,17 +27,17 @@ allB c (a ∷ as′) (b ∷ bs) = c a b && allB c as′ bs
 abbrev pub Sub : List Pair → List Pair → Type 0
 Sub d e = (p : Pair) → In p d → In p e
 
-abbrev pub Agrees : Table → ℕ → Pair → Type 0
-Agrees T n p = sameIn T n (p .left) (p .right) ≡ true
+abbrev pub AgreeIn : Table → ℕ → Pair → Type 0
+AgreeIn T n p = sameIn T n (p .left) (p .right) ≡ true
 
 abbrev pub AllMet : Table → ℕ → List Pair → Type 0
-AllMet T n d = (p : Pair) → In p d → Agrees T n p
+AllMet T n d = (p : Pair) → In p d → AgreeIn T n p
 
 -- `dup` was d and is e; B n is the claim at n steps
 pub record Grew (T : Table) (d e : List Pair) (B : ℕ → Bool) : Type 0 where
   pub kept : Sub d e
   pub holds : (n : ℕ) → AllMet T n e → B n ≡ true
-  pub new : (n : ℕ) → AllMet T n e → (p : Pair) → In p e → In p d ⊎ Agrees T (suc n) p
+  pub new : (n : ℕ) → AllMet T n e → (p : Pair) → In p e → In p d ⊎ AgreeIn T (suc n) p
 
 abbrev pub Judged : Table → List Pair → (ℕ → Bool) → Verdict → Type 0
 Judged T d B (same e) = Grew T d e B

@@ -1,7 +1,8 @@
 -- One turn of the lookup's while, on a level without two identical types: what it gives is told by the types of the level that have the name.
 use mathlib.Core.Path.{_≡_, refl, sym, ap, _∙_}
-use mathlib.Core.Bool.{Bool, true, false, cond}
+use mathlib.Core.Bool.{Bool, true, false, cond, not, _&&_, and-false}
 use mathlib.Core.List.{List, [], _∷_, _++_, map, append-nil, append-assoc, foldl}
+use mathlib.Core.Logic.{inl}
 use mathlib.Core.Option.{none, some}
 use Prim.Native.Nat.{ℕ}
 use Rattle.objects.specs.Lists.{any, keep, flat}
@@ -9,16 +10,17 @@ use Rattle.objects.proofs.ListLaws.{cases, clash, map-map, none-In, keep-In-ext
 use Rattle.objects.proofs.KeyLaws.{same-key}
 use Rattle.text.specs.Bytes.{isBlank}
 use Rattle.objects.specs.declared.TypeKey.{TypeKey}
-use Rattle.objects.specs.Table.{Table, sameType, isEmbedded, isNamed, kindAt, bare}
+use Rattle.objects.specs.Table.{Table, sameType, Entity, Field, Method, isMethod, isEmbedded, hasPtr, isNamed, kindAt, bare}
 use Rattle.rules.specs.Members.{Identity}
-use Rattle.rules.specs.Ways.{Place, Way, placesOf, Selected, ambiguous, single, fieldPlaces, embedded}
+use Rattle.rules.specs.Ways.{Place, Way, placesOf, memberOf, badreceiver, entry, single, fieldPlaces, embedded}
 use Rattle.ways.specs.Graph as over
 use Rattle.ways.specs.Levels.{EmbeddedType, at, twin, next, hit, found, firstOf, verdict, unseen}
 use Rattle.ways.specs.OfTable.{graph, stepOf}
 use Rattle.ways.proofs.Merge.{Lawful}
 use Rattle.ways.proofs.Same.{Keyed}
 use Rattle.ways.proofs.Extra.{Apart}
-use Rattle.goscript.specs.Lookup.{Scan, returned, going, onFound, searchable, embed, visit, ended}
+use Rattle.goscript.specs.Lookup.{LookupResult, Entry, Ambiguous, BadMethodReceiver, Scan, returned, going, onFound, searchable, embed, visit, potentialMatch, ended}
+use Rattle.goscript.specs.Agrees.{Agrees, entries, one-shown, bad-receivers}
 use Rattle.goscript.proofs.Scans.{gathers, skipped, sawNamed, visit-known, visit-miss, visit-hit}
 
 module _ (T : Table) where
@@ -59,59 +61,68 @@ module _ (T : Table) (law : Lawful (graph T)) where
   kept-on r seen L h =
       keep-In-ext _ _ L (λ x i. rw (unlike r x (isNamed (kindAt T (at r))) seen (none-In (twin (graph T) r) L x h i)))
 
+-- the test of the receiver is the rules'
+match-agrees : (a : Bool) (w : Way) → Agrees (potentialMatch a w) (single a w)
+match-agrees a w = cases (hasPtr (memberOf w .entity)) (λ e. rw (has-method (memberOf w .entity) e, e) (received (w .walk .flag) a)) (λ e. rw (e, and-false) entries)
+  where
+    has-method : (x : Entity) → hasPtr x ≡ true → isMethod x ≡ true
+    has-method (Field emb tag) h = clash h refl
+    has-method (Method ptr) h = refl
+
+    received : (f b : Bool) → Agrees (cond (not f && not b) BadMethodReceiver (Entry (memberOf w) (placesOf w) f)) (cond (not f && not b) badreceiver (entry (memberOf w) f (placesOf w)))
+    received true b = entries
+    received false true = entries
+    received false false = bad-receivers
+
 module _ (T : Table) (q : Identity) (a : Bool) where
   -- what is given once w has been found, by the other types of the level that have the name
-  abbrev afterOne : Way → List EmbeddedType → Selected
-  afterOne w [] = single a w
-  afterOne w (s ∷ rest) = ambiguous (placesOf (found (graph T) q s))
+  abbrev afterOne : Way → List EmbeddedType → LookupResult
+  afterOne w [] = potentialMatch a w
+  afterOne w (s ∷ rest) = Ambiguous (placesOf (found (graph T) q s))
 
-  -- the level's answer, or another if none of its types has the name
-  abbrev pub firstly : List EmbeddedType → Selected → Selected
+  -- what is given by the types of the level that have the name, r the first of them
+  abbrev told : EmbeddedType → List EmbeddedType → LookupResult
+  told r rs = cond (r .multiples) (Ambiguous (placesOf (found (graph T) q r))) (afterOne (found (graph T) q r) rs)
+
+  -- or another, if none of its types has the name
+  abbrev pub firstly : List EmbeddedType → LookupResult → LookupResult
   firstly [] other = other
-  firstly (r ∷ rs) other = verdict (graph T) q a (r ∷ rs)
+  firstly (r ∷ rs) other = told r rs
 
-  verdict-many : (r : EmbeddedType) (X : List EmbeddedType) → r .multiples ≡ true → verdict (graph T) q a (r ∷ X) ≡ ambiguous (placesOf (found (graph T) q r))
-  verdict-many r [] e = rw e
-  verdict-many r (s ∷ X) e = rw e
+  -- IT AGREES WITH THE VERDICT ON THE LEVEL
+  pub told-agrees : (r : EmbeddedType) (rs : List EmbeddedType) → Agrees (told r rs) (verdict (graph T) q a (r ∷ rs))
+  told-agrees r [] = cases (r .multiples) (λ e. rw e (one-shown refl (inl refl))) (λ e. rw e (match-agrees a (found (graph T) q r)))
+  told-agrees r (s ∷ rs) = cases (r .multiples) (λ e. rw e (one-shown refl (inl refl))) (λ e. rw e (one-shown refl (inl refl)))
 
-  verdict-one : (r : EmbeddedType) (X : List EmbeddedType) → r .multiples ≡ false → verdict (graph T) q a (r ∷ X) ≡ afterOne (found (graph T) q r) X
-  verdict-one r [] e = rw e
-  verdict-one r (s ∷ X) e = rw e
-
-module _ (T : Table) (law : Lawful (graph T)) (q : Identity) (real : isBlank (q .name) ≡ false) (kd : Keyed (graph T) q) (a : Bool) (on : Scan → Selected) where
+module _ (T : Table) (law : Lawful (graph T)) (q : Identity) (real : isBlank (q .name) ≡ false) (kd : Keyed (graph T) q) (a : Bool) (on : Scan → LookupResult) where
   stays : (indices : List ℕ) (L : List EmbeddedType) → foldl (visit T q) (returned indices) L ≡ returned indices
   stays indices [] = refl
   stays indices (r ∷ L) = stays indices L
 
   scan-some : (L : List EmbeddedType) (s : List TypeKey) (w : Way) (n : List EmbeddedType) → Apart (graph T) L
-      → ended T q a on (foldl (visit T q) (going (record { seen = s; target = some w; next = n })) L) ≡ afterOne T q a w (keep (hit (graph T) q) (kept T s L))
+      → ended a on (foldl (visit T q) (going (record { seen = s; target = some w; next = n })) L) ≡ afterOne T q a w (keep (hit (graph T) q) (kept T s L))
   scan-some [] s w n apart = refl
   scan-some (r ∷ L) s w n apart =
       cases (skipped T s (at r))
       (λ e. rw (visit-known T q real st r e, e) (scan-some L s w n (apart .1)))
       (λ e. cases (hit (graph T) q r)
-      (λ h. rw (visit-hit T q real r st e h (kd .one (at r)) .1, e, h) (ap (ended T q a on) (stays (placesOf (found (graph T) q r)) L)))
+      (λ h. rw (visit-hit T q real r st e h (kd .one (at r)) .1, e, h) (ap (ended a on) (stays (placesOf (found (graph T) q r)) L)))
       (λ h. rw (visit-miss T q real r st e h, e, h) (scan-some L (sawNamed T r s) w _ (apart .1) ∙ ap (λ K. afterOne T q a w (keep (hit (graph T) q) K)) (kept-on T law r s L (apart .0)))))
     where
       st : Scan
       st = record { seen = s; target = some w; next = n }
 
   scan-found : (r : EmbeddedType) (L : List EmbeddedType) (s : List TypeKey) (n : List EmbeddedType) → Apart (graph T) (r ∷ L)
-      → ended T q a on (foldl (visit T q) (onFound r (firstOf (over.matching (graph T) q (at r))) (record { seen = sawNamed T r s; target = none; next = n })) L)
-      ≡ verdict (graph T) q a (r ∷ keep (hit (graph T) q) (kept T s L))
+      → ended a on (foldl (visit T q) (onFound r (firstOf (over.matching (graph T) q (at r))) (record { seen = sawNamed T r s; target = none; next = n })) L)
+      ≡ told T q a r (keep (hit (graph T) q) (kept T s L))
   scan-found r L s n apart =
       cases (r .multiples)
-      (λ e. rw e (ap (ended T q a on) (stays (placesOf (found (graph T) q r)) L)) ∙ sym (verdict-many T q a r (keep (hit (graph T) q) (kept T s L)) e))
-      (λ e. many e ∙ sym (verdict-one T q a r (keep (hit (graph T) q) (kept T s L)) e))
-    where
-      many : r .multiples ≡ false
-          → ended T q a on (foldl (visit T q) (onFound r (firstOf (over.matching (graph T) q (at r))) (record { seen = sawNamed T r s; target = none; next = n })) L)
-          ≡ afterOne T q a (found (graph T) q r) (keep (hit (graph T) q) (kept T s L))
-      many e = rw e (scan-some L (sawNamed T r s) (found (graph T) q r) n (apart .1) ∙ ap (λ K. afterOne T q a (found (graph T) q r) (keep (hit (graph T) q) K)) (kept-on T law r s L (apart .0)))
+      (λ e. rw e (ap (ended a on) (stays (placesOf (found (graph T) q r)) L)))
+      (λ e. rw e (scan-some L (sawNamed T r s) (found (graph T) q r) n (apart .1) ∙ ap (λ K. afterOne T q a (found (graph T) q r) (keep (hit (graph T) q) K)) (kept-on T law r s L (apart .0))))
 
-  -- A TURN GIVES THE VERDICT on the types that have the name, or gathers what the others embed.
+  -- A TURN GIVES what the types that have the name say, or gathers what the others embed.
   pub scan-none : (L : List EmbeddedType) (s : List TypeKey) (n : List EmbeddedType) → Apart (graph T) L
-      → ended T q a on (foldl (visit T q) (going (record { seen = s; target = none; next = n })) L)
+      → ended a on (foldl (visit T q) (going (record { seen = s; target = none; next = n })) L)
       ≡ firstly T q a (keep (hit (graph T) q) (kept T s L)) (on (record { seen = sawAll T s (kept T s L); target = none; next = n ++ flat (liveNext T) (kept T s L) }))
   scan-none [] s n apart = rw (append-nil n)
   scan-none (r ∷ L) s n apart =
@@ -124,9 +135,9 @@ module _ (T : Table) (law : Lawful (graph T)) (q : Identity) (real : isBlank (q 
       st : Scan
       st = record { seen = s; target = none; next = n }
 
-      missed : ended T q a on (foldl (visit T q) (going (record { seen = sawNamed T r s; target = none; next = n ++ gathers T q r st (fieldPlaces T (at r)) })) L)
+      missed : ended a on (foldl (visit T q) (going (record { seen = sawNamed T r s; target = none; next = n ++ gathers T q r st (fieldPlaces T (at r)) })) L)
           ≡ firstly T q a (keep (hit (graph T) q) (kept T (sawNamed T r s) L)) (on (record { seen = sawAll T (sawNamed T r s) (kept T (sawNamed T r s) L); target = none; next = (n ++ gathers T q r st (fieldPlaces T (at r))) ++ flat (liveNext T) (kept T (sawNamed T r s) L) }))
-          → ended T q a on (foldl (visit T q) (going (record { seen = sawNamed T r s; target = none; next = n ++ gathers T q r st (fieldPlaces T (at r)) })) L)
+          → ended a on (foldl (visit T q) (going (record { seen = sawNamed T r s; target = none; next = n ++ gathers T q r st (fieldPlaces T (at r)) })) L)
           ≡ firstly T q a (keep (hit (graph T) q) (kept T s L)) (on (record { seen = sawAll T (sawNamed T r s) (kept T s L); target = none; next = n ++ (liveNext T r ++ flat (liveNext T) (kept T s L)) }))
       missed ih =
           ih

@@ -117,7 +117,7 @@ module _ (T : Table) (sound : Sound T) where
       turn-next = record { apart = merge-apart (graph T) law (flat (next (graph T)) K); current = current-on; knows = knows-on }
 
       pub turn-on : Turn (suc d) (visitAll T seen L .seen) (consolidateMultiples T (visitAll T seen L .next))
-      turn-on = rw (all-visited, consolidate-is T law (flat (next (graph T)) K)) turn-next
+      turn-on = rw (all-visited, consolidate-is T sound (flat (next (graph T)) K)) turn-next
 
       module _ (q : Identity) (set : Map MethodCollision) where
         -- the two loops at the end of the turn

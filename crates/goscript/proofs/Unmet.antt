@@ -1,6 +1,6 @@
 -- What falls in `identical_impl`: the pairs of types that are not yet in `dup`, and between two interface pairs a rank by the type's number. No more calls
 -- are inside each other than `enoughCalls`.
-use mathlib.Core.Path.{_≡_, refl, ap, ap₂, _∙_}
+use mathlib.Core.Path.{_≡_, refl, ap, _∙_}
 use mathlib.Core.Bool.{Bool, true, false, cond, not, _&&_, _||_}
 use mathlib.Core.List.{List, [], _∷_, map}
 use mathlib.Core.Logic.{inl, inr}
@@ -12,11 +12,11 @@ use lib.ListN.{length, length-map, length-append}
 use borrow.Author.Tests.{ltb-true}
 use Rattle.objects.specs.Lists.{any, keep, flat, upTo, In}
 use Rattle.objects.specs.declared.TypeKey.{TypeKey}
-use Rattle.objects.specs.Table.{Table, size, typeKey, sameType, Entity, Field, Method, Member, Kind, Basic, Array, Slice, Pointer, Map, Chan, Tuple, Func, Struct, Iface, Named, isTuple, isIface, isNamed, refs, membersOf, kindAt}
+use Rattle.objects.specs.Table.{Table, size, typeKey, Entity, Field, Method, Member, Kind, Basic, Array, Slice, Pointer, Map, Chan, Tuple, Func, Struct, Iface, Named, isTuple, isIface, isNamed, refs, membersOf, kindAt}
 use Rattle.objects.proofs.ListLaws.{cases, clash, either, or-l, or-r, and-l, and-r, any-In, some-In, In-append, In-map, map-In-to, flat-In-to}
 use Rattle.objects.proofs.BoolLaws.{and-i}
 use Rattle.objects.proofs.PartLaws.{every-In}
-use Rattle.objects.proofs.KeyLaws.{same-key, same-self}
+use Rattle.objects.proofs.KeyLaws.{same-self}
 use Rattle.objects.proofs.Numbers.{upTo-length, upTo-has}
 use Rattle.rules.specs.Identity.{parts, Pair, samePair}
 use Rattle.rules.specs.Checks.{mayRefer, mayEmbed, smallerTuple, endsInSlice, typeAllowed, memberAllowed}

@@ -2,8 +2,8 @@
 use mathlib.Core.Bool.{true, cond}
 use mathlib.Core.List.{List, [], _∷_, foldl}
 use Rattle.objects.specs.Table.{Table}
-use Rattle.rules.specs.Identity.{identical}
 use Rattle.ways.specs.Levels.{EmbeddedType, at}
+use Rattle.goscript.specs.Identical.{identicalTypes}
 
 abbrev pub multiple : EmbeddedType → EmbeddedType
 multiple et = record { walk = et .walk; multiples = true }
@@ -13,7 +13,7 @@ module _ (T : Table) where
   -- is the first that is identical to et. It is marked, or else et is pushed.
   abbrev pub consolidated : List EmbeddedType → EmbeddedType → List EmbeddedType
   consolidated [] et = et ∷ []
-  consolidated (r ∷ rs) et = cond (identical T (at r) (at et)) (multiple r ∷ rs) (r ∷ consolidated rs et)
+  consolidated (r ∷ rs) et = cond (identicalTypes T (at r) (at et)) (multiple r ∷ rs) (r ∷ consolidated rs et)
 
   abbrev pub consolidateMultiples : List EmbeddedType → List EmbeddedType
   consolidateMultiples list = foldl consolidated [] list

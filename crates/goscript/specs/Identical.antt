@@ -111,6 +111,14 @@ answer (same dup) = some true
 answer differ = some false
 answer out = none
 
+abbrev pub isYes : Option Bool → Bool
+isYes none = false
+isYes (some b) = b
+
 -- `identical`
 abbrev pub identicalAnswer : Table → ℕ → TypeKey → TypeKey → Option Bool
 identicalAnswer T n x y = answer (identicalImpl T n x y [])
+
+-- `identical` with so many calls that it never runs out (`identical-is-goscript`): what the functions of lookup.rs call
+unfoldable pub identicalTypes : Table → TypeKey → TypeKey → Bool
+identicalTypes T x y = isYes (identicalAnswer T (enoughCalls T) x y)

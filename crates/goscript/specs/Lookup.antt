@@ -7,11 +7,17 @@ use Prim.Native.Nat.{ℕ, zero, suc, _+_}
 use Rattle.objects.specs.Lists.{any}
 use Rattle.text.specs.Bytes.{isBlank}
 use Rattle.objects.specs.declared.TypeKey.{TypeKey}
-use Rattle.objects.specs.Table.{Table, size, sameType, isEmbedded, Member, Kind, isStruct, isIface, isNamed, membersOf, kindAt, under, bare, pointerAt, ifaceUnder, namedPointer}
+use Rattle.objects.specs.Table.{Table, size, sameType, isMethod, isEmbedded, hasPtr, Member, Kind, isStruct, isIface, isNamed, membersOf, kindAt, under, bare, pointerAt, ifaceUnder, namedPointer}
 use Rattle.rules.specs.Members.{Identity, identityOf, sameId}
-use Rattle.rules.specs.Ways.{Place, placesFrom, Way, placesOf, Selected, notfound, ambiguous, single, noMethod, start, along}
+use Rattle.rules.specs.Ways.{Place, placesFrom, Way, placesOf, memberOf, start, along}
 use Rattle.ways.specs.Levels.{EmbeddedType, at, raw}
 use Rattle.goscript.specs.Consolidate.{consolidateMultiples}
+
+-- "the result of lookup_field_or_method"
+pub data LookupResult : Type 0 where
+  Entry : Member → (indices : List ℕ) (indirect : Bool) → LookupResult
+  Ambiguous : (indices : List ℕ) → LookupResult
+  BadMethodReceiver NotFound : LookupResult
 
 -- What a turn of the while carries as it goes through `current`. `target`, `indices` and `indirect` are set together: the way that was found.
 pub record Scan : Type 0 where
@@ -100,39 +106,52 @@ module _ (T : Table) (asked : Identity) where
   abbrev pub scanned : List TypeKey → List EmbeddedType → Turn
   scanned seen current = foldl visit (going (record { seen = seen; target = none; next = [] })) current
 
-  -- `if let Some(okey) = target`
-  abbrev pub answered : Bool → Option Way → Selected → Selected
-  answered addressable (some w) other = single addressable w
-  answered addressable none other = other
+-- "found a potential match"
+abbrev pub potentialMatch : Bool → Way → LookupResult
+potentialMatch addressable w =
+    cond (isMethod (memberOf w .entity) && hasPtr (memberOf w .entity) && not (w .walk .flag) && not addressable) BadMethodReceiver
+    (Entry (memberOf w) (placesOf w) (w .walk .flag))
 
-  -- the end of a turn; `on` is what the turns after it give
-  abbrev pub ended : Bool → (Scan → Selected) → Turn → Selected
-  ended addressable on (returned indices) = ambiguous indices
-  ended addressable on (going st) = answered addressable (st .target) (on st)
+-- `if let Some(okey) = target`
+abbrev pub answered : Bool → Option Way → LookupResult → LookupResult
+answered addressable (some w) other = potentialMatch addressable w
+answered addressable none other = other
+
+-- the end of a turn; `on` is what the turns after it give
+abbrev pub ended : Bool → (Scan → LookupResult) → Turn → LookupResult
+ended addressable on (returned indices) = Ambiguous indices
+ended addressable on (going st) = answered addressable (st .target) (on st)
 
 -- How many turns of its while each loop needs at most: a named type is entered once, and a type without a name leads to smaller numbers.
 abbrev pub enoughTurns : Table → ℕ
 enoughTurns T = suc (size T + suc (size T))
 
+-- `if let LookupResult::Entry(okey, _, _) = &re`: "discard the result if it is a method"
+abbrev pub discardMethod : LookupResult → LookupResult
+discardMethod (Entry m indices indirect) = cond (isMethod (m .entity)) NotFound (Entry m indices indirect)
+discardMethod (Ambiguous indices) = Ambiguous indices
+discardMethod BadMethodReceiver = BadMethodReceiver
+discardMethod NotFound = NotFound
+
 -- `out` is what a loop would give that had not ended after k turns. From `enoughTurns` on it is never given, whatever it is.
-module _ (T : Table) (asked : Identity) (out : Selected) where
-  abbrev pub turns : Bool → ℕ → List TypeKey → List EmbeddedType → Selected
-  turns addressable zero seen [] = notfound
+module _ (T : Table) (asked : Identity) (out : LookupResult) where
+  abbrev pub turns : Bool → ℕ → List TypeKey → List EmbeddedType → LookupResult
+  turns addressable zero seen [] = NotFound
   turns addressable zero seen (et ∷ current) = out
-  turns addressable (suc k) seen [] = notfound
+  turns addressable (suc k) seen [] = NotFound
   turns addressable (suc k) seen (et ∷ current) =
-      ended T asked addressable (λ st. turns addressable k (st .seen) (consolidateMultiples T (st .next))) (scanned T asked seen (et ∷ current))
+      ended addressable (λ st. turns addressable k (st .seen) (consolidateMultiples T (st .next))) (scanned T asked seen (et ∷ current))
 
   -- ---- the two functions
 
-  abbrev pub lookupImpl : ℕ → TypeKey → Bool → Selected
+  abbrev pub lookupImpl : ℕ → TypeKey → Bool → LookupResult
   lookupImpl k t addressable =
-      cond (isBlank (asked .name)) notfound
-      (cond (pointerAt T t && ifaceUnder T (bare T t)) notfound
+      cond (isBlank (asked .name)) NotFound
+      (cond (pointerAt T t && ifaceUnder T (bare T t)) NotFound
       (turns addressable k [] (raw (start T t) ∷ [])))
 
-  -- "if we have a named pointer type, proceed with the underlying pointer type but discard the result if it is a method"
-  abbrev pub lookupFieldOrMethod : ℕ → TypeKey → Bool → Selected
+  -- "if we have a named pointer type, proceed with the underlying pointer type"
+  abbrev pub lookupFieldOrMethod : ℕ → TypeKey → Bool → LookupResult
   lookupFieldOrMethod k t addressable =
-      cond (namedPointer T t) (noMethod (lookupImpl k (under T t) false))
+      cond (namedPointer T t) (discardMethod (lookupImpl k (under T t) false))
       (lookupImpl k t addressable)

@@ -7,10 +7,10 @@ use Rattle.objects.specs.Lists.{empty, when}
 use Rattle.objects.specs.declared.TypeKey.{TypeKey}
 use Rattle.objects.specs.Table.{Table, isMethod, Member, ifaceUnder, allMethods}
 use Rattle.rules.specs.Members.{identityOf}
-use Rattle.rules.specs.Identity.{identical}
-use Rattle.rules.specs.Ways.{Place, Selected, notfound, badreceiver, entry, ambiguous}
+use Rattle.rules.specs.Ways.{Place}
 use Rattle.rules.specs.Missing.{Lack}
-use Rattle.goscript.specs.Lookup.{lookupMethod, lookupFieldOrMethod}
+use Rattle.goscript.specs.Identical.{identicalTypes}
+use Rattle.goscript.specs.Lookup.{LookupResult, Entry, Ambiguous, BadMethodReceiver, NotFound, lookupMethod, lookupFieldOrMethod}
 
 -- a loop over methods, of which `check` says whether the function returns there, and with which bool
 abbrev pub firstMissing : (Member → Option Bool) → List Member → Option Lack
@@ -21,9 +21,9 @@ firstMissing check (f ∷ fs) = elim (check f) [
 ]
 
 module _ (T : Table) where
-  -- `if !identical_o(..) { return Some((*fkey, true)) }`
+  -- `if !identical_o(..) { return Some((*fkey, true)) }`; of two types that are there `identical_o` says what `identical` says
   abbrev pub wrongType : Member → Member → Option Bool
-  wrongType f g = when (not (identical T (f .type) (g .type))) true
+  wrongType f g = when (not (identicalTypes T (f .type) (g .type))) true
 
   -- t is an interface: "only checks that methods of 'intf' which are also present in 't' have matching types", or all if static
   abbrev pub found : Bool → Member → Option Place → Option Bool
@@ -34,14 +34,14 @@ module _ (T : Table) where
   checkThere static all f = found static f (lookupMethod T (identityOf T f) all)
 
   -- "A concrete type implements 'intf' if it implements all methods of 'intf'."
-  abbrev pub result : Member → Selected → Option Bool
-  result f (entry g flag places) = cond (not (isMethod (g .entity))) (some false) (wrongType f g)
-  result f notfound = some false
-  result f badreceiver = some false
-  result f (ambiguous places) = some false
+  abbrev pub result : Member → LookupResult → Option Bool
+  result f (Entry g indices indirect) = cond (not (isMethod (g .entity))) (some false) (wrongType f g)
+  result f (Ambiguous indices) = some false
+  result f BadMethodReceiver = some false
+  result f NotFound = some false
 
 -- k turns at most in each lookup
-module _ (T : Table) (out : Selected) where
+module _ (T : Table) (out : LookupResult) where
   abbrev pub checkConcrete : ℕ → TypeKey → Member → Option Bool
   checkConcrete k t f = result T f (lookupFieldOrMethod T (identityOf T f) out k t false)
 

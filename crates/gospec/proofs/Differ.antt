@@ -1,6 +1,6 @@
 -- The one difference of S from the Go spec's text: a named pointer type with a second pointer behind it. "x.f is shorthand for (*x).f" makes x.f legal if *x is
 -- a *T with field f; document 01 removes one pointer and finds nothing ("a second pointer behind it is not removed"). Everywhere else they agree (`text-is-go`).
-use mathlib.Core.Path.{_≡_, refl, sym, ap, subst}
+use mathlib.Core.Path.{_≡_, refl, ap, subst}
 use mathlib.Core.Bool.{Bool, true, false}
 use mathlib.Core.List.{List, [], _∷_}
 use mathlib.Core.Logic.{_⊎_, inl, inr}
@@ -18,26 +18,14 @@ use Rattle.rules.specs.Members.{identityFrom}
 use Rattle.rules.specs.Load.{load, loaded}
 use Rattle.rules.specs.Sound.{Sound}
 use Rattle.rules.specs.Rows.{_⏎_, calling}
-use Rattle.rules.specs.Ways.{Selected, notfound, badreceiver, entry, ambiguous, select}
+use Rattle.rules.specs.Ways.{Selected, notfound, entry, select}
 use Rattle.rules.proofs.Sounds.{loads-sound}
 use Rattle.gospec.specs.GoSelectors.{underlying, Denotes, shorthand, Several, OneStar, Text}
-use Rattle.gospec.specs.Says.{Says, legal-field, legal-method, nothing, forget}
+use Rattle.gospec.specs.Says.{Says, legal-field, legal-method, not-one, nothing, Alike}
 use Rattle.gospec.proofs.Results.{inner-denotes, inner-several}
-use Rattle.gospec.proofs.SelectGo.{blank-is, asked-blank, selection-is-go, go-is-selection, go-is-select, as-text}
+use Rattle.gospec.proofs.SelectGo.{blank-is, asked-blank, selection-is-go, go-is-selection, go-is-select, as-text, alike-one}
 
 -- ---- with a second pointer behind it
-
-unforget : (r : Selected) → notfound ≡ forget r → r ≡ notfound
-unforget notfound e = refl
-unforget badreceiver e = sym e
-unforget (entry m flag places) e = sym e
-unforget (ambiguous places) e = clash refl (ap isNothing e)
-  where
-    isNothing : Selected → Bool
-    isNothing notfound = true
-    isNothing badreceiver = false
-    isNothing (entry m flag places) = false
-    isNothing (ambiguous places) = false
 
 module _ (T : Table) (sound : Sound T) (x u e : TypeKey) (in0 : x .0 < size T) (ms : List Member) (k : kindAt T x ≡ Named u ms) (l : kindAt T u ≡ Pointer e) (p : isPointer (underlying T e) ≡ true) where
   no-reading : OneStar T e → ⊥
@@ -45,7 +33,7 @@ module _ (T : Table) (sound : Sound T) (x u e : TypeKey) (in0 : x .0 < size T) (
 
   -- document 01 finds nothing, whatever the name,
   pub paper-notfound : (a : Bool) (pkg : Option PackageKey) (name : Bytes) → select T (identityFrom T pkg name) x a ≡ notfound
-  paper-notfound a pkg name = unforget (select T (identityFrom T pkg name) x a) (go-is-select T sound x in0 a pkg name notfound (nothing says))
+  paper-notfound a pkg name = alike-one notfound (select T (identityFrom T pkg name) x a) refl (go-is-select T sound x in0 a pkg name notfound (nothing says))
     where
       says : (name ≡ Rattle.gospec.specs.Says.blank) ⊎ (((ps : List ℕ) (m : Member) (b : Bool) → Denotes T (OneStar T) name pkg x ps m b → ⊥) × (Several T (OneStar T) name pkg x → ⊥))
       says =
@@ -66,7 +54,7 @@ module _ (T : Table) (sound : Sound T) (x : TypeKey) (in0 : x .0 < size T)
   pub text-is-go : Says T (Text T) name pkg x a (select T (identityFrom T pkg name) x a)
   text-is-go = selection-is-go T sound (Text T) x in0 (as-text T x single) a pkg name
 
-  pub go-is-text : (r : Selected) → Says T (Text T) name pkg x a r → forget r ≡ forget (select T (identityFrom T pkg name) x a)
+  pub go-is-text : (r : Selected) → Says T (Text T) name pkg x a r → Alike r (select T (identityFrom T pkg name) x a)
   go-is-text = go-is-selection T sound (Text T) x in0 (as-text T x single) a pkg name
 
 -- ---- a table in which they part
@@ -101,6 +89,7 @@ star-selects = refl
 says-field : {T : Table} {R : TypeKey → Type 0} {name : Bytes} {pkg : Option PackageKey} {x : TypeKey} {a b : Bool} {m : Member} {ps : List ℕ} → Says T R name pkg x a (entry m b ps) → Denotes T R name pkg x ps m b
 says-field (legal-field m n d i) = d
 says-field (legal-method m n d i c) = d
+says-field (not-one n d e) = clash e refl
 
 star-denotes : Denotes starred (Text starred) (ascii "X") none (typeKey 3) (0 ∷ []) X true
 unfolding kindAt

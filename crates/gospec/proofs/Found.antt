@@ -1,6 +1,6 @@
 -- What is found in a type: the ways of the table's graph are the occurrences of the Go spec, so that `select` tells none, one or several of them.
 use mathlib.Core.Path.{_≡_, refl, sym, ap, _∙_, subst}
-use mathlib.Core.Bool.{Bool, false, cond, not, _&&_, _||_}
+use mathlib.Core.Bool.{Bool, true, false, _||_}
 use mathlib.Core.List.{List, [], _∷_, _++_, append-assoc}
 use mathlib.Core.Logic.{_⊎_, inl, inr}
 use mathlib.Core.Option.{Option}
@@ -9,13 +9,13 @@ use native.Mathlib.Omega.{arith}
 use Rattle.objects.specs.Lists.{Bytes, In, Sorted}
 use Rattle.objects.specs.declared.TypeKey.{TypeKey}
 use Rattle.objects.specs.declared.PackageKey.{PackageKey}
-use Rattle.objects.specs.Table.{Table, size, Member, isEmbedded, hasPtr, Kind, Struct, Iface, Named, isPointer, isStruct, isIface, isNamed, fieldsOf, declaredOf, allMethodsOf, allMethods, kindAt, bare, pointerAt}
+use Rattle.objects.specs.Table.{Table, size, Member, isEmbedded, Kind, Struct, Iface, Named, isPointer, isStruct, isIface, isNamed, fieldsOf, declaredOf, allMethodsOf, allMethods, kindAt, bare, pointerAt}
 use Rattle.objects.proofs.ListLaws.{cases, clash, either, or-assoc, or-false, In-keep, In-append, In-append-l, In-append-r, In-map, In-flat, map-In-to, flat-In-to, keep-In-to}
 use Rattle.objects.proofs.KindLaws.{pointer-is, struct-is, iface-is, named-is, bare-plain, bare-pointer}
 use Rattle.text.specs.Bytes.{isBlank}
 use Rattle.rules.specs.Members.{Identity, identityFrom, identityOf, sameId}
 use Rattle.rules.specs.Sound.{Sound}
-use Rattle.rules.specs.Ways.{Place, placesFrom, Walk, Way, placesOf, Selected, notfound, badreceiver, entry, ambiguous, single, owned, fieldPlaces}
+use Rattle.rules.specs.Ways.{Place, placesFrom, Walk, Way, placesOf, Selected, notfound, isAmbiguous, received, single, owned, fieldPlaces}
 use Rattle.ways.specs.Graph.{Step, along, onward, walks, matching, ends, ways, judge, start, select}
 use Rattle.ways.specs.OfTable.{graph, stepOf}
 use Rattle.ways.proofs.Order.{before-irrefl}
@@ -195,7 +195,7 @@ module _ (T : Table) (name : Bytes) (pkg : Option PackageKey) where
 
 -- what a single occurrence is answered; o: a pointer was removed before
 abbrev pub outcome : Bool → Bool → List ℕ → Member → Bool → Selected
-outcome a o ps m b = cond (hasPtr (m .entity) && not (o || b) && not a) badreceiver (entry m (o || b) ps)
+outcome a o ps m b = received a m (o || b) ps
 
 module _ (T : Table) (sound : Sound T) (name : Bytes) (pkg : Option PackageKey) (nb : isBlank (asked T name pkg .name) ≡ false) (t : TypeKey) (in0 : t .0 < size T) (o : Bool) where
   abbrev pub Sel : Bool → Selected
@@ -214,7 +214,7 @@ module _ (T : Table) (sound : Sound T) (name : Bytes) (pkg : Option PackageKey) 
         → ((qs : List ℕ) (n : Member) (c : Bool) → Occ d qs n c → (qs ≡ ps) × ((a : Bool) → Sel a ≡ outcome a o qs n c)) → Found
     crowd : (d : ℕ) (ps : List ℕ) (m : Member) (b : Bool) (qs : List ℕ) (n : Member) (c : Bool) → Occ d ps m b → Occ d qs n c → (ps ≡ qs → ⊥)
         → ((e : ℕ) (qs : List ℕ) (n : Member) (c : Bool) → e < d → Occ e qs n c → ⊥)
-        → ((a : Bool) → (p : List ℕ) × (Sel a ≡ ambiguous p)) → Found
+        → ((a : Bool) → isAmbiguous (Sel a) ≡ true) → Found
 
   occurs-in : (d : ℕ) (ps : List ℕ) (m : Member) (b : Bool) → Occ d ps m b → (w : Way) × In w (here d) × Match T name pkg (start t o) w ps m b
   occurs-in d ps m b x = occurs-way T name pkg x (start t o) refl
@@ -253,7 +253,7 @@ module _ (T : Table) (sound : Sound T) (name : Bytes) (pkg : Option PackageKey) 
           let k = way-occurs T name pkg d (start t o) v (rw e (inr (inl refl))) in
           crowd d (r .0) (r .1) (r .2) (k .0) (k .1) (k .2) (r .3) (k .3) (λ z. apart d w v rest e (r .4 .places ∙ z ∙ sym (k .4 .places)))
           (λ j qs n c h. none-there j (l .none j h) qs n c)
-          (λ a. (_, least-is a d l ∙ ap (judge (graph T) a) e))
+          (λ a. ap isAmbiguous (least-is a d l ∙ ap (judge (graph T) a) e))
 
       go : ((d : ℕ) × Least (graph T) (asked T name pkg) (start t o) d) ⊎ ((j : ℕ) → here j ≡ []) → Found
       go (inl l) = at (l .0) (l .1) (here (l .0)) refl

@@ -19,11 +19,11 @@ use Rattle.rules.specs.Missing.{Lack, compared, unmetThere, unmetBy, unmet, fir
 use Rattle.rules.proofs.MemberLaws.{sameId-true, sameId-eq}
 use Rattle.rules.proofs.AscendLaws.{ascend-one}
 use Rattle.gospec.specs.GoSelectors.{underlying, Denotes, Callable, OneStar}
-use Rattle.gospec.specs.Says.{blank, Says, legal-field, legal-method, forget, Reading}
+use Rattle.gospec.specs.Says.{blank, Says, legal-field, legal-method, not-one, Reading}
 use Rattle.gospec.specs.GoImplements.{HasMethod, ListsMethod, Implements, an-element, a-subset}
 use Rattle.gospec.proofs.Names.{same-names}
 use Rattle.gospec.proofs.IdentityGo.{identical-is-go}
-use Rattle.gospec.proofs.SelectGo.{selection-is-go, go-is-selection, one-star}
+use Rattle.gospec.proofs.SelectGo.{selection-is-go, go-is-selection, one-star, alike-one}
 
 abbrev isNone : Option Bool → Bool
 isNone none = true
@@ -59,22 +59,11 @@ module _ (T : Table) where
   none-by : (m : Member) (r : Selected) → Meets m r → unmetBy T m r ≡ none
   none-by m r h = rw (h .is, h .method) (none-compared m (h .found) (h .same-type))
 
-unforget : (r : Selected) (m : Member) (flag : Bool) (places : List ℕ) → entry m flag places ≡ forget r → r ≡ entry m flag places
-unforget notfound m f p e = sym e
-unforget badreceiver m f p e = sym e
-unforget (entry n g q) m f p e = sym e
-unforget (ambiguous q) m f p e = clash refl (ap isEntry e)
-  where
-    isEntry : Selected → Bool
-    isEntry notfound = false
-    isEntry badreceiver = false
-    isEntry (entry n g q) = true
-    isEntry (ambiguous q) = false
-
 says-method : {T : Table} {R : TypeKey → Type 0} {name : Bytes} {pkg : Option PackageKey} {x : TypeKey} {a b : Bool} {ps : List ℕ} {m : Member}
     → Says T R name pkg x a (entry m b ps) → isMethod (m .entity) ≡ true → (name ≡ blank → ⊥) × Denotes T R name pkg x ps m b × Callable T a x ps m
 says-method (legal-field m n d f) h = clash h f
 says-method (legal-method m n d i c) h = (n, d, c)
+says-method (not-one n d e) h = clash e refl
 
 module _ (T : Table) (sound : Sound T) (R : TypeKey → Type 0) (t : TypeKey) (in0 : t .0 < size T) (rd : Reading T R t) where
   -- ---- t is no interface: "S with a 0 and the method's own package"
@@ -103,7 +92,7 @@ module _ (T : Table) (sound : Sound T) (R : TypeKey → Type 0) (t : TypeKey) (i
         found = h .found;
         flag = h .flag;
         places = h .places;
-        is = unforget (select T (identityOf T m) t false) (h .found) (h .flag) (h .places) (go-is-selection T sound R t in0 rd false (m .pkg) (m .name) (entry (h .found) (h .flag) (h .places)) (legal-method (h .found) (h .named) (h .denotes) (h .method) (h .callable)));
+        is = alike-one (entry (h .found) (h .flag) (h .places)) (select T (identityOf T m) t false) refl (go-is-selection T sound R t in0 rd false (m .pkg) (m .name) (entry (h .found) (h .flag) (h .places)) (legal-method (h .found) (h .named) (h .denotes) (h .method) (h .callable)));
         method = h .method;
         same-type = identical-is-go T sound (m .type) (h .found .type) .1 (h .same-type);
       })

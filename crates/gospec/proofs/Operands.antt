@@ -1,6 +1,6 @@
 -- Operands of a selector: which kinds they are of, that an operand's type and its shallowest depth are one, and what its selector denotes (`view`).
 use mathlib.Core.Path.{_≡_, refl, sym, ap, _∙_, subst}
-use mathlib.Core.Bool.{Bool, false, _||_}
+use mathlib.Core.Bool.{Bool, true, false, _||_}
 use mathlib.Core.List.{List}
 use mathlib.Core.Option.{Option}
 use Prim.Native.Nat.{ℕ, _<_}
@@ -14,7 +14,7 @@ use Rattle.objects.proofs.ListLaws.{clash}
 use Rattle.objects.proofs.KindLaws.{under-plain, under-named}
 use Rattle.text.specs.Bytes.{isBlank}
 use Rattle.rules.specs.Sound.{Sound}
-use Rattle.rules.specs.Ways.{Selected, notfound, ambiguous}
+use Rattle.rules.specs.Ways.{Selected, notfound, isAmbiguous}
 use Rattle.ways.specs.Graph.{select}
 use Rattle.ways.specs.OfTable.{graph}
 use Rattle.gospec.specs.Go.{At}
@@ -77,7 +77,7 @@ module _ (T : Table) where
       none-at : ((ps : List ℕ) (m : Member) (b : Bool) → Denotes T R name pkg y ps m b → ⊥) → (Several T R name pkg y → ⊥) → ((a : Bool) → sel a ≡ notfound) → View y t o sel f
       one-at : (ps : List ℕ) (m : Member) (d : ℕ) (c : Bool) → Denotes T R name pkg y ps m (o || c) → Occurs T name pkg t d ps m c → (Several T R name pkg y → ⊥)
           → ((qs : List ℕ) (n : Member) (e : Bool) → Denotes T R name pkg y qs n e → (g : Bool) × (e ≡ o || g) × Occurs T name pkg t d qs n g × ((a : Bool) → sel a ≡ outcome a f qs n g)) → View y t o sel f
-      many-at : Several T R name pkg y → ((ps : List ℕ) (m : Member) (b : Bool) → Denotes T R name pkg y ps m b → ⊥) → ((a : Bool) → (p : List ℕ) × (sel a ≡ ambiguous p)) → View y t o sel f
+      many-at : Several T R name pkg y → ((ps : List ℕ) (m : Member) (b : Bool) → Denotes T R name pkg y ps m b → ⊥) → ((a : Bool) → isAmbiguous (sel a) ≡ true) → View y t o sel f
 
     -- Denotes and Several of an operand, taken apart
     pub record Core (t : TypeKey) (ps : List ℕ) (m : Member) (c : Bool) (o : Bool) : Type 0 where

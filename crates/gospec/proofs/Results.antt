@@ -13,7 +13,8 @@ use Rattle.objects.proofs.ListLaws.{cases, clash, either}
 use Rattle.text.specs.Bytes.{isBlank}
 use Rattle.rules.specs.Members.{identityOf}
 use Rattle.rules.specs.Sound.{Sound, Lower}
-use Rattle.rules.specs.Ways.{Selected, notfound, badreceiver, entry, ambiguous, noMethod}
+use Rattle.rules.specs.Ways.{Selected, notfound, badreceiver, entry, ambiguous, isAmbiguous, noMethod}
+use Rattle.rules.proofs.SelectedLaws.{no-method-ambiguous}
 use Rattle.rules.proofs.MemberLaws.{sameId-true}
 use Rattle.rules.proofs.AscendLaws.{lower-apart}
 use Rattle.ways.specs.Graph.{select}
@@ -21,7 +22,7 @@ use Rattle.ways.specs.OfTable.{graph}
 use Rattle.ways.proofs.TableLaws.{names-neither}
 use Rattle.gospec.specs.Go.{At, SameIds}
 use Rattle.gospec.specs.GoSelectors.{underlying, a-field, a-method, of-interface, embeds, Occurs, declared, promoted, Base, Operand, of-type, of-pointer, Denotes, shallowest, dynamic, shorthand, Several, several, several-shorthand, interface-set, Callable, in-set}
-use Rattle.gospec.specs.Says.{blank, Says, legal-field, legal-method, no-call, not-one, nothing, forget}
+use Rattle.gospec.specs.Says.{blank, Says, legal-field, legal-method, no-call, not-one, nothing, Alike}
 use Rattle.gospec.proofs.Names.{go-hit}
 use Rattle.gospec.proofs.Places.{At-In, at-head, at-tail}
 use Rattle.gospec.proofs.Found.{asked, outcome, Found, absent, alone, crowd, finds}
@@ -43,7 +44,7 @@ module _ (T : Table) (R : TypeKey → Type 0) (name : Bytes) (pkg : Option Packa
   pub data Result (r : Selected) : Type 0 where
     r-none : ((ps : List ℕ) (m : Member) (b : Bool) → Den ps m b → ⊥) → (Several T R name pkg x → ⊥) → r ≡ notfound → Result r
     r-one : (ps : List ℕ) (m : Member) (b : Bool) → Den ps m b → (Several T R name pkg x → ⊥) → ((qs : List ℕ) (n : Member) (c : Bool) → Den qs n c → Given T x a r qs n c) → Result r
-    r-many : (p : List ℕ) → Several T R name pkg x → ((ps : List ℕ) (m : Member) (b : Bool) → Den ps m b → ⊥) → r ≡ ambiguous p → Result r
+    r-many : Several T R name pkg x → ((ps : List ℕ) (m : Member) (b : Bool) → Den ps m b → ⊥) → isAmbiguous r ≡ true → Result r
 
   module _ (nb : name ≡ blank → ⊥) where
     pub result-says : (r : Selected) → Result r → Says T R name pkg x a r
@@ -53,24 +54,24 @@ module _ (T : Table) (R : TypeKey → Type 0) (name : Bytes) (pkg : Option Packa
         cases (isMethod (m .entity))
         (λ i. either (g .decides i) (λ c. rw (g .if-call i c) (legal-method m nb d i c)) (λ c. rw (g .if-not i c) (no-call m nb d i c)))
         (λ i. rw (g .if-field i) (legal-field m nb d i))
-    result-says r (r-many p s n e) = rw e (not-one nb s)
+    result-says r (r-many s n e) = not-one nb s e
 
-    pub says-result : (r u : Selected) → Result r → Says T R name pkg x a u → forget u ≡ forget r
+    pub says-result : (r u : Selected) → Result r → Says T R name pkg x a u → Alike u r
     says-result r u (r-none n s e) (legal-field m k d i) = absurd (n _ m _ d)
     says-result r u (r-none n s e) (legal-method m k d i c) = absurd (n _ m _ d)
     says-result r u (r-none n s e) (no-call m k d i c) = absurd (n _ m _ d)
-    says-result r u (r-none n s e) (not-one k z) = absurd (s z)
-    says-result r u (r-none n s e) (nothing z) = ap forget (sym e)
-    says-result r u (r-one ps m b d n f) (legal-field l k z i) = ap forget (sym (f _ l _ z .if-field i))
-    says-result r u (r-one ps m b d n f) (legal-method l k z i c) = ap forget (sym (f _ l _ z .if-call i c))
-    says-result r u (r-one ps m b d n f) (no-call l k z i c) = ap forget (sym (f _ l _ z .if-not i c))
-    says-result r u (r-one ps m b d n f) (not-one k z) = absurd (n z)
+    says-result r u (r-none n s e) (not-one k z y) = absurd (s z)
+    says-result r u (r-none n s e) (nothing z) = inl (sym e)
+    says-result r u (r-one ps m b d n f) (legal-field l k z i) = inl (sym (f _ l _ z .if-field i))
+    says-result r u (r-one ps m b d n f) (legal-method l k z i c) = inl (sym (f _ l _ z .if-call i c))
+    says-result r u (r-one ps m b d n f) (no-call l k z i c) = inl (sym (f _ l _ z .if-not i c))
+    says-result r u (r-one ps m b d n f) (not-one k z y) = absurd (n z)
     says-result r u (r-one ps m b d n f) (nothing z) = absurd (either z nb (λ w. w .0 ps m b d))
-    says-result r u (r-many p s n e) (legal-field m k d i) = absurd (n _ m _ d)
-    says-result r u (r-many p s n e) (legal-method m k d i c) = absurd (n _ m _ d)
-    says-result r u (r-many p s n e) (no-call m k d i c) = absurd (n _ m _ d)
-    says-result r u (r-many p s n e) (not-one k z) = rw e
-    says-result r u (r-many p s n e) (nothing z) = absurd (either z nb (λ w. w .1 s))
+    says-result r u (r-many s n e) (legal-field m k d i) = absurd (n _ m _ d)
+    says-result r u (r-many s n e) (legal-method m k d i c) = absurd (n _ m _ d)
+    says-result r u (r-many s n e) (no-call m k d i c) = absurd (n _ m _ d)
+    says-result r u (r-many s n e) (not-one k z y) = inr (y, e)
+    says-result r u (r-many s n e) (nothing z) = absurd (either z nb (λ w. w .1 s))
 
 -- an interface's methods ascend, so that no two places have one identity
 ascend-at : (T : Table) (l : List Member) → Sorted (Lower T) l → (i j : ℕ) (m n : Member) → At l i m → At l j n → identityOf T m ≡ identityOf T n → i ≡ j
@@ -113,7 +114,7 @@ module _ (T : Table) (sound : Sound T) (R : TypeKey → Type 0) (name : Bytes) (
       go : View T R name pkg x t o (λ a. sel t o a) o → Result T R name pkg x a (sel t o a)
       go (none-at n s e) = r-none n s (e a)
       go (one-at ps m d c z y n f) = r-one ps m (o || c) z n (λ qs l e k. let g = f qs l e k in given x t d o a (sel t o a) qs l e (g .0) w (g .2) (g .1) (g .3 a))
-      go (many-at s n e) = r-many (e a .0) s n (e a .1)
+      go (many-at s n e) = r-many s n (e a)
 
   -- ---- pointers to pointers and to interfaces: nothing
 
@@ -260,4 +261,4 @@ module _ (T : Table) (sound : Sound T) (R : TypeKey → Type 0) (name : Bytes) (
             let i = inner-denotes v in
             let j = f qs w (i .0) (i .3) in
             field-given (noMethod (sel e true a)) qs w b (i .1) (ap noMethod (j .3 a ∙ flagged a qs w (j .0)) ∙ kept w qs (i .1)) (i .2)))
-        go (many-at s n v) = r-many (v a .0) (several-shorthand k l ρ s) (λ ps m b d. let r = inner-denotes d in n ps m (r .0) (r .3)) (ap noMethod (v a .1))
+        go (many-at s n v) = r-many (several-shorthand k l ρ s) (λ ps m b d. let r = inner-denotes d in n ps m (r .0) (r .3)) (no-method-ambiguous (sel e true a) ∙ v a)

@@ -1,9 +1,9 @@
 -- SELECTION IS GO'S: what S answers is what the Go spec says of x.f, and of a call of it (`selection-is-go`), and the Go spec says nothing else but for the
--- places of `ambiguous` (`go-is-selection`). `select-is-go` and `go-is-select` are the two for document 01's reading of (*x).f, with no side condition.
+-- ways that `ambiguous` shows (`go-is-selection`). `select-is-go` and `go-is-select` are the two for document 01's reading of (*x).f, with no side condition.
 use mathlib.Core.Path.{_≡_, refl, sym, ap, _∙_, subst}
 use mathlib.Core.Bool.{Bool, true, false, cond}
 use mathlib.Core.List.{List}
-use mathlib.Core.Logic.{inl}
+use mathlib.Core.Logic.{inl, inr}
 use mathlib.Core.Option.{Option}
 use Prim.Native.Nat.{_<_}
 use Rattle.objects.specs.Lists.{Bytes}
@@ -16,11 +16,11 @@ use Rattle.text.specs.Bytes.{isBlank}
 use Rattle.text.proofs.ByteLaws.{same-refl, same-true}
 use Rattle.rules.specs.Members.{identityFrom}
 use Rattle.rules.specs.Sound.{Sound}
-use Rattle.rules.specs.Ways.{Selected, notfound, noMethod, searched, select}
+use Rattle.rules.specs.Ways.{Selected, notfound, isAmbiguous, noMethod, searched, select}
 use Rattle.ways.proofs.TableLaws.{base-in}
 use Rattle.ways.proofs.Selects.{select-says}
 use Rattle.gospec.specs.GoSelectors.{underlying, of-type, of-pointer, Base, OneStar, Text}
-use Rattle.gospec.specs.Says.{blank, Says, legal-field, legal-method, no-call, not-one, nothing, forget, Reading}
+use Rattle.gospec.specs.Says.{blank, Says, legal-field, legal-method, no-call, not-one, nothing, Alike, Reading}
 use Rattle.gospec.proofs.Found.{asked}
 use Rattle.gospec.proofs.Operands.{base-of}
 use Rattle.gospec.proofs.Results.{sel, Result, r-none, result-says, says-result, direct, star-denotes, star-several, dead-sel, faces, iface-several, inner-denotes, inner-several, no-field, short}
@@ -120,18 +120,18 @@ module _ (T : Table) (sound : Sound T) (R : TypeKey → Type 0) (x : TypeKey) (i
       (λ b. rw (nothing-blank b) (nothing (inl (blank-is name b))))
       (λ b. result-says T R name pkg x a (not-blank name b) (select T (identityFrom T pkg name) x a) (result b))
 
-  -- and nothing else, but for the places of `ambiguous`
-  pub go-is-selection : (r : Selected) → Says T R name pkg x a r → forget r ≡ forget (select T (identityFrom T pkg name) x a)
+  -- and nothing else, but for the ways that `ambiguous` shows
+  pub go-is-selection : (r : Selected) → Says T R name pkg x a r → Alike r (select T (identityFrom T pkg name) x a)
   go-is-selection r s =
       cases (isBlank name)
-      (λ b. blanks (blank-is name b) r s ∙ ap forget (sym (nothing-blank b)))
+      (λ b. inl (blanks (blank-is name b) r s ∙ sym (nothing-blank b)))
       (λ b. says-result T R name pkg x a (not-blank name b) (select T (identityFrom T pkg name) x a) r (result b) s)
     where
-      blanks : name ≡ blank → (r : Selected) → Says T R name pkg x a r → forget r ≡ notfound
+      blanks : name ≡ blank → (r : Selected) → Says T R name pkg x a r → r ≡ notfound
       blanks b r (legal-field m k d i) = absurd (k b)
       blanks b r (legal-method m k d i c) = absurd (k b)
       blanks b r (no-call m k d i c) = absurd (k b)
-      blanks b r (not-one k z) = absurd (k b)
+      blanks b r (not-one k z y) = absurd (k b)
       blanks b r (nothing z) = refl
 
 -- Document 01's reading: no more is asked.
@@ -149,5 +149,10 @@ module _ (T : Table) (sound : Sound T) (x : TypeKey) (in0 : x .0 < size T) (a : 
   pub select-is-go : Says T (OneStar T) name pkg x a (select T (identityFrom T pkg name) x a)
   select-is-go = selection-is-go T sound (OneStar T) x in0 (one-star T x) a pkg name
 
-  pub go-is-select : (r : Selected) → Says T (OneStar T) name pkg x a r → forget r ≡ forget (select T (identityFrom T pkg name) x a)
+  pub go-is-select : (r : Selected) → Says T (OneStar T) name pkg x a r → Alike r (select T (identityFrom T pkg name) x a)
   go-is-select = go-is-selection T sound (OneStar T) x in0 (one-star T x) a pkg name
+
+-- an answer that is not `ambiguous` is like itself alone
+pub alike-one : (r s : Selected) → isAmbiguous r ≡ false → Alike r s → s ≡ r
+alike-one r s h (inl e) = sym e
+alike-one r s h (inr e) = clash (e .0) h

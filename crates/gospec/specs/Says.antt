@@ -1,7 +1,7 @@
 -- What the Go spec says of the selector x.f and of the call x.f(), in document 01's words.
 use mathlib.Core.Path.{_≡_}
 use mathlib.Core.Bool.{Bool, true, false}
-use mathlib.Core.List.{List, []}
+use mathlib.Core.List.{List}
 use mathlib.Core.Logic.{_⊎_}
 use mathlib.Core.Option.{Option}
 use Prim.Native.Nat.{ℕ}
@@ -10,7 +10,7 @@ use Rattle.objects.specs.declared.TypeKey.{TypeKey}
 use Rattle.objects.specs.declared.PackageKey.{PackageKey}
 use Rattle.objects.specs.Table.{Table, Member, isMethod, isPointer, Named, Pointer, kindAt}
 use Rattle.text.specs.Bytes.{ascii}
-use Rattle.rules.specs.Ways.{Selected, notfound, badreceiver, entry, ambiguous}
+use Rattle.rules.specs.Ways.{Selected, notfound, badreceiver, entry, isAmbiguous}
 use Rattle.gospec.specs.GoSelectors.{underlying, Denotes, Several, Callable}
 
 -- "The identifier f is called the (field or method) selector; it must not be the blank identifier."
@@ -27,17 +27,14 @@ pub data Says (T : Table) (R : TypeKey → Type 0) (name : Bytes) (pkg : Option 
   -- x.f denotes a method, and the call is not valid
   no-call : {ps : List ℕ} {b : Bool} (m : Member) → (name ≡ blank → ⊥) → Denotes T R name pkg x ps m b → isMethod (m .entity) ≡ true → (Callable T a x ps m → ⊥)
       → Says T R name pkg x a badreceiver
-  -- illegal: more than one f with shallowest depth. Which places are given is document 01's own.
-  not-one : {p : List ℕ} → (name ≡ blank → ⊥) → Several T R name pkg x → Says T R name pkg x a (ambiguous p)
+  -- illegal: more than one f with shallowest depth. Which ways are shown is document 01's own.
+  not-one : {r : Selected} → (name ≡ blank → ⊥) → Several T R name pkg x → isAmbiguous r ≡ true → Says T R name pkg x a r
   -- illegal: the blank identifier, or x.f denotes nothing, and not because there are several
   nothing : (name ≡ blank) ⊎ (((ps : List ℕ) (m : Member) (b : Bool) → Denotes T R name pkg x ps m b → ⊥) × (Several T R name pkg x → ⊥)) → Says T R name pkg x a notfound
 
--- the answer without the places of `ambiguous`, of which the Go spec is silent
-abbrev pub forget : Selected → Selected
-forget notfound = notfound
-forget badreceiver = badreceiver
-forget (entry m flag places) = entry m flag places
-forget (ambiguous places) = ambiguous []
+-- one answer, but for the ways that `ambiguous` shows, of which the Go spec is silent
+abbrev pub Alike : Selected → Selected → Type 0
+Alike r s = (r ≡ s) ⊎ ((isAmbiguous r ≡ true) × (isAmbiguous s ≡ true))
 
 -- A reading of (*x).f that document 01 follows for x: of *x that is no pointer it is read, and of a pointer it is not.
 pub record Reading (T : Table) (R : TypeKey → Type 0) (x : TypeKey) : Type 0 where

@@ -1,8 +1,8 @@
 -- The disk incident as a growth: the text in which the catalogue embeds a cartridge too is the text in which it embeds a block writer alone, grown
--- (`disk-grown`), and the promise says what comes of `Close` (`disk-tied`).
+-- (`disk-grown`).
 use mathlib.Core.Path.{_≡_, refl, ap}
 use mathlib.Core.Bool.{true, false}
-use mathlib.Core.List.{List, [], _∷_, cons≢nil}
+use mathlib.Core.List.{[], _∷_}
 use mathlib.Core.Logic.{inl, inr}
 use mathlib.Core.Option.{some}
 use Prim.Native.Nat.{ℕ, zero, suc, _+_, _<_}
@@ -12,11 +12,8 @@ use Rattle.objects.specs.declared.ObjKey.{ObjKey}
 use Rattle.objects.specs.Table.{Table, typeKey, objKey, packageKey, Entity, Field, Method, Member, Tuple, Func, Struct, Iface, Named, Pointer, kindAt}
 use Rattle.text.specs.Bytes.{ascii}
 use Rattle.rules.specs.Load.{load, loaded}
-use Rattle.rules.specs.Question.{Question, askS}
-use Rattle.rules.specs.Ways.{ambiguous}
 use Rattle.rules.specs.Rows.{called}
 use Rattle.growth.specs.Grown.{Numbers, Grew, grew-tuple, grew-func, grew-iface, grew-pointer, grew-struct, grew-named, Grown, GrownTexts}
-use Rattle.growth.specs.Promise.{Shortest, oldName, newAnswer, PromiseS}
 use Rattle.growth.specs.Incident.{alone, both}
 use Rattle.growth.proofs.Shown.{free-by, shift, shift-in, type-own}
 use Rattle.growth.proofs.Promised.{grown}
@@ -64,7 +61,7 @@ catalogue = record {
 }
 
 -- two types are put in before type 4, a member before member 1 and one before member 2
-abbrev numbers : Numbers
+abbrev pub numbers : Numbers
 numbers = record { pk = λ p. p; ty = λ t. typeKey (shift 4 2 (t .0)); mem = λ m. objKey (m .0 + m .0) }
 
 grew-at : (t : ℕ) → t < 8 → Grew numbers writer (typeKey t) (kindAt writer (typeKey t)) (kindAt catalogue (typeKey (shift 4 2 t)))
@@ -100,24 +97,5 @@ unfolding called
 catalogue-loads = refl
 
 -- THE DISK INCIDENT IS A GROWTH
-pub disk-grown : GrownTexts alone both
+unfoldable pub disk-grown : GrownTexts alone both
 disk-grown = record { old = writer; new = catalogue; oldLoads = writer-loads; newLoads = catalogue-loads; numbers = numbers; grown = disk }
-
--- ---- what the promise says of it
-
-abbrev asked : Question
-asked = askS (typeKey 5) true (some (packageKey 0)) (ascii "Close")
-
-disk-promise : PromiseS numbers writer catalogue (typeKey 5) true (some (packageKey 0)) (ascii "Close")
-unfolding disk-grown
-disk-promise = grown alone both disk-grown asked refl
-
--- the old way has two places: the block writer's, and its `Close`
-disk-shortest : Shortest writer (oldName numbers writer catalogue (typeKey 5) true (some (packageKey 0)) (ascii "Close")) (typeKey 5) 1
-unfolding called
-disk-shortest = record { some = λ e. cons≢nil e; none = λ j h. let z : j ≡ 0 = omega arith in rw z }
-
--- the cartridge's is a new way, just as long: `Close` is ambiguous, by the promise and not by computing the answer
-pub disk-tied : (places : List ℕ) × (newAnswer numbers writer catalogue (typeKey 5) true (some (packageKey 0)) (ascii "Close") ≡ ambiguous places)
-unfolding called
-disk-tied = disk-promise .tied 1 disk-shortest (λ j h. let z : j ≡ 0 = omega arith in rw z) refl

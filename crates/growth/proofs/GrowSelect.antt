@@ -17,7 +17,8 @@ use Rattle.text.specs.Bytes.{isBlank}
 use Rattle.rules.specs.Members.{Identity}
 use Rattle.rules.specs.Sound.{Sound}
 use Rattle.rules.specs.Ways as rules
-use Rattle.rules.specs.Ways.{Way, placesOf, Selected, notfound, badreceiver, entry, ambiguous, noMethod}
+use Rattle.rules.specs.Ways.{Way, placesOf, Selected, notfound, badreceiver, entry, ambiguous, isAmbiguous, noMethod}
+use Rattle.rules.proofs.SelectedLaws.{no-method-ambiguous}
 use Rattle.rules.proofs.RangeLaws.{under-in}
 use Rattle.ways.specs.Graph.{Graph, ways, start, select}
 use Rattle.ways.specs.OfTable.{graph}
@@ -51,9 +52,15 @@ post-carry n true (entry m f l) = cases (isMethod (m .entity)) (λ e. rw e) (λ 
 post-carry n true (ambiguous l) = refl
 post-carry n false r = refl
 
-post-ambiguous : (b : Bool) (p : List ℕ) → post b (ambiguous p) ≡ ambiguous p
-post-ambiguous true p = refl
-post-ambiguous false p = refl
+post-ambiguous : (b : Bool) (r : Selected) → isAmbiguous (post b r) ≡ isAmbiguous r
+post-ambiguous true r = no-method-ambiguous r
+post-ambiguous false r = refl
+
+carry-ambiguous : (n : Numbers) (r : Selected) → isAmbiguous (carrySelected n r) ≡ isAmbiguous r
+carry-ambiguous n notfound = refl
+carry-ambiguous n badreceiver = refl
+carry-ambiguous n (entry m f l) = refl
+carry-ambiguous n (ambiguous l) = refl
 
 post-notfound : (b : Bool) → post b notfound ≡ notfound
 post-notfound true = refl
@@ -194,14 +201,14 @@ module _ (n : Numbers) (A B : Table) (soundA : Sound A) (soundB : Sound B) (g : 
           ∙ post-carry n (namedPointer A t) (select G q s f a)
           ∙ ap (carrySelected n) (sym answer-A)
 
-      open-tied : (d : ℕ) → Shortest A q t d → ((j : ℕ) → j < d → newWay n A B r t j ≡ false) → newWay n A B r t d ≡ true → (places : List ℕ) × (rules.select B r (n .ty t) a ≡ ambiguous places)
+      open-tied : (d : ℕ) → Shortest A q t d → ((j : ℕ) → j < d → newWay n A B r t j ≡ false) → newWay n A B r t d ≡ true → isAmbiguous (rules.select B r (n .ty t) a) ≡ true
       open-tied d l none-new is-new =
           let m : Least H q (start (n .ty s) f) d = record {
             some = λ z. clash (new-way d true is-new) (ap (any (isNew n A)) z);
             none = λ j k. carried j (none-new j k) ∙ ap (map (carryWay n)) (least-A d l .none j k);
           } in
           let p = tied n (isAdded n A) G H q (lawful A soundA) (lawful B soundB) (closed A soundA) (closed B soundB) (keyed A soundA q nb) (keyed B soundB q nb) (grows n A B soundA soundB g q) s inG inH f a d (least-A d l) m (new-way d true is-new) in
-          (p .0, answer-B ∙ ap (post (namedPointer A t)) (p .1) ∙ post-ambiguous (namedPointer A t) (p .0))
+          ap isAmbiguous answer-B ∙ post-ambiguous (namedPointer A t) (select H q (n .ty s) f a) ∙ p
 
       -- what is given is a shortest way of the new table, so it is shorter than the old way
       open-overtaken : (d i : ℕ) → Shortest A q t d → i < d → newWay n A B r t i ≡ true → (w : Way) → In w (waysOf A q t d) → Gives (rules.select B r (n .ty t) a) (placesOf w) → ⊥
@@ -232,9 +239,9 @@ module _ (n : Numbers) (A B : Table) (soundA : Sound A) (soundB : Sound B) (g : 
         same = open-same q r e a z;
         tied = open-tied q r e a z;
         overtaken = open-overtaken q r e a z;
-        stillAmbiguous = λ d l none-new places amb. cases (newWay n A B r t d)
+        stillAmbiguous = λ d l none-new amb. cases (newWay n A B r t d)
             (λ y. open-tied q r e a z d l none-new y)
-            (λ y. (places, open-same q r e a z d l (λ j k. elim (decLt j d) [ yes c ↦ none-new j c | no c ↦ let same : j ≡ d = omega arith in rw same y ]) ∙ ap (carrySelected n) amb));
+            (λ y. ap isAmbiguous (open-same q r e a z d l (λ j k. elim (decLt j d) [ yes c ↦ none-new j c | no c ↦ let same : j ≡ d = omega arith in rw same y ])) ∙ carry-ambiguous n (rules.select A q t a) ∙ amb);
         stillNotfound = open-absent q r e a z;
       })
     where
@@ -255,6 +262,6 @@ module _ (n : Numbers) (A B : Table) (soundA : Sound A) (soundB : Sound B) (g : 
             same = λ d l none-new. absurd (l .some (none d));
             tied = λ d l none-new y. absurd (l .some (none d));
             overtaken = λ d i l lt y w k given. l .some (none d);
-            stillAmbiguous = λ d l none-new places amb. absurd (l .some (none d));
+            stillAmbiguous = λ d l none-new amb. absurd (l .some (none d));
             stillNotfound = λ y none-new. select-shut B r (n .ty t) a (shut-kept q r e a ∙ z);
           }

@@ -13,7 +13,8 @@ use Rattle.objects.specs.declared.TypeKey.{TypeKey}
 use Rattle.objects.specs.declared.ObjKey.{ObjKey}
 use Rattle.objects.specs.Table.{hasPtr}
 use Rattle.rules.specs.Members.{Identity}
-use Rattle.rules.specs.Ways.{Place, Walk, Way, badreceiver, entry, ambiguous, single, placesOf, memberOf}
+use Rattle.rules.specs.Ways as rules
+use Rattle.rules.specs.Ways.{Place, Walk, Way, badreceiver, entry, isAmbiguous, single, placesOf, memberOf}
 use Rattle.ways.specs.Graph.{Graph, Step, along, onward, walks, matching, ends, ways, judge, start, select}
 use Rattle.ways.proofs.Order.{long}
 use Rattle.ways.proofs.Merge.{Lawful}
@@ -153,12 +154,16 @@ module _ (n : Numbers) (added : ObjKey → Bool) (G H : Graph) (q : Identity) (c
 
 -- ---- the answers
 
+only : {x y : List ℕ} → In x (y ∷ []) → y ≡ x
+only (inl e) = sym e
+only (inr i) = absurd i
+
 single-gives : (a : Bool) (w : Way) (p : List ℕ) → Gives (single a w) p → placesOf w ≡ p
 single-gives a w p = go (hasPtr (memberOf w .entity) && not (w .walk .flag) && not a)
   where
     go : (b : Bool) → Gives (cond b badreceiver (entry (memberOf w) (w .walk .flag) (placesOf w))) p → placesOf w ≡ p
     go true h = absurd h
-    go false h = h
+    go false h = only h
 
 -- an answer's places are those of one of the ways that are judged
 pub judge-gives : (G : Graph) (a : Bool) (ws : List Way) (p : List ℕ) → Gives (judge G a ws) p → (w : Way) × In w ws × (placesOf w ≡ p)
@@ -166,8 +171,8 @@ judge-gives G a [] p h = absurd h
 judge-gives G a (w ∷ []) p h = (w, inl refl, single-gives a w p h)
 judge-gives G a (w ∷ v ∷ rest) p h =
     cases (any (λ x. G .same (w .walk .at) (x .walk .at)) (v ∷ rest))
-    (λ e. (w, inl refl, rw e at h))
-    (λ e. (v, inr (inl refl), rw e at h))
+    (λ e. (w, inl refl, only (rw e at h)))
+    (λ e. (v, inr (inl refl), only (rw e at h)))
 
 pub way-long : (G : Graph) (q : Identity) (t : TypeKey) (f : Bool) (d : ℕ) (w : Way) → In w (ways G q (start t f) d) → length (placesOf w) ≡ suc d
 way-long G q t f d w i =
@@ -194,13 +199,13 @@ judge-carry : (n : Numbers) (G H : Graph) (a : Bool) (ws : List Way) → ((x y :
 judge-carry n G H a [] s = refl
 judge-carry n G H a (w ∷ []) s = single-carry n a w
 judge-carry n G H a (w ∷ v ∷ rest) s =
-    ap (λ b. ambiguous (cond b (placesOf w) (placesOf v)))
+    ap (λ b. rules.tied b w v)
     (any-map (λ (x : Way). H .same (n .ty (w .walk .at)) (x .walk .at)) (carryWay n) (v ∷ rest) ∙ any-In-ext _ _ (v ∷ rest) (λ x i. s w x (inl refl) (inr i)))
 
-judge-two : (G : Graph) (a : Bool) (p : Way → Bool) (ws : List Way) → any p ws ≡ true → any (λ w. not (p w)) ws ≡ true → (places : List ℕ) × (judge G a ws ≡ ambiguous places)
+judge-two : (G : Graph) (a : Bool) (p : Way → Bool) (ws : List Way) → any p ws ≡ true → any (λ w. not (p w)) ws ≡ true → isAmbiguous (judge G a ws) ≡ true
 judge-two G a p [] h k = clash h refl
 judge-two G a p (w ∷ []) h k = cases (p w) (λ e. clash k (rw e)) (λ e. clash h (rw e))
-judge-two G a p (w ∷ v ∷ rest) h k = (_, refl)
+judge-two G a p (w ∷ v ∷ rest) h k = refl
 
 module _ (n : Numbers) (added : ObjKey → Bool) (G H : Graph) (q : Identity) (lawG : Lawful G) (lawH : Lawful H) (clG : Closed G) (clH : Closed H) (kdG : Keyed G q) (kdH : Keyed H q) (g : Grows n added G H q)
     (t : TypeKey) (in0 : t .0 < G .size) (inH : n .ty t .0 < H .size) (f a : Bool) where
@@ -226,7 +231,7 @@ module _ (n : Numbers) (added : ObjKey → Bool) (G H : Graph) (q : Identity) (l
       ∙ ap (carrySelected n) (sym (select-least G lawG clG t in0 f a q kdG d l))
 
   -- A NEW WAY IS AS SHORT AS THE OLD, none shorter: ambiguous.
-  pub tied : (d : ℕ) → Least G q (start t f) d → Least H q (start (n .ty t) f) d → new n added G H q clG g t f in0 d ≡ true → (places : List ℕ) × (select H q (n .ty t) f a ≡ ambiguous places)
+  pub tied : (d : ℕ) → Least G q (start t f) d → Least H q (start (n .ty t) f) d → new n added G H q clG g t f in0 d ≡ true → isAmbiguous (select H q (n .ty t) f a) ≡ true
   tied d l m e =
-      let r = judge-two H a (usesNew added) (ways H q (start (n .ty t) f) d) e (old-there n added G H q clG g t f in0 d l) in
-      (r .0, select-least H lawH clH (n .ty t) inH f a q kdH d m ∙ r .1)
+      ap isAmbiguous (select-least H lawH clH (n .ty t) inH f a q kdH d m)
+      ∙ judge-two H a (usesNew added) (ways H q (start (n .ty t) f) d) e (old-there n added G H q clG g t f in0 d l)

@@ -18,7 +18,7 @@ use Rattle.growth.proofs.Disk.{line, writer, catalogue, writer-loads, c
 
 -- ---- a package and a type in front, and a method of the block writer: P, T and M lines
 
-abbrev flushing : Table
+abbrev pub flushing : Table
 flushing = record {
   packages = ascii "office" ∷ ascii "disk" ∷ [];
   types =
@@ -36,10 +36,10 @@ flushing = record {
   memberLines = 9 ∷ 10 ∷ 12 ∷ 16 ∷ [];
 }
 
-abbrev moved : Numbers
+abbrev pub moved : Numbers
 moved = record { pk = λ p. packageKey (suc (p .0)); ty = λ t. typeKey (suc (t .0)); mem = λ m. objKey (shift 1 1 (m .0)) }
 
-flushing-grew : (t : ℕ) → t < 8 → Grew moved writer (typeKey t) (kindAt writer (typeKey t)) (kindAt flushing (typeKey (suc t)))
+pub flushing-grew : (t : ℕ) → t < 8 → Grew moved writer (typeKey t) (kindAt writer (typeKey t)) (kindAt flushing (typeKey (suc t)))
 unfolding kindAt
 flushing-grew zero h = grew-tuple
 flushing-grew (suc zero) h = grew-func
@@ -51,11 +51,11 @@ flushing-grew (suc (suc (suc (suc (suc (suc zero)))))) h = grew-pointer
 flushing-grew (suc (suc (suc (suc (suc (suc (suc zero))))))) h = grew-iface
 flushing-grew (suc (suc (suc (suc (suc (suc (suc (suc t)))))))) h = absurd (omega arith)
 
-flushing-loads : load elsewhere ≡ loaded flushing
+pub flushing-loads : load elsewhere ≡ loaded flushing
 unfolding called
 flushing-loads = refl
 
-pub elsewhere-grown : GrownTexts alone elsewhere
+unfoldable pub elsewhere-grown : GrownTexts alone elsewhere
 elsewhere-grown = record {
   old = writer;
   new = flushing;
@@ -76,7 +76,7 @@ elsewhere-grown = record {
 
 -- ---- the catalogue's own `Close`: an M line at the end of a named type
 
-abbrev closing : Table
+abbrev pub closing : Table
 closing = record {
   packages = ascii "disk" ∷ [];
   types =
@@ -94,10 +94,10 @@ closing = record {
 }
 
 -- only members from a number on move up, by one
-abbrev from : ℕ → Numbers
+abbrev pub from : ℕ → Numbers
 from k = record { pk = λ p. p; ty = λ t. t; mem = λ m. objKey (shift k 1 (m .0)) }
 
-closing-grew : (t : ℕ) → t < 8 → Grew (from 2) writer (typeKey t) (kindAt writer (typeKey t)) (kindAt closing (typeKey t))
+pub closing-grew : (t : ℕ) → t < 8 → Grew (from 2) writer (typeKey t) (kindAt writer (typeKey t)) (kindAt closing (typeKey t))
 unfolding kindAt
 closing-grew zero h = grew-tuple
 closing-grew (suc zero) h = grew-func
@@ -109,11 +109,11 @@ closing-grew (suc (suc (suc (suc (suc (suc zero)))))) h = grew-pointer
 closing-grew (suc (suc (suc (suc (suc (suc (suc zero))))))) h = grew-iface
 closing-grew (suc (suc (suc (suc (suc (suc (suc (suc t)))))))) h = absurd (omega arith)
 
-closing-loads : load own ≡ loaded closing
+pub closing-loads : load own ≡ loaded closing
 unfolding called
 closing-loads = refl
 
-pub own-grown : GrownTexts alone own
+unfoldable pub own-grown : GrownTexts alone own
 own-grown = record {
   old = writer;
   new = closing;
@@ -134,7 +134,7 @@ own-grown = record {
 
 -- ---- a third type that the catalogue embeds: T lines with theirs, and an F line
 
-abbrev taping : Table
+abbrev pub taping : Table
 taping = record {
   packages = ascii "disk" ∷ [];
   types =
@@ -155,7 +155,7 @@ taping = record {
   memberLines = 7 ∷ 10 ∷ 12 ∷ 13 ∷ 14 ∷ 18 ∷ 21 ∷ [];
 }
 
-taping-grew : (t : ℕ) → t < 10 → Grew (from 4) catalogue (typeKey t) (kindAt catalogue (typeKey t)) (kindAt taping (typeKey t))
+pub taping-grew : (t : ℕ) → t < 10 → Grew (from 4) catalogue (typeKey t) (kindAt catalogue (typeKey t)) (kindAt taping (typeKey t))
 unfolding kindAt
 taping-grew zero h = grew-tuple
 taping-grew (suc zero) h = grew-func
@@ -169,11 +169,11 @@ taping-grew (suc (suc (suc (suc (suc (suc (suc (suc zero)))))))) h = grew-pointe
 taping-grew (suc (suc (suc (suc (suc (suc (suc (suc (suc zero))))))))) h = grew-iface
 taping-grew (suc (suc (suc (suc (suc (suc (suc (suc (suc (suc t)))))))))) h = absurd (omega arith)
 
-taping-loads : load three ≡ loaded taping
+pub taping-loads : load three ≡ loaded taping
 unfolding called
 taping-loads = refl
 
-pub three-grown : GrownTexts both three
+unfoldable pub three-grown : GrownTexts both three
 three-grown = record {
   old = catalogue;
   new = taping;

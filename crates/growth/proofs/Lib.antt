@@ -9,3 +9,5 @@ pub mod Computed
 pub mod Shown
 pub mod Disk
 pub mod Growths
+pub mod Instances
+pub mod Cases

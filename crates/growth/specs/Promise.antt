@@ -12,7 +12,7 @@ use Rattle.objects.specs.declared.PackageKey.{PackageKey}
 use Rattle.objects.specs.Table.{Table, Member, under, bare, pointerAt, ifaceUnder, namedPointer, allMethods}
 use Rattle.text.specs.Bytes.{isBlank}
 use Rattle.rules.specs.Members.{Identity, identityFrom, identityOf}
-use Rattle.rules.specs.Ways.{Way, placesOf, memberOf, Selected, notfound, badreceiver, entry, ambiguous, ways, select}
+use Rattle.rules.specs.Ways.{Way, placesOf, memberOf, Selected, notfound, badreceiver, entry, ambiguous, isAmbiguous, given, ways, select}
 use Rattle.rules.specs.Missing.{missing}
 use Rattle.rules.specs.Question.{Question, askS, askM, askN, askI, askC, askV}
 use Rattle.growth.specs.Grown.{Numbers, carryPkg, carryMember, isAdded}
@@ -54,10 +54,7 @@ carrySelected n (ambiguous places) = ambiguous places
 
 -- the answer has these places; "not given, that the answer has other places or none"
 abbrev pub Gives : Selected → List ℕ → Type 0
-Gives notfound places = ⊥
-Gives badreceiver places = ⊥
-Gives (entry m flag given) places = given ≡ places
-Gives (ambiguous given) places = given ≡ places
+Gives s places = In places (given s)
 
 -- ---- S
 
@@ -87,11 +84,11 @@ module _ (n : Numbers) (A B : Table) where
       -- no new way is as short as the old way or shorter: the answer is the same, whether `entry`, `badreceiver` or another
       pub same : (d : ℕ) → Shortest A oldName t d → ((j : ℕ) → j ≤ d → newWay newName t j ≡ false) → newAnswer ≡ carrySelected n oldAnswer
       -- a new way is just as long, and none is shorter: `ambiguous`
-      pub tied : (d : ℕ) → Shortest A oldName t d → ((j : ℕ) → j < d → newWay newName t j ≡ false) → newWay newName t d ≡ true → (places : List ℕ) × (newAnswer ≡ ambiguous places)
+      pub tied : (d : ℕ) → Shortest A oldName t d → ((j : ℕ) → j < d → newWay newName t j ≡ false) → newWay newName t d ≡ true → isAmbiguous newAnswer ≡ true
       -- a new way is shorter: the old way is not given
       pub overtaken : (d e : ℕ) → Shortest A oldName t d → e < d → newWay newName t e ≡ true → (w : Way) → In w (waysOf A oldName t d) → Gives newAnswer (placesOf w) → ⊥
       -- `ambiguous` stays where no new way is shorter
-      pub stillAmbiguous : (d : ℕ) → Shortest A oldName t d → ((j : ℕ) → j < d → newWay newName t j ≡ false) → (places : List ℕ) → oldAnswer ≡ ambiguous places → (places : List ℕ) × (newAnswer ≡ ambiguous places)
+      pub stillAmbiguous : (d : ℕ) → Shortest A oldName t d → ((j : ℕ) → j < d → newWay newName t j ≡ false) → isAmbiguous oldAnswer ≡ true → isAmbiguous newAnswer ≡ true
       -- `notfound` stays where there is no new way
       pub stillNotfound : oldAnswer ≡ notfound → ((j : ℕ) → newWay newName t j ≡ false) → newAnswer ≡ notfound
 

@@ -1,15 +1,15 @@
 -- The rows of a level whose type has the name, and what the first of them gives.
 use mathlib.Core.Path.{_≡_}
-use mathlib.Core.Bool.{Bool, true, cond, not, _&&_}
+use mathlib.Core.Bool.{Bool, true, cond}
 use mathlib.Core.List.{List, [], _∷_}
 use Prim.Native.Nat.{ℕ, suc, _-_, _≤_, _<_}
 use Rattle.objects.specs.Lists.{Bytes, keep}
 use Rattle.objects.specs.declared.ObjKey.{ObjKey}
-use Rattle.objects.specs.Table.{Table, hasPtr}
+use Rattle.objects.specs.Table.{Table}
 use Rattle.objects.specs.Rows.{Words, memberAt, tableOf, typeCount}
 use Rattle.objects.specs.Types.{memberTypeRead}
 use Rattle.rules.specs.Members.{Identity}
-use Rattle.rules.specs.Ways.{Way, Selected, badreceiver, entry, ambiguous, single, placesOf, hasOwn, matching}
+use Rattle.rules.specs.Ways.{Way, Selected, received, single, tied, hasOwn, matching}
 use Rattle.ways.specs.Levels.{firstOf}
 use Rattle.ways.specs.Search.{typ, range}
 use Rattle.selection.specs.declared.LookupResult.{LookupResult}
@@ -54,12 +54,12 @@ wayTo T q ws f d i = record {
 
 -- row i of level d is the first that has the name, `others` are those behind it
 unfoldable pub judgedRow : Table → Identity → Words → Bool → Bool → ℕ → ℕ → List ℕ → Selected
-judgedRow T q ws f a d i [] = cond (rowOf ws i .multiples) (ambiguous (placesOf (wayTo T q ws f d i))) (single a (wayTo T q ws f d i))
-judgedRow T q ws f a d i (j ∷ others) = ambiguous (cond (rowOf ws i .multiples) (placesOf (wayTo T q ws f d i)) (placesOf (wayTo T q ws f d j)))
+judgedRow T q ws f a d i [] = cond (rowOf ws i .multiples) (tied true (wayTo T q ws f d i) (wayTo T q ws f d i)) (single a (wayTo T q ws f d i))
+judgedRow T q ws f a d i (j ∷ others) = tied (rowOf ws i .multiples) (wayTo T q ws f d i) (wayTo T q ws f d j)
 
 -- "One shortest way": what the member m, the flag and the places give
 unfoldable pub alone : Bytes → Words → ObjKey → Bool → Bool → List ℕ → Selected
-alone text rows m flag a places = cond (hasPtr (memberAt text rows m .entity) && not flag && not a) badreceiver (entry (memberAt text rows m) flag places)
+alone text rows m flag a places = received a (memberAt text rows m) flag places
 
 -- the result for one shortest way, whatever its places
 pub record Alone (text : Bytes) (rows : Words) (m : ObjKey) (flag a : Bool) (r : LookupResult) : Type 0 where

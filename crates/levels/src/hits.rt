@@ -3,7 +3,7 @@ ghost use mathlib.Core.Path.{_≡_};
 ghost use mathlib.Core.Bool.{true};
 ghost use Prim.Native.Nat.{_≤_};
 ghost use Rattle.objects.specs.Table.{hasPackage};
-ghost use Rattle.objects.specs.Rows.{pkgOf, tableOf, typeCount};
+ghost use Rattle.objects.specs.Rows.{packageMeant, tableOf, typeCount};
 ghost use Rattle.rules.specs.Library.{Library};
 ghost use Rattle.selection.specs.Results.{nameMeant};
 ghost use Rattle.level_rows.specs.State.{Rowed};
@@ -26,7 +26,7 @@ pub fn next_hit(
     n: usize,
 ) -> Hit
     requires { ⌜ Library (now text) (now rows) ⌝ }
-    requires { ⌜ (lo ≤ n) × (hasPackage (tableOf (now text) (now rows)) (pkgOf (q .pkg)) ≡ true) ⌝ }
+    requires { ⌜ (lo ≤ n) × (hasPackage (tableOf (now text) (now rows)) (packageMeant (q .pkg)) ≡ true) ⌝ }
     requires { ⌜ Rowed (typeCount (now rows)) (now search) n ⌝ }
     ensures { λ r. ⌜ Told (now (text .entry)) (now (rows .entry)) (nameMeant (now (text .entry)) (now (rows .entry)) (now (names .entry)) q) (now (search .entry)) lo n r ⌝ }
 {

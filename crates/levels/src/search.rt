@@ -5,7 +5,7 @@ ghost use Prim.Native.Nat.{suc, _<_, _≤_};
 ghost use lib.ListN.{length, replicate};
 ghost use Rattle.objects.specs.Bounds.{markWords, searchWords, maxPlaces};
 ghost use Rattle.objects.specs.Table.{hasPackage};
-ghost use Rattle.objects.specs.Rows.{pkgOf, tableOf, typeCount};
+ghost use Rattle.objects.specs.Rows.{packageMeant, tableOf, typeCount};
 ghost use Rattle.rules.specs.Library.{Library};
 ghost use Rattle.ways.specs.OfTable.{graph};
 ghost use Rattle.ways.specs.Search.{lookup-rows};
@@ -73,7 +73,7 @@ fn verdict(
     m: ObjKey,
 ) -> Selection
     requires { ⌜ Library (now text) (now rows) ⌝ }
-    requires { ⌜ (d < maxPlaces) × (maxPlaces ≤ length (now places)) × (i < n) × (hasPackage (tableOf (now text) (now rows)) (pkgOf (q .pkg)) ≡ true) ⌝ }
+    requires { ⌜ (d < maxPlaces) × (maxPlaces ≤ length (now places)) × (i < n) × (hasPackage (tableOf (now text) (now rows)) (packageMeant (q .pkg)) ≡ true) ⌝ }
     requires { ⌜ Rowed (typeCount (now rows)) (now search) n ⌝ }
     requires { ⌜ OwnAt (now text) (now rows) (nameMeant (now text) (now rows) (now names) q) (now search) i place m ⌝ }
     ensures { λ r. ⌜ Selects (now (text .entry)) (now (rows .entry)) r (now (places .exit)) (judgedRow (tableOf (now (text .entry)) (now (rows .entry))) (nameMeant (now (text .entry)) (now (rows .entry)) (now (names .entry)) q) (now (search .entry)) f a d i (hitsIn (tableOf (now (text .entry)) (now (rows .entry))) (nameMeant (now (text .entry)) (now (rows .entry)) (now (names .entry)) q) (now (search .entry)) (suc i) n)) ⌝ }
@@ -129,7 +129,7 @@ pub fn search(
     a: bool,
 ) -> Selection
     requires { ⌜ Library (now text) (now rows) ⌝ }
-    requires { ⌜ (t .0 < typeCount (now rows)) × (hasPackage (tableOf (now text) (now rows)) (pkgOf (q .pkg)) ≡ true) ⌝ }
+    requires { ⌜ (t .0 < typeCount (now rows)) × (hasPackage (tableOf (now text) (now rows)) (packageMeant (q .pkg)) ≡ true) ⌝ }
     requires { ⌜ (markWords ≤ length (now marks)) × (searchWords ≤ length (now search)) × (maxPlaces ≤ length (now places)) ⌝ }
     requires { ⌜ now marks ≡ replicate (length (now marks)) 0 ⌝ }
     ensures { λ r. ⌜ Selects (now (text .entry)) (now (rows .entry)) r (now (places .exit)) (lookup-rows (graph (tableOf (now (text .entry)) (now (rows .entry)))) (nameMeant (now (text .entry)) (now (rows .entry)) (now (names .entry)) q) t f a) ⌝ }

@@ -7,9 +7,10 @@ use Prim.Native.Nat.{ℕ, _≤_}
 use native.Mathlib.Omega.{arith}
 use Rattle.objects.specs.declared.TypeKey.{TypeKey}
 use Rattle.objects.specs.declared.PackageKey.{PackageKey}
+use Rattle.objects.specs.declared.«Package».{«Package»}
 use Rattle.objects.specs.Lists.{Bytes, empty, mapped}
 use Rattle.objects.specs.Table.{typeKey}
-use Rattle.objects.specs.Rows.{bytesAt, pkgOf}
+use Rattle.objects.specs.Rows.{bytesAt, packageMeant}
 use Rattle.objects.proofs.ListLaws.{cases, clash}
 use Rattle.text.specs.declared.Cursor.{Cursor}
 use Rattle.text.specs.declared.Past.{Past}
@@ -22,11 +23,12 @@ use Rattle.text.proofs.AnswerLaws.{past-on, past-out, none-some, exactly-some}
 use Rattle.rules.specs.Forms.{Line}
 use Rattle.line_forms.specs.declared.Small.{Small}
 use Rattle.line_forms.specs.declared.Piece.{Piece}
+use Rattle.line_forms.specs.declared.Packaged.{Packaged}
 use Rattle.line_forms.specs.declared.Typed.{Typed}
 use Rattle.line_forms.specs.declared.Form.{Form}
 use Rattle.line_forms.specs.Steps.{next, ended, tried}
 use Rattle.line_forms.specs.Weights.{weight}
-use Rattle.line_forms.specs.Forms.{smallRead, pieceRead, packageRead, typedRead, formMeant, formRead}
+use Rattle.line_forms.specs.Forms.{smallRead, pieceRead, packagedRead, typedRead, formMeant, formRead}
 
 -- ---- one step
 
@@ -49,14 +51,14 @@ module _ (s : Bytes) {B : Type 0} where
     unfolding smallRead
     small-out q = next-out f (sym p ∙ ap (smallRead s) q)
 
-  module _ (f : Option PackageKey → List Bytes → Option B) {r : Small} {y : Option (Option PackageKey × List Bytes)} (p : packageRead s r ≡ y) where
-    pub package-on : {v : ℕ} {c : Cursor} → r ≡ Small.Value v c → next y f ≡ f (pkgOf v) (fieldsLeft s c)
-    unfolding packageRead
-    package-on q = next-on f (sym p ∙ ap (packageRead s) q)
+  module _ (f : Option PackageKey → List Bytes → Option B) {r : Packaged} {y : Option (Option PackageKey × List Bytes)} (p : packagedRead s r ≡ y) where
+    pub package-on : {pkg : «Package»} {c : Cursor} → r ≡ Packaged.Is pkg c → next y f ≡ f (packageMeant pkg) (fieldsLeft s c)
+    unfolding packagedRead
+    package-on q = next-on f (sym p ∙ ap (packagedRead s) q)
 
-    pub package-out : r ≡ Small.Wrong → next y f ≡ none
-    unfolding packageRead
-    package-out q = next-out f (sym p ∙ ap (packageRead s) q)
+    pub package-out : r ≡ Packaged.Wrong → next y f ≡ none
+    unfolding packagedRead
+    package-out q = next-out f (sym p ∙ ap (packagedRead s) q)
 
   module _ (f : Bytes → List Bytes → Option B) {r : Piece} {y : Option (Bytes × List Bytes)} (p : pieceRead s r ≡ y) where
     pub piece-on : {at count : ℕ} {c : Cursor} → r ≡ Piece.Is at count c → next y f ≡ f (bytesAt s at count) (fieldsLeft s c)
@@ -68,7 +70,7 @@ module _ (s : Bytes) {B : Type 0} where
     piece-out q = next-out f (sym p ∙ ap (pieceRead s) q)
 
   module _ (f : (Option PackageKey × TypeKey × ℕ) → List Bytes → Option B) {r : Typed} {y : Option ((Option PackageKey × TypeKey × ℕ) × List Bytes)} (p : typedRead s r ≡ y) where
-    pub typed-on : {pkg t bit : ℕ} {c : Cursor} → r ≡ Typed.Is pkg t bit c → next y f ≡ f (pkgOf pkg, typeKey t, bit) (fieldsLeft s c)
+    pub typed-on : {pkg : «Package»} {t bit : ℕ} {c : Cursor} → r ≡ Typed.Is pkg t bit c → next y f ≡ f (packageMeant pkg, typeKey t, bit) (fieldsLeft s c)
     unfolding typedRead
     typed-on q = next-on f (sym p ∙ ap (typedRead s) q)
 

@@ -3,16 +3,16 @@ use mathlib.Core.Path.{_≡_, refl, sym, ap, _∙_}
 use mathlib.Core.Bool.{Bool, true, false, not, _&&_}
 use mathlib.Core.List.{List, [], _∷_}
 use mathlib.Core.Option.{Option, none, some}
-use Prim.Native.Nat.{ℕ, _+_, _-_, _≤_, _<_}
+use Prim.Native.Nat.{ℕ, _-_, _≤_, _<_}
 use native.Mathlib.Omega.{arith}
 use lib.ListN.{length}
-use borrow.Author.Tests.{ne-eqb}
 use Rattle.objects.specs.declared.TypeKey.{TypeKey}
 use Rattle.objects.specs.declared.PackageKey.{PackageKey}
+use Rattle.objects.specs.declared.«Package».{«Package»}
 use Rattle.objects.specs.Bounds.{maxReference}
 use Rattle.objects.specs.Lists.{Bytes, empty, when, mapped}
 use Rattle.objects.specs.Table.{typeKey, packageKey}
-use Rattle.objects.specs.Rows.{bytesAt, pkgOf}
+use Rattle.objects.specs.Rows.{bytesAt, packageMeant}
 use Rattle.objects.proofs.ListLaws.{cases, clash}
 use Rattle.text.specs.declared.Cursor.{Cursor}
 use Rattle.text.specs.declared.Part.{Part}
@@ -27,9 +27,10 @@ use Rattle.text.proofs.AnswerLaws.{num-on, num-out, part-on, part-out, past-on,
 use Rattle.rules.specs.Forms.{packageRef, fieldName, methodName, tag}
 use Rattle.line_forms.specs.declared.Small.{Small}
 use Rattle.line_forms.specs.declared.Piece.{Piece}
+use Rattle.line_forms.specs.declared.Packaged.{Packaged}
 use Rattle.line_forms.specs.declared.Typed.{Typed}
 use Rattle.line_forms.specs.Steps.{next, numbered, packaged, methodNamed, tagged, typedRest}
-use Rattle.line_forms.specs.Forms.{smallRead, pieceRead, packageRead, typedRead}
+use Rattle.line_forms.specs.Forms.{smallRead, pieceRead, packagedRead, typedRead}
 
 -- ---- numbers
 
@@ -69,13 +70,9 @@ no-word : (w b : Bytes) (fs : List Bytes) → exactly w (b ∷ fs) ≡ none → 
 unfolding exactly
 no-word w b fs h = cases (sameBytes b w) (λ e. none-some (sym (rw e at h))) (λ e. e)
 
-pub package-none : (s : Bytes) (fs : List Bytes) (r : Past) {c : Cursor} → pastRead s r ≡ exactly (ascii "-") fs → r ≡ Past.To c → packageRead s (Small.Value 0 c) ≡ packaged fs
-unfolding packageRead packaged pkgOf
+pub package-none : (s : Bytes) (fs : List Bytes) (r : Past) {c : Cursor} → pastRead s r ≡ exactly (ascii "-") fs → r ≡ Past.To c → packagedRead s (Packaged.Is «Package».Absent c) ≡ packaged fs
+unfolding packagedRead packaged packageMeant
 package-none s fs r p q = rw (exactly-some (ascii "-") fs (past-on s r p q))
-
-numbered-package : (v : ℕ) → pkgOf (v + 1) ≡ some (packageKey v)
-unfolding pkgOf
-numbered-package v = let z : v + 1 - 1 ≡ v = omega arith in rw (ne-eqb (v + 1) 0 (λ e. omega arith), z)
 
 package-some : (fs : List Bytes) (v : ℕ) (rest : List Bytes) → exactly (ascii "-") fs ≡ none → field (number maxReference) fs ≡ some (v, rest) → packaged fs ≡ some (some (packageKey v), rest)
 unfolding packaged
@@ -102,12 +99,12 @@ no-package (b ∷ fs) w h = rw (no-word (ascii "-") b fs w) (go (number maxRefer
     go (some n) e = none-some (sym e)
 
 module _ (s : Bytes) (fs : List Bytes) (w : Past) (r : Num) (o : pastRead s w ≡ exactly (ascii "-") fs) (x : w ≡ Past.Wrong) (p : numRead s r ≡ field (number maxReference) fs) where
-  pub package-is : {v : ℕ} {c : Cursor} → r ≡ Num.Value v c → packageRead s (Small.Value (v + 1) c) ≡ packaged fs
-  unfolding packageRead
-  package-is {v} {c} q = rw (numbered-package v) (sym (package-some fs v (fieldsLeft s c) (past-out s w o x) (num-on s r p q)))
+  pub package-is : {v : ℕ} {c : Cursor} → r ≡ Num.Value v c → packagedRead s (Packaged.Is («Package».Is (packageKey v)) c) ≡ packaged fs
+  unfolding packagedRead packageMeant
+  package-is {v} {c} q = sym (package-some fs v (fieldsLeft s c) (past-out s w o x) (num-on s r p q))
 
-  pub package-wrong : r ≡ Num.Wrong → packageRead s Small.Wrong ≡ packaged fs
-  unfolding packageRead
+  pub package-wrong : r ≡ Num.Wrong → packagedRead s Packaged.Wrong ≡ packaged fs
+  unfolding packagedRead
   package-wrong q = sym (no-package fs (past-out s w o x) (num-out s r p q))
 
 -- ---- the name of a method
@@ -171,6 +168,6 @@ bit-small fs {h} {rest} e =
     let w = number-below 1 (b .1) (d .2) in
     omega arith
 
-pub bit-fits : (s : Bytes) (fs : List Bytes) (r : Typed) {pkg t bit : ℕ} {c : Cursor} → typedRead s r ≡ typedRest fs → r ≡ Typed.Is pkg t bit c → bit ≤ 1
+pub bit-fits : (s : Bytes) (fs : List Bytes) (r : Typed) {pkg : «Package»} {t bit : ℕ} {c : Cursor} → typedRead s r ≡ typedRest fs → r ≡ Typed.Is pkg t bit c → bit ≤ 1
 unfolding typedRead
 bit-fits s fs r p q = bit-small fs (sym p ∙ ap (typedRead s) q)

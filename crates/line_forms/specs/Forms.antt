@@ -6,11 +6,12 @@ use Rattle.objects.specs.declared.TypeKey.{TypeKey}
 use Rattle.objects.specs.declared.PackageKey.{PackageKey}
 use Rattle.objects.specs.Lists.{Bytes, mapped}
 use Rattle.objects.specs.Table.{typeKey}
-use Rattle.objects.specs.Rows.{bytesAt, pkgOf, entityOf}
+use Rattle.objects.specs.Rows.{bytesAt, packageMeant, entityOf}
 use Rattle.text.specs.Cursors.{fieldsLeft}
 use Rattle.rules.specs.Forms.{Line, packageLine, typeLine, memberLine}
 use Rattle.line_forms.specs.declared.Small.{Small}
 use Rattle.line_forms.specs.declared.Piece.{Piece}
+use Rattle.line_forms.specs.declared.Packaged.{Packaged}
 use Rattle.line_forms.specs.declared.Typed.{Typed}
 use Rattle.line_forms.specs.declared.Form.{Form}
 use Rattle.line_forms.specs.Steps.{bareKind, tupleOf}
@@ -25,13 +26,12 @@ module _ (text : Bytes) where
   pieceRead (Piece.Is at count c) = some (bytesAt text at count, fieldsLeft text c)
   pieceRead Piece.Wrong = none
 
-  -- a package's number and one, 0 for none
-  unfoldable pub packageRead : Small → Option (Option PackageKey × List Bytes)
-  packageRead (Small.Value v c) = some (pkgOf v, fieldsLeft text c)
-  packageRead Small.Wrong = none
+  unfoldable pub packagedRead : Packaged → Option (Option PackageKey × List Bytes)
+  packagedRead (Packaged.Is pkg c) = some (packageMeant pkg, fieldsLeft text c)
+  packagedRead Packaged.Wrong = none
 
   unfoldable pub typedRead : Typed → Option ((Option PackageKey × TypeKey × ℕ) × List Bytes)
-  typedRead (Typed.Is pkg t bit c) = some ((pkgOf pkg, typeKey t, bit), fieldsLeft text c)
+  typedRead (Typed.Is pkg t bit c) = some ((packageMeant pkg, typeKey t, bit), fieldsLeft text c)
   typedRead Typed.Wrong = none
 
   -- THE LINE THAT A FORM STANDS FOR; none for a wrong form (4)
@@ -40,7 +40,7 @@ module _ (text : Bytes) where
   formMeant (Form.«Type» kind a b c) = some (typeLine (bareKind kind a b c))
   formMeant (Form.Tuple c) = tupleOf (fieldsLeft text c)
   formMeant (Form.Member name count pkg t form tag width) =
-      some (memberLine (bytesAt text name count) (pkgOf pkg) (typeKey t) (entityOf form (bytesAt text tag width)))
+      some (memberLine (bytesAt text name count) (packageMeant pkg) (typeKey t) (entityOf form (bytesAt text tag width)))
   formMeant Form.Wrong = none
 
   -- the weight of the fields that a tuple's elements are still to be read from

@@ -6,10 +6,13 @@ ghost use Rattle.objects.specs.Bounds.{maxText};
 ghost use Rattle.text.specs.Cursors.{fieldsLeft, partRead};
 ghost use Rattle.text.specs.Runs.{Exact};
 ghost use Rattle.line_forms.specs.Steps.{numbered, packaged, methodNamed, typedRest};
-ghost use Rattle.line_forms.specs.Forms.{smallRead, pieceRead, packageRead, typedRead};
+ghost use Rattle.line_forms.specs.Forms.{smallRead, pieceRead, packagedRead, typedRead};
+use crate::Packaged;
 use crate::Piece;
 use crate::Small;
 use crate::Typed;
+use objects::Package;
+use objects::PackageKey;
 use text::Cursor;
 use text::Num;
 use text::Part;
@@ -44,16 +47,16 @@ pub fn placed(s: &[u8], p: Part) -> Piece
     }
 }
 
-// "pkg is a number or `-` for none": the number and one, 0 for none.
-pub fn package(s: &[u8], c: Cursor) -> Small
-    ensures { λ r. ⌜ packageRead (now (s .entry)) r ≡ packaged (fieldsLeft (now (s .entry)) c) ⌝ }
+// "pkg is a number or `-` for none", whether or not the table has the number.
+pub fn package(s: &[u8], c: Cursor) -> Packaged
+    ensures { λ r. ⌜ packagedRead (now (s .entry)) r ≡ packaged (fieldsLeft (now (s .entry)) c) ⌝ }
 {
     if let Past::To(d) = c.word(s, b"-") {
-        return Small::Value(0, d);
+        return Packaged::Is(Package::Absent, d);
     }
     match c.number(s, MAX_REFERENCE as u64) {
-        Num::Value(v, d) => Small::Value(v as u32 + 1, d),
-        Num::Wrong => Small::Wrong,
+        Num::Value(v, d) => Packaged::Is(Package::Is(PackageKey(v as u32)), d),
+        Num::Wrong => Packaged::Wrong,
     }
 }
 
@@ -75,7 +78,7 @@ pub fn method_name(s: &[u8], c: Cursor) -> Piece
 pub fn typed(s: &[u8], c: Cursor) -> Typed
     ensures { λ r. ⌜ typedRead (now (s .entry)) r ≡ typedRest (fieldsLeft (now (s .entry)) c) ⌝ }
 {
-    let Small::Value(pkg, d) = package(s, c) else {
+    let Packaged::Is(pkg, d) = package(s, c) else {
         return Typed::Wrong;
     };
     let Small::Value(t, e) = small(s, d, MAX_REFERENCE) else {

@@ -2,6 +2,7 @@
 pub mod fields;
 pub mod forms;
 
+use objects::Package;
 use text::Cursor;
 
 // A number of 32 bits.
@@ -16,9 +17,15 @@ pub enum Piece {
     Wrong,
 }
 
-// What F and M lines have alike behind the name: the package's number and one (0 for none), the type, and the bit.
+// "pkg is a number or `-` for none"
+pub enum Packaged {
+    Is(Package, Cursor),
+    Wrong,
+}
+
+// What F and M lines have alike behind the name: the package, the type, and the bit.
 pub enum Typed {
-    Is(u32, u32, u32, Cursor),
+    Is(Package, u32, u32, Cursor),
     Wrong,
 }
 
@@ -27,6 +34,6 @@ pub enum Form {
     Package(u32, u32),
     Type(u32, u32, u32, u32),
     Tuple(Cursor),
-    Member(u32, u32, u32, u32, u32, u32, u32),
+    Member(u32, u32, Package, u32, u32, u32, u32),
     Wrong,
 }

@@ -10,10 +10,12 @@ use lib.Dec.{eqb, ltb}
 use lib.ListN.{length}
 use borrow.Author.Tests.{eq-eqb, ne-eqb, lt-ltb, le-ltb}
 use Rattle.objects.specs.declared.TypeKey.{TypeKey}
+use Rattle.objects.specs.declared.PackageKey.{PackageKey}
+use Rattle.objects.specs.declared.«Package».{«Package»}
 use Rattle.objects.specs.Bounds.{maxPackages, maxTypes, maxMembers, rowWords}
 use Rattle.objects.specs.Lists.{Bytes}
-use Rattle.objects.specs.Table.{Table, Member, Kind, Basic, typeKey, objKey, kindNumber, memberCount}
-use Rattle.objects.specs.Rows.{Words, packageCount, typeCount, memberCountOf, elementCount, typeWord, bytesAt, pkgOf, entityOf, kindOf, membersFrom, elementsFrom, tableOf}
+use Rattle.objects.specs.Table.{Table, Member, Kind, Basic, typeKey, objKey, kindNumber, memberCount, Numbered}
+use Rattle.objects.specs.Rows.{Words, packageCount, typeCount, memberCountOf, elementCount, typeWord, bytesAt, packageMeant, entityOf, kindOf, membersFrom, elementsFrom, tableOf}
 use Rattle.objects.specs.Laid.{used, Laid, Holds, lastType, memberOf, plusPackage, plusType, plusMember}
 use Rattle.objects.proofs.RowLaws.{size-read, member-count-read, package-count-read}
 use Rattle.rules.specs.Forms.{Line, packageLine, typeLine, memberLine}
@@ -94,16 +96,16 @@ type-added rows line kind a b c laid p h after held e text =
 
 -- ---- F and M
 
-member-table : (text : Bytes) (rows : Words) (line name count pkg t form tag width : ℕ)
+member-table : (text : Bytes) (rows : Words) (line name count : ℕ) (pkg : Option PackageKey) (t form tag width : ℕ)
     → plusMember (tableOf text rows) line (memberOf text (memberCountOf rows) name count pkg t form tag width)
-    ≡ added (tableOf text rows) line (memberLine (bytesAt text name count) (pkgOf pkg) (typeKey t) (entityOf form (bytesAt text tag width)))
+    ≡ added (tableOf text rows) line (memberLine (bytesAt text name count) pkg (typeKey t) (entityOf form (bytesAt text tag width)))
 unfolding plusMember added
 member-table text rows line name count pkg t form tag width =
     rw (member-count-read text rows)
 
-module _ (rows : Words) (line name count pkg t form tag width : ℕ) (laid : Laid rows) {k : ℕ} (p : (text : Bytes) → k ≡ kindNumber (lastKind (tableOf text rows))) {s : Bool} (q : s ≡ standsAt form k) where
+module _ (rows : Words) (line name count : ℕ) (pkg : «Package») (t form tag width : ℕ) (laid : Laid rows) {k : ℕ} (p : (text : Bytes) → k ≡ kindNumber (lastKind (tableOf text rows))) {s : Bool} (q : s ≡ standsAt form k) where
   abbrev member : Bytes → Line
-  member text = memberLine (bytesAt text name count) (pkgOf pkg) (typeKey t) (entityOf form (bytesAt text tag width))
+  member text = memberLine (bytesAt text name count) (packageMeant pkg) (typeKey t) (entityOf form (bytesAt text tag width))
 
   place-is : (text : Bytes) → inPlace (tableOf text rows) (member text) ≡ s
   place-is text = stands-at form (bytesAt text tag width) (lastKind (tableOf text rows)) ∙ ap (standsAt form) (sym (p text)) ∙ sym q
@@ -122,11 +124,11 @@ module _ (rows : Words) (line name count pkg t form tag width : ℕ) (laid : Lai
     member-crowded f text = crowded text rows line (member text) laid (place-is text ∙ e) (room-is text ∙ f)
 
     -- what the writer asks
-    pub member-ready : used rows + rowWords ≤ length rows → u ≡ true
-        → Laid rows × (memberCountOf rows < maxMembers) × (0 < typeCount rows) × (typeWord rows (lastType rows) 0 ≢ 6) × (used rows + rowWords ≤ length rows)
-    member-ready w f = (laid, room-count rows (sym r ∙ f), no-tuple [] rows (kind-big []) .0, no-tuple [] rows (kind-big []) .1, w)
+    pub member-ready : used rows + rowWords ≤ length rows → Numbered (packageMeant pkg) → u ≡ true
+        → Laid rows × (memberCountOf rows < maxMembers) × (0 < typeCount rows) × (typeWord rows (lastType rows) 0 ≢ 6) × (used rows + rowWords ≤ length rows) × Numbered (packageMeant pkg)
+    member-ready w n f = (laid, room-count rows (sym r ∙ f), no-tuple [] rows (kind-big []) .0, no-tuple [] rows (kind-big []) .1, w, n)
 
-    pub member-added : u ≡ true → (after : Words) → Holds after (λ x. plusMember (tableOf x rows) line (memberOf x (memberCountOf rows) name count pkg t form tag width))
+    pub member-added : u ≡ true → (after : Words) → Holds after (λ x. plusMember (tableOf x rows) line (memberOf x (memberCountOf rows) name count (packageMeant pkg) t form tag width))
         → elementCount after ≡ elementCount rows → (text : Bytes) → Grown text rows line (some (member text)) after Verdict.Added
     member-added f after held c text =
-        adding text rows line (member text) after (held .laid) (place-is text ∙ e) (room-is text ∙ f) (held .held text ∙ member-table text rows line name count pkg t form tag width) (omega arith)
+        adding text rows line (member text) after (held .laid) (place-is text ∙ e) (room-is text ∙ f) (held .held text ∙ member-table text rows line name count (packageMeant pkg) t form tag width) (omega arith)

@@ -7,10 +7,11 @@ use Prim.Native.Nat.{ℕ, suc, _+_, _≤_, _<_}
 use native.Mathlib.Omega.{arith}
 use lib.ListN.{length}
 use Rattle.objects.specs.declared.TypeKey.{TypeKey}
+use Rattle.objects.specs.declared.«Package».{«Package»}
 use Rattle.objects.specs.Bounds.{maxReference, maxText, maxTypes, maxElements, rowWords, roomFor}
 use Rattle.objects.specs.Lists.{Bytes, empty, lastOr, onLast, when, mapped}
-use Rattle.objects.specs.Table.{Table, Kind, Basic, Array, Slice, Pointer, Map, Chan, Tuple, Func, Struct, Iface, Named, typeKey, kindNumber}
-use Rattle.objects.specs.Rows.{Words, typeCount, memberCountOf, elementCount, typeWord, kindOf, elementsFrom, tableOf}
+use Rattle.objects.specs.Table.{Table, Kind, Basic, Array, Slice, Pointer, Map, Chan, Tuple, Func, Struct, Iface, Named, typeKey, kindNumber, Numbered}
+use Rattle.objects.specs.Rows.{Words, typeCount, memberCountOf, elementCount, typeWord, packageMeant, kindOf, elementsFrom, tableOf}
 use Rattle.objects.specs.Laid.{used, Laid, Holds, lastType, elementAdded, plusType, plusElement}
 use Rattle.objects.proofs.ListLaws.{cases, clash}
 use Rattle.objects.proofs.Numbers.{onLast-at}
@@ -20,6 +21,7 @@ use Rattle.text.specs.Cursors.{fieldsLeft}
 use Rattle.text.proofs.FieldLaws.{done-left}
 use Rattle.text.proofs.AnswerLaws.{none-some, field-some}
 use Rattle.rules.specs.Forms.{Line, typeLine, lineOf}
+use Rattle.rules.proofs.FormLaws.{line-formed}
 use Rattle.rules.specs.Load.{refused, lastKind, lineAdded}
 use Rattle.line_forms.specs.declared.Small.{Small}
 use Rattle.line_forms.specs.declared.Form.{Form}
@@ -198,9 +200,15 @@ module _ (s : Bytes) (rows : Words) (line : ℕ) (r : Form) {o : Option Line} (p
   pub grown-form : {f : Form} {after : Words} {v : Verdict} → r ≡ f → Grown s rows line (formMeant s f) after v → Grown s rows line o after v
   grown-form {f} {after} {v} q g = subst (λ x. Grown s rows line x after v) (sym (ap (formMeant s) q) ∙ p) g
 
--- what the writers ask, from the bytes that are left
+-- what the writers ask: of the number of a package
+pub member-numbered : (s : Bytes) (fs : List Bytes) (r : Form) → formMeant s r ≡ lineOf fs
+    → {name count : ℕ} {pkg : «Package»} {t form tag width : ℕ} → r ≡ Form.Member name count pkg t form tag width → Numbered (packageMeant pkg)
+unfolding formMeant
+member-numbered s fs r p q = line-formed fs _ (sym p ∙ ap (formMeant s) q) .numbered
+
+-- and of room, from the bytes that are left
 module _ (s : Bytes) (rows : Words) (fs : List Bytes) (r : Form) (laid : Laid rows) (short : length s ≤ maxText) (taken : bytesTaken rows + weight fs ≤ length s) (room : roomFor (length s) ≤ length rows) where
-  pub member-space : formMeant s r ≡ lineOf fs → {name count pkg t form tag width : ℕ} → r ≡ Form.Member name count pkg t form tag width → used rows + rowWords ≤ length rows
+  pub member-space : formMeant s r ≡ lineOf fs → {name count : ℕ} {pkg : «Package»} {t form tag width : ℕ} → r ≡ Form.Member name count pkg t form tag width → used rows + rowWords ≤ length rows
   unfolding formMeant membersIn lineMembers
   member-space p q =
       let one : 1 ≡ membersIn (lineOf fs) = ap membersIn (sym (ap (formMeant s) q) ∙ p) in

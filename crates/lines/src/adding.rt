@@ -5,8 +5,8 @@ ghost use Prim.Native.Nat.{_+_, _≤_};
 ghost use lib.ListN.{length};
 ghost use Rattle.objects.specs.Bounds.{maxText, maxElements, rowWords, roomFor};
 ghost use Rattle.objects.specs.Lists.{Bytes};
-ghost use Rattle.objects.specs.Table.{kindNumber, typeKey};
-ghost use Rattle.objects.specs.Rows.{elementCount, bytesAt, pkgOf, entityOf, tableOf};
+ghost use Rattle.objects.specs.Table.{kindNumber, typeKey, Numbered};
+ghost use Rattle.objects.specs.Rows.{elementCount, bytesAt, packageMeant, entityOf, tableOf};
 ghost use Rattle.objects.specs.Laid.{used, Laid, lastType};
 ghost use Rattle.text.specs.Cursors.{fieldsLeft};
 ghost use Rattle.rules.specs.Forms.{packageLine, typeLine, memberLine, lineOf};
@@ -20,6 +20,7 @@ use line_forms::Small;
 use line_forms::fields::MAX_REFERENCE;
 use line_forms::fields::small;
 use line_forms::forms::parse;
+use objects::Package;
 use objects::TypeKey;
 use objects::rows::kind_number;
 use objects::rows::member_count;
@@ -112,15 +113,15 @@ fn add_member(
     rows: &mut [u32],
     name: u32,
     count: u32,
-    pkg: u32,
+    pkg: Package,
     t: u32,
     form: u32,
     tag: u32,
     width: u32,
     line: u32,
 ) -> Verdict
-    requires { ⌜ Laid (now rows) × (used (now rows) + rowWords ≤ length (now rows)) ⌝ }
-    ensures { λ r. ⌜ ((text : Bytes) → Grown text (now (rows .entry)) line (some (memberLine (bytesAt text name count) (pkgOf pkg) (typeKey t) (entityOf form (bytesAt text tag width)))) (now (rows .exit)) r) ⌝ }
+    requires { ⌜ Laid (now rows) × (used (now rows) + rowWords ≤ length (now rows)) × Numbered (packageMeant pkg) ⌝ }
+    ensures { λ r. ⌜ ((text : Bytes) → Grown text (now (rows .entry)) line (some (memberLine (bytesAt text name count) (packageMeant pkg) (typeKey t) (entityOf form (bytesAt text tag width)))) (now (rows .exit)) r) ⌝ }
 {
     if stands(form, above(rows)) {
         if member_room(rows) {

@@ -13,7 +13,7 @@ use Rattle.objects.specs.declared.ObjKey.{ObjKey}
 use Rattle.objects.specs.Bounds.{maxElements}
 use Rattle.objects.specs.Lists.{Bytes, keep, when, In}
 use Rattle.objects.specs.Table.{Table, Member, objKey, isNamed, isIface, hasPackage, allMethods, kindAt, under, ifaceUnder}
-use Rattle.objects.specs.Rows.{Words, typeCount, pkgOf, memberAt, membersFrom, tableOf}
+use Rattle.objects.specs.Rows.{Words, typeCount, packageMeant, memberAt, membersFrom, tableOf}
 use Rattle.objects.specs.Types.{numberRead, underRead, ifaceRead, firstRead, totalRead, memberTypeRead, methodRead}
 use Rattle.objects.proofs.ListLaws.{cases, clash}
 use Rattle.objects.proofs.BoolLaws.{iff-eq}
@@ -102,7 +102,7 @@ module _ (text : Bytes) (rows : Words) (m : ObjKey) {q : Name} (pq : q ≡ nameR
   unfolding nameMeant nameRead
   own-name = rw pq (member-asked text rows m refl refl refl)
 
-  pub own-packaged : InTable text rows m → hasPackage (tableOf text rows) (pkgOf (q .pkg)) ≡ true
+  pub own-packaged : InTable text rows m → hasPackage (tableOf text rows) (packageMeant (q .pkg)) ≡ true
   unfolding nameRead
   own-packaged k = rw pq (member-has text rows m (k .packaged) refl)
 

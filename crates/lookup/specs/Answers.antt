@@ -7,7 +7,7 @@ use Rattle.objects.specs.declared.ObjKey.{ObjKey}
 use Rattle.objects.specs.Lists.{Bytes, mapped}
 use Rattle.objects.specs.Table.{Member, hasPackage}
 use Rattle.objects.specs.Rows.{Words, typeCount, memberWord, memberAt, tableOf}
-use Rattle.objects.specs.Types.{memberTypeRead}
+use Rattle.objects.specs.Types.{memberTypeRead, packageRead}
 use Rattle.rules.specs.Missing.{Lack}
 use Rattle.selection.specs.declared.Name.{Name}
 use Rattle.selection.specs.declared.Entity.{Entity}
@@ -31,7 +31,7 @@ withoutMethod s = leftOf (s .result) s
 
 -- a member's name, asked for from its own package
 unfoldable pub nameRead : Words → ObjKey → Name
-nameRead rows m = record { at = memberWord rows m 0; len = memberWord rows m 1; pkg = memberWord rows m 2 }
+nameRead rows m = record { at = memberWord rows m 0; len = memberWord rows m 1; pkg = packageRead rows m }
 
 -- the package and the type of a member are the table's
 pub record InTable (text : Bytes) (rows : Words) (m : ObjKey) : Type 0 where

@@ -8,7 +8,7 @@ ghost use Prim.Native.Nat.{_<_, _≤_};
 ghost use lib.ListN.{length, replicate};
 ghost use Rattle.objects.specs.Bounds.{markWords, searchWords, maxPlaces};
 ghost use Rattle.objects.specs.Table.{hasPackage};
-ghost use Rattle.objects.specs.Rows.{typeCount, pkgOf, tableOf};
+ghost use Rattle.objects.specs.Rows.{typeCount, packageMeant, tableOf};
 ghost use Rattle.objects.specs.Types.{pointerRead, bareRead, ifaceRead};
 ghost use Rattle.text.specs.Bytes.{isBlank};
 ghost use Rattle.rules.specs.Library.{Library};
@@ -81,7 +81,7 @@ pub fn lookup_field_or_method_impl(
     a: bool,
 ) -> Selection
     requires { ⌜ Library (now text) (now rows) ⌝ }
-    requires { ⌜ (t .0 < typeCount (now rows)) × (hasPackage (tableOf (now text) (now rows)) (pkgOf (q .pkg)) ≡ true) ⌝ }
+    requires { ⌜ (t .0 < typeCount (now rows)) × (hasPackage (tableOf (now text) (now rows)) (packageMeant (q .pkg)) ≡ true) ⌝ }
     requires { ⌜ (markWords ≤ length (now marks)) × (searchWords ≤ length (now search)) × (maxPlaces ≤ length (now places)) ⌝ }
     requires { ⌜ now marks ≡ replicate (length (now marks)) 0 ⌝ }
     ensures { λ r. ⌜ Selects (now (text .entry)) (now (rows .entry)) r (now (places .exit)) (cond (isBlank (nameMeant (now (text .entry)) (now (rows .entry)) (now (names .entry)) q .name)) notfound (searched (tableOf (now (text .entry)) (now (rows .entry))) (nameMeant (now (text .entry)) (now (rows .entry)) (now (names .entry)) q) t a)) ⌝ }
@@ -117,7 +117,7 @@ pub fn lookup_field_or_method(
     a: bool,
 ) -> Selection
     requires { ⌜ Library (now text) (now rows) ⌝ }
-    requires { ⌜ (t .0 < typeCount (now rows)) × (hasPackage (tableOf (now text) (now rows)) (pkgOf (q .pkg)) ≡ true) ⌝ }
+    requires { ⌜ (t .0 < typeCount (now rows)) × (hasPackage (tableOf (now text) (now rows)) (packageMeant (q .pkg)) ≡ true) ⌝ }
     requires { ⌜ (markWords ≤ length (now marks)) × (searchWords ≤ length (now search)) × (maxPlaces ≤ length (now places)) ⌝ }
     requires { ⌜ now marks ≡ replicate (length (now marks)) 0 ⌝ }
     ensures { λ r. ⌜ Selects (now (text .entry)) (now (rows .entry)) r (now (places .exit)) (select (tableOf (now (text .entry)) (now (rows .entry))) (nameMeant (now (text .entry)) (now (rows .entry)) (now (names .entry)) q) t a) ⌝ }

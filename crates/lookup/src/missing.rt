@@ -16,6 +16,7 @@ use objects::ObjKey;
 use objects::TypeKey;
 use objects::rows::first_member;
 use objects::rows::iface_under;
+use objects::rows::member_package;
 use objects::rows::member_total;
 use objects::rows::member_type;
 use objects::rows::member_word;
@@ -53,7 +54,7 @@ fn name_of(rows: &[u32], m: ObjKey) -> Name
 {
     let at = member_word(rows, m, 0);
     let len = member_word(rows, m, 1);
-    let pkg = member_word(rows, m, 2);
+    let pkg = member_package(rows, m);
     Name {
         at: at,
         len: len,

@@ -7,12 +7,14 @@ use Prim.Native.Nat.{ℕ, zero, suc, _+_, _-_, _≤_, _<_}
 use native.Mathlib.Omega.{arith}
 use lib.Dec.{eqb, ltb}
 use lib.ListN.{length, getD, take, drop, length-append, length-take, List·getD-append}
-use borrow.Author.Tests.{eq-eqb, ne-eqb, le-ltb, eqb-true, eqb-false}
+use borrow.Author.Tests.{eq-eqb, ne-eqb, le-ltb}
 use Rattle.objects.specs.Lists.{Bytes}
 use Rattle.objects.specs.declared.ObjKey.{ObjKey}
 use Rattle.objects.specs.declared.PackageKey.{PackageKey}
-use Rattle.objects.specs.Table.{Table, packageKey, hasPackage, pathOf}
-use Rattle.objects.specs.Rows.{Words, packageWord, memberWord, bytesAt, pkgOf, memberAt, pathRead, tableOf}
+use Rattle.objects.specs.declared.«Package».{«Package»}
+use Rattle.objects.specs.Table.{Table, hasPackage, pathOf}
+use Rattle.objects.specs.Rows.{Words, packageWord, memberWord, bytesAt, packageMeant, memberAt, pathRead, tableOf}
+use Rattle.objects.specs.Types.{packageRead}
 use Rattle.objects.proofs.ListLaws.{cases, clash}
 use Rattle.text.specs.declared.Order.{Order}
 use Rattle.text.specs.Bytes.{sameBytes, belowBytes, exported}
@@ -21,7 +23,7 @@ use Rattle.text.proofs.CompareLaws.{order-end, order-part, order-whole, order-l
 use Rattle.rules.specs.Members.{identityFrom, identityOf, idBytes}
 use Rattle.obj.specs.declared.Id.{Id}
 use Rattle.obj.specs.Ids.{joined, idMeant}
-use Rattle.obj.proofs.IdentityLaws.{pkg-none, path-of, member-pkg, member-identity}
+use Rattle.obj.proofs.IdentityLaws.{path-of, member-has, member-identity}
 
 -- ---- the parts of an id
 
@@ -91,28 +93,27 @@ module _ (T : Table) (name : Bytes) where
   unfolding idBytes identityFrom
   id-pathed h p {path = path} e = rw (h, e) (append-assoc path (46 ∷ []) name)
 
-module _ (text : Bytes) (rows : Words) (name : Bytes) (p : ℕ) (has : hasPackage (tableOf text rows) (pkgOf p) ≡ true) (h : exported name ≡ false) where
-  id-joined : joined (p + 1) (pathRead text rows (packageKey (p - 1))) name ≡ idBytes (identityFrom (tableOf text rows) (pkgOf p) name)
-  id-joined =
-      cases (eqb p 0)
-      (λ z. let e = eqb-true p 0 z in
-      joined-blank (pathRead text rows (packageKey (p - 1))) name (omega arith) ∙ sym (id-blank (tableOf text rows) name h (pkg-none e)))
-      (λ z. let e = eqb-false p 0 z in
-      joined-path (pathRead text rows (packageKey (p - 1))) name (λ f. omega arith) (λ f. e (omega arith)) ∙ sym (id-pathed (tableOf text rows) name h (pkgOf p) (path-of text rows p has e)))
-
 module _ (text : Bytes) (rows : Words) (m : ObjKey) {a n : ℕ} (ea : a ≡ memberWord rows m 0) (en : n ≡ memberWord rows m 1)
     {x : Bool} (ex : x ≡ exported (bytesAt text a n)) where
   pub id-name : x ≡ true → idMeant text (record { form = 0; path = 0; «path_len» = 0; name = a; len = n }) ≡ idBytes (identityOf (tableOf text rows) (memberAt text rows m))
   unfolding idMeant joined
-  id-name h = rw (member-identity text rows m, ← ea, ← en) (sym (id-whole (tableOf text rows) (bytesAt text a n) (pkgOf (memberWord rows m 2)) (sym ex ∙ h)))
+  id-name h = rw (member-identity text rows m, ← ea, ← en) (sym (id-whole (tableOf text rows) (bytesAt text a n) (packageMeant (packageRead rows m)) (sym ex ∙ h)))
 
-  pub id-path : x ≡ false → hasPackage (tableOf text rows) (memberAt text rows m .pkg) ≡ true → {p : ℕ} → p ≡ memberWord rows m 2
-      → {k : PackageKey} → k ≡ packageKey (p - 1) → {b l : ℕ} → b ≡ packageWord rows k 0 → l ≡ packageWord rows k 1
-      → idMeant text (record { form = p + 1; path = b; «path_len» = l; name = a; len = n }) ≡ idBytes (identityOf (tableOf text rows) (memberAt text rows m))
-  unfolding idMeant pathRead
-  id-path h has {p = p} ep ek eb el =
-      let here : hasPackage (tableOf text rows) (pkgOf p) ≡ true = rw (member-pkg text rows m, ← ep) at has in
-      rw (member-identity text rows m, ← ea, ← en, ← ep, eb, el, ek) (id-joined text rows (bytesAt text a n) p here (sym ex ∙ h))
+  module _ (h : x ≡ false) {p : «Package»} (ep : p ≡ packageRead rows m) where
+    pub id-none : p ≡ «Package».Absent → idMeant text (record { form = 1; path = 0; «path_len» = 0; name = a; len = n }) ≡ idBytes (identityOf (tableOf text rows) (memberAt text rows m))
+    unfolding idMeant joined packageMeant
+    id-none e =
+        rw (member-identity text rows m, ← ea, ← en, ← ep)
+        (sym (id-blank (tableOf text rows) (bytesAt text a n) (sym ex ∙ h) (ap packageMeant e)))
+
+    pub id-path : hasPackage (tableOf text rows) (memberAt text rows m .pkg) ≡ true → {k : PackageKey} → p ≡ «Package».Is k
+        → {b l : ℕ} → b ≡ packageWord rows k 0 → l ≡ packageWord rows k 1
+        → idMeant text (record { form = 2; path = b; «path_len» = l; name = a; len = n }) ≡ idBytes (identityOf (tableOf text rows) (memberAt text rows m))
+    unfolding idMeant joined pathRead packageMeant
+    id-path has {k} e eb el =
+        let here : hasPackage (tableOf text rows) (some k) ≡ true = rw e at (member-has text rows m has ep) in
+        rw (member-identity text rows m, ← ea, ← en, ← ep, e, eb, el)
+        (sym (id-pathed (tableOf text rows) (bytesAt text a n) (sym ex ∙ h) (some k) (path-of text rows k here)))
 
 -- ---- the order of two ids, byte by byte
 

@@ -1,22 +1,22 @@
--- The identity of a member and that of a name that is asked for, by the words of the member's row and by the paths of packages.
+-- The identity of a member and that of a name that is asked for, by what the member's row says and by the paths of packages.
 use mathlib.Core.Path.{_≡_, refl, sym, ap, _∙_}
 use mathlib.Core.Bool.{Bool, true, false}
 use mathlib.Core.List.{[], _∷_}
-use mathlib.Core.Option.{Option, none, some}
-use Prim.Native.Nat.{ℕ, _-_, _<_}
-use lib.Dec.{eqb, ltb}
+use mathlib.Core.Option.{Option, some}
+use Prim.Native.Nat.{ℕ, _<_}
 use lib.ListN.{length, getD, take, drop}
-use borrow.Author.Tests.{eq-eqb, ne-eqb, ltb-true}
+use borrow.Author.Tests.{ltb-true}
 use Rattle.objects.specs.Lists.{Bytes}
 use Rattle.objects.specs.declared.ObjKey.{ObjKey}
 use Rattle.objects.specs.declared.PackageKey.{PackageKey}
-use Rattle.objects.specs.Table.{Table, packageKey, hasPackage, pathOf}
-use Rattle.objects.specs.Rows.{Words, packageCount, packageWord, memberWord, bytesAt, pkgOf, memberAt, pathRead, tableOf}
-use Rattle.objects.proofs.RowLaws.{package-count-read, path-read}
+use Rattle.objects.specs.declared.«Package».{«Package»}
+use Rattle.objects.specs.Table.{Table, hasPackage, pathOf}
+use Rattle.objects.specs.Rows.{Words, packageCount, packageWord, memberWord, bytesAt, packageMeant, memberAt, pathRead, tableOf}
+use Rattle.objects.specs.Types.{packageRead}
+use Rattle.objects.proofs.RowLaws.{package-count-read, path-read, member-package-meant}
 use Rattle.text.specs.Bytes.{ascii, sameBytes, between, exported, isBlank}
-use Rattle.text.proofs.ByteLaws.{same-true}
+use Rattle.text.proofs.ByteLaws.{same-refl, same-true}
 use Rattle.rules.specs.Members.{Identity, identityFrom, identityOf, samePath, sameId}
-use Rattle.rules.proofs.MemberLaws.{samePath-self}
 use Rattle.obj.specs.Ids.{askedId}
 
 -- ---- names
@@ -27,47 +27,49 @@ unfolding exported
 exported-first [] = refl
 exported-first (b ∷ s) = refl
 
--- ---- packages, by the number and one
+-- ---- packages
 
-pub pkg-none : {w : ℕ} → w ≡ 0 → pkgOf w ≡ none
-unfolding pkgOf
-pkg-none e = rw e
+module _ (text : Bytes) (rows : Words) (k : PackageKey) (h : hasPackage (tableOf text rows) (some k) ≡ true) where
+  package-in : k .0 < packageCount rows
+  package-in = rw (package-count-read text rows) at (ltb-true (k .0) (length (tableOf text rows .packages)) h)
 
-pub pkg-some : (w : ℕ) → (w ≡ 0 → ⊥) → pkgOf w ≡ some (packageKey (w - 1))
-unfolding pkgOf
-pkg-some w n = rw (ne-eqb w 0 n)
+  pub path-of : pathOf (tableOf text rows) (some k) ≡ some (pathRead text rows k)
+  path-of = path-read text rows k package-in
 
-module _ (text : Bytes) (rows : Words) (w : ℕ) (h : hasPackage (tableOf text rows) (pkgOf w) ≡ true) (n : w ≡ 0 → ⊥) where
-  package-in : w - 1 < packageCount rows
-  package-in =
-      let z : hasPackage (tableOf text rows) (some (packageKey (w - 1))) ≡ true = rw (pkg-some w n) at h in
-      rw (package-count-read text rows) at (ltb-true (w - 1) (length (tableOf text rows .packages)) z)
+module _ (text : Bytes) (rows : Words) where
+  pub one-number : {a b : PackageKey} → a .0 ≡ b .0 → sameBytes (pathRead text rows a) (pathRead text rows b) ≡ true
+  unfolding pathRead packageWord
+  one-number {b = b} e = rw e (same-refl (pathRead text rows b))
 
-  pub path-of : pathOf (tableOf text rows) (pkgOf w) ≡ some (pathRead text rows (packageKey (w - 1)))
-  path-of = ap (pathOf (tableOf text rows)) (pkg-some w n) ∙ path-read text rows (packageKey (w - 1)) package-in
+  -- two paths by their bytes
+  pub paths-read : (k l : PackageKey) {a an b bn : ℕ} → a ≡ packageWord rows k 0 → an ≡ packageWord rows k 1 → b ≡ packageWord rows l 0 → bn ≡ packageWord rows l 1
+      → sameBytes (take an (drop a text)) (take bn (drop b text)) ≡ sameBytes (pathRead text rows k) (pathRead text rows l)
+  unfolding pathRead bytesAt
+  paths-read k l ea ean eb ebn = rw (ea, ean, eb, ebn)
 
--- ---- "equal package paths or no package on both sides"
+  -- ---- "equal package paths or no package on both sides"
 
-module _ (T : Table) where
-  pub path-same : {p q : ℕ} → p ≡ q → samePath (pathOf T (pkgOf p)) (pathOf T (pkgOf q)) ≡ true
-  path-same {q = q} e = rw e (samePath-self (pathOf T (pkgOf q)))
+  module _ {p q : «Package»} where
+    pub path-none : p ≡ «Package».Absent → q ≡ «Package».Absent → samePath (pathOf (tableOf text rows) (packageMeant p)) (pathOf (tableOf text rows) (packageMeant q)) ≡ true
+    unfolding pathOf packageMeant
+    path-none e f = rw (e, f)
 
-  -- a package on one side alone
-  pub path-left : {p q : ℕ} → (p ≡ q → ⊥) → p ≡ 0 → samePath (pathOf T (pkgOf p)) (pathOf T (pkgOf q)) ≡ false
-  unfolding pathOf
-  path-left {q = q} n e = rw (pkg-none e, pkg-some q (λ f. n (e ∙ sym f)))
+    -- a package on one side alone
+    pub path-right : {l : PackageKey} → p ≡ «Package».Absent → q ≡ «Package».Is l
+        → samePath (pathOf (tableOf text rows) (packageMeant p)) (pathOf (tableOf text rows) (packageMeant q)) ≡ false
+    unfolding pathOf packageMeant
+    path-right e f = rw (e, f)
 
-  pub path-right : {p q : ℕ} → (p ≡ q → ⊥) → q ≡ 0 → samePath (pathOf T (pkgOf p)) (pathOf T (pkgOf q)) ≡ false
-  unfolding pathOf
-  path-right {p = p} n e = rw (pkg-none e, pkg-some p (λ f. n (f ∙ sym e)))
+    pub path-left : {k : PackageKey} → p ≡ «Package».Is k → q ≡ «Package».Absent
+        → samePath (pathOf (tableOf text rows) (packageMeant p)) (pathOf (tableOf text rows) (packageMeant q)) ≡ false
+    unfolding pathOf packageMeant
+    path-left e f = rw (e, f)
 
--- two paths by their bytes
-pub path-both : (text : Bytes) (rows : Words) (p q : ℕ) → hasPackage (tableOf text rows) (pkgOf p) ≡ true → hasPackage (tableOf text rows) (pkgOf q) ≡ true
-    → (p ≡ 0 → ⊥) → (q ≡ 0 → ⊥) → {k l : PackageKey} → k ≡ packageKey (p - 1) → l ≡ packageKey (q - 1)
-    → {a an b bn : ℕ} → a ≡ packageWord rows k 0 → an ≡ packageWord rows k 1 → b ≡ packageWord rows l 0 → bn ≡ packageWord rows l 1
-    → sameBytes (take an (drop a text)) (take bn (drop b text)) ≡ samePath (pathOf (tableOf text rows) (pkgOf p)) (pathOf (tableOf text rows) (pkgOf q))
-unfolding pathRead bytesAt
-path-both text rows p q hp hq np nq ek el ea ean eb ebn = rw (path-of text rows p hp np, path-of text rows q hq nq, ea, ean, eb, ebn, ek, el)
+    pub path-both : {k l : PackageKey} → hasPackage (tableOf text rows) (packageMeant p) ≡ true → hasPackage (tableOf text rows) (packageMeant q) ≡ true
+        → p ≡ «Package».Is k → q ≡ «Package».Is l
+        → samePath (pathOf (tableOf text rows) (packageMeant p)) (pathOf (tableOf text rows) (packageMeant q)) ≡ sameBytes (pathRead text rows k) (pathRead text rows l)
+    unfolding packageMeant
+    path-both {k} {l} hp hq e f = rw (e, f, path-of text rows k (rw e at hp), path-of text rows l (rw f at hq))
 
 -- ---- names, and paths only where the name is not exported
 
@@ -87,19 +89,15 @@ module _ (T : Table) (p q : Option PackageKey) (a b : Bytes) where
 -- ---- a member's row
 
 module _ (text : Bytes) (rows : Words) (m : ObjKey) where
-  pub member-pkg : memberAt text rows m .pkg ≡ pkgOf (memberWord rows m 2)
-  unfolding memberAt
-  member-pkg = refl
-
-  pub member-has : hasPackage (tableOf text rows) (memberAt text rows m .pkg) ≡ true → {p : ℕ} → p ≡ memberWord rows m 2 → hasPackage (tableOf text rows) (pkgOf p) ≡ true
-  member-has h e = rw (member-pkg, ← e) at h
+  pub member-has : hasPackage (tableOf text rows) (memberAt text rows m .pkg) ≡ true → {p : «Package»} → p ≡ packageRead rows m → hasPackage (tableOf text rows) (packageMeant p) ≡ true
+  member-has h e = rw (member-package-meant text rows m, ← e) at h
 
   pub member-identity : identityOf (tableOf text rows) (memberAt text rows m)
-      ≡ identityFrom (tableOf text rows) (pkgOf (memberWord rows m 2)) (bytesAt text (memberWord rows m 0) (memberWord rows m 1))
+      ≡ identityFrom (tableOf text rows) (packageMeant (packageRead rows m)) (bytesAt text (memberWord rows m 0) (memberWord rows m 1))
   unfolding identityOf memberAt
-  member-identity = refl
+  member-identity = ap (λ p. identityFrom (tableOf text rows) p (memberAt text rows m .name)) (member-package-meant text rows m)
 
-  pub member-asked : {a n p : ℕ} → a ≡ memberWord rows m 0 → n ≡ memberWord rows m 1 → p ≡ memberWord rows m 2
+  pub member-asked : {a n : ℕ} {p : «Package»} → a ≡ memberWord rows m 0 → n ≡ memberWord rows m 1 → p ≡ packageRead rows m
       → askedId text rows text a n p ≡ identityOf (tableOf text rows) (memberAt text rows m)
   unfolding askedId
   member-asked ea en ep = rw (ea, en, ep) (sym member-identity)
@@ -110,7 +108,7 @@ module _ (text : Bytes) (rows : Words) (m : ObjKey) where
   blank-read ea en es = rw (es, ea, en)
 
   -- the ways through `same_id`
-  module _ (names : Bytes) (at len pkg : ℕ) {a n : ℕ} (ea : a ≡ memberWord rows m 0) (en : n ≡ memberWord rows m 1)
+  module _ (names : Bytes) (at len : ℕ) (pkg : «Package») {a n : ℕ} (ea : a ≡ memberWord rows m 0) (en : n ≡ memberWord rows m 1)
       {s : Bool} (es : s ≡ sameBytes (take n (drop a text)) (take len (drop at names))) where
     pub same-differ : s ≡ false → sameId (identityOf (tableOf text rows) (memberAt text rows m)) (askedId text rows names at len pkg) ≡ false
     unfolding askedId bytesAt
@@ -121,8 +119,8 @@ module _ (text : Bytes) (rows : Words) (m : ObjKey) where
       unfolding askedId bytesAt
       same-exported k = rw (member-identity) (id-exported _ _ _ _ _ (rw (← ea, ← en) (sym es ∙ h)) (rw (← ea, ← en) (sym ex ∙ k)))
 
-      pub same-paths : x ≡ false → {p : ℕ} → p ≡ memberWord rows m 2
+      pub same-paths : x ≡ false → {p : «Package»} → p ≡ packageRead rows m
           → sameId (identityOf (tableOf text rows) (memberAt text rows m)) (askedId text rows names at len pkg)
-          ≡ samePath (pathOf (tableOf text rows) (pkgOf p)) (pathOf (tableOf text rows) (pkgOf pkg))
+          ≡ samePath (pathOf (tableOf text rows) (packageMeant p)) (pathOf (tableOf text rows) (packageMeant pkg))
       unfolding askedId bytesAt
       same-paths k ep = rw (member-identity, ep) (id-path _ _ _ _ _ (rw (← ea, ← en) (sym es ∙ h)) (rw (← ea, ← en) (sym ex ∙ k)))

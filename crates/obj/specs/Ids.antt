@@ -3,14 +3,15 @@ use mathlib.Core.Bool.{cond}
 use mathlib.Core.List.{_∷_, _++_}
 use Prim.Native.Nat.{ℕ}
 use lib.Dec.{eqb}
+use Rattle.objects.specs.declared.«Package».{«Package»}
 use Rattle.objects.specs.Lists.{Bytes}
-use Rattle.objects.specs.Rows.{Words, bytesAt, pkgOf, tableOf}
+use Rattle.objects.specs.Rows.{Words, bytesAt, packageMeant, tableOf}
 use Rattle.rules.specs.Members.{Identity, identityFrom}
 use Rattle.obj.specs.declared.Id.{Id}
 
 -- the identity of a name that stands in another text and is asked for from a package
-unfoldable pub askedId : Bytes → Words → Bytes → ℕ → ℕ → ℕ → Identity
-askedId text rows names at len pkg = identityFrom (tableOf text rows) (pkgOf pkg) (bytesAt names at len)
+unfoldable pub askedId : Bytes → Words → Bytes → ℕ → ℕ → «Package» → Identity
+askedId text rows names at len pkg = identityFrom (tableOf text rows) (packageMeant pkg) (bytesAt names at len)
 
 -- what an id is made of: 0 the name alone, 1 `_`, a dot and the name, any other a path, a dot and the name
 unfoldable pub joined : ℕ → Bytes → Bytes → Bytes

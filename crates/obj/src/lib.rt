@@ -1,18 +1,20 @@
 // The identity of members and the order of their ids, as goscript's obj.rs has them (`same_id`, `get_id`), by comparing the bytes of the text: no id is
-// ever built. A package is given by its number and one, 0 for none.
+// ever built.
 ghost use mathlib.Core.Path.{_≡_};
 ghost use mathlib.Core.Bool.{true};
 ghost use mathlib.Core.List.{_∷_};
 ghost use Prim.Native.Nat.{_-_, _≤_};
 ghost use lib.ListN.{length, getD};
-ghost use Rattle.objects.specs.Table.{packageKey, hasPackage, pathOf};
-ghost use Rattle.objects.specs.Rows.{bytesAt, pkgOf, memberAt, tableOf};
-ghost use Rattle.text.specs.Bytes.{exported, isBlank, belowBytes};
+ghost use Rattle.objects.specs.Table.{hasPackage, pathOf};
+ghost use Rattle.objects.specs.Rows.{bytesAt, packageMeant, memberAt, pathRead, tableOf};
+ghost use Rattle.text.specs.Bytes.{sameBytes, exported, isBlank, belowBytes};
 ghost use Rattle.text.specs.Compare.{orderOf};
 ghost use Rattle.rules.specs.Members.{samePath, sameId, identityOf, idBytes};
 ghost use Rattle.obj.specs.Ids.{askedId, joined, idMeant};
 use objects::ObjKey;
+use objects::Package;
 use objects::PackageKey;
+use objects::rows::member_package;
 use objects::rows::member_word;
 use objects::rows::package_word;
 use text::Order;
@@ -61,32 +63,13 @@ pub fn is_blank(text: &[u8], rows: &[u32], m: ObjKey) -> bool
 
 // ---- identity
 
-fn package_of(pkg: u32) -> PackageKey
-    ensures { λ r. ⌜ r ≡ packageKey (pkg - 1) ⌝ }
+// Whether two packages have one path: at once where they have one number.
+fn one_path(text: &[u8], rows: &[u32], a: PackageKey, b: PackageKey) -> bool
+    ensures { λ r. ⌜ r ≡ sameBytes (pathRead (now (text .entry)) (now (rows .entry)) a) (pathRead (now (text .entry)) (now (rows .entry)) b) ⌝ }
 {
-    if pkg == 0 {
-        PackageKey(0)
-    } else {
-        PackageKey(pkg - 1)
-    }
-}
-
-// "equal package paths or no package on both sides"
-pub fn same_path(text: &[u8], rows: &[u32], p: u32, q: u32) -> bool
-    requires { ⌜ (hasPackage (tableOf (now text) (now rows)) (pkgOf p) ≡ true) × (hasPackage (tableOf (now text) (now rows)) (pkgOf q) ≡ true) ⌝ }
-    ensures { λ r. ⌜ r ≡ samePath (pathOf (tableOf (now (text .entry)) (now (rows .entry))) (pkgOf p)) (pathOf (tableOf (now (text .entry)) (now (rows .entry))) (pkgOf q)) ⌝ }
-{
-    if p == q {
+    if a.0 == b.0 {
         return true;
     }
-    if p == 0 {
-        return false;
-    }
-    if q == 0 {
-        return false;
-    }
-    let a = package_of(p);
-    let b = package_of(q);
     same_part(
         text,
         package_word(rows, a, 0) as usize,
@@ -94,6 +77,23 @@ pub fn same_path(text: &[u8], rows: &[u32], p: u32, q: u32) -> bool
         package_word(rows, b, 0) as usize,
         package_word(rows, b, 1) as usize,
     )
+}
+
+// "equal package paths or no package on both sides"
+pub fn same_path(text: &[u8], rows: &[u32], p: Package, q: Package) -> bool
+    requires { ⌜ (hasPackage (tableOf (now text) (now rows)) (packageMeant p) ≡ true) × (hasPackage (tableOf (now text) (now rows)) (packageMeant q) ≡ true) ⌝ }
+    ensures { λ r. ⌜ r ≡ samePath (pathOf (tableOf (now (text .entry)) (now (rows .entry))) (packageMeant p)) (pathOf (tableOf (now (text .entry)) (now (rows .entry))) (packageMeant q)) ⌝ }
+{
+    match p {
+        Package::Absent => match q {
+            Package::Absent => true,
+            Package::Is(_) => false,
+        },
+        Package::Is(a) => match q {
+            Package::Absent => false,
+            Package::Is(b) => one_path(text, rows, a, b),
+        },
+    }
 }
 
 // Whether a member is of the name that is asked for from a package.
@@ -104,9 +104,9 @@ pub fn same_id(
     names: &[u8],
     at: u32,
     len: u32,
-    pkg: u32,
+    pkg: Package,
 ) -> bool
-    requires { ⌜ (hasPackage (tableOf (now text) (now rows)) (memberAt (now text) (now rows) m .pkg) ≡ true) × (hasPackage (tableOf (now text) (now rows)) (pkgOf pkg) ≡ true) ⌝ }
+    requires { ⌜ (hasPackage (tableOf (now text) (now rows)) (memberAt (now text) (now rows) m .pkg) ≡ true) × (hasPackage (tableOf (now text) (now rows)) (packageMeant pkg) ≡ true) ⌝ }
     ensures { λ r. ⌜ r ≡ sameId (identityOf (tableOf (now (text .entry)) (now (rows .entry))) (memberAt (now (text .entry)) (now (rows .entry)) m)) (askedId (now (text .entry)) (now (rows .entry)) (now (names .entry)) at len pkg) ⌝ }
 {
     let a = member_word(rows, m, 0);
@@ -122,7 +122,7 @@ pub fn same_id(
         if exported(text, a, n) {
             true
         } else {
-            same_path(text, rows, member_word(rows, m, 2), pkg)
+            same_path(text, rows, member_package(rows, m), pkg)
         }
     } else {
         false
@@ -140,7 +140,7 @@ pub fn same_member(text: &[u8], rows: &[u32], m: ObjKey, n: ObjKey) -> bool
         text,
         member_word(rows, n, 0),
         member_word(rows, n, 1),
-        member_word(rows, n, 2),
+        member_package(rows, n),
     )
 }
 
@@ -161,16 +161,25 @@ pub fn id_of(text: &[u8], rows: &[u32], m: ObjKey) -> Id
             len: len,
         };
     }
-    let pkg = member_word(rows, m, 2);
-    let p = package_of(pkg);
-    let path = package_word(rows, p, 0);
-    let path_len = package_word(rows, p, 1);
-    Id {
-        form: pkg as u64 + 1,
-        path: path,
-        path_len: path_len,
-        name: name,
-        len: len,
+    match member_package(rows, m) {
+        Package::Absent => Id {
+            form: 1,
+            path: 0,
+            path_len: 0,
+            name: name,
+            len: len,
+        },
+        Package::Is(p) => {
+            let path = package_word(rows, p, 0);
+            let path_len = package_word(rows, p, 1);
+            Id {
+                form: 2,
+                path: path,
+                path_len: path_len,
+                name: name,
+                len: len,
+            }
+        }
     }
 }
 

@@ -11,7 +11,7 @@ use Rattle.objects.specs.declared.TypeKey.{TypeKey}
 use Rattle.objects.specs.Bounds.{maxTypes, maxPackages, maxMembers, maxElements, rowWords}
 use Rattle.objects.specs.Lists.{Bytes, upTo, onLast}
 use Rattle.objects.specs.Table.{Member, Kind, Struct, Iface, Named, Tuple, typeKey, objKey, packageKey, withMember}
-use Rattle.objects.specs.Rows.{Words, packageCount, typeCount, memberCountOf, elementCount, typeWord, memberWord, packageWord, elementAt, bytesAt, memberAt, membersFrom, elementsFrom, kindOf, kindRead, pathRead, tableOf}
+use Rattle.objects.specs.Rows.{Words, packageCount, typeCount, memberCountOf, elementCount, typeWord, memberWord, packageWord, elementAt, bytesAt, pkgOf, memberAt, membersFrom, elementsFrom, kindOf, kindRead, pathRead, tableOf}
 use Rattle.objects.specs.Laid.{endOf, used, Laid, Holds, memberOf, elementAdded, plusPackage, plusType, plusMember, plusElement}
 use Rattle.objects.proofs.Numbers.{each-more, each-grown, each-onLast}
 use Rattle.objects.proofs.RowLaws.{by-kind, named-kind, members-more, elements-more}
@@ -160,19 +160,19 @@ module _ (rows after : Words) (n : ℕ) (laid : Laid rows) (n-is : typeCount row
     unfolding endOf
     member-end words = rw (ne-eqb (typeWord rows (typeKey n) 0) 6 kind)
 
-    member-new : (text : Bytes) → memberAt text after (objKey (memberCountOf rows)) ≡ memberOf text (memberCountOf rows) name len pkg type form tag tagLen
+    member-new : (text : Bytes) → memberAt text after (objKey (memberCountOf rows)) ≡ memberOf text (memberCountOf rows) name len (pkgOf pkg) type form tag tagLen
     unfolding memberAt
     member-new text =
         rw
         (row 0 (omega arith), row 1 (omega arith), row 2 (omega arith), row 3 (omega arith), row 4 (omega arith), row 5 (omega arith), row 6 (omega arith))
 
     member-list : (text : Bytes) → membersFrom text after (typeWord rows (typeKey n) 4) (suc (typeWord rows (typeKey n) 5))
-        ≡ membersFrom text rows (typeWord rows (typeKey n) 4) (typeWord rows (typeKey n) 5) ++ (memberOf text (memberCountOf rows) name len pkg type form tag tagLen ∷ [])
+        ≡ membersFrom text rows (typeWord rows (typeKey n) 4) (typeWord rows (typeKey n) 5) ++ (memberOf text (memberCountOf rows) name len (pkgOf pkg) type form tag tagLen ∷ [])
     member-list text =
         let ends : typeWord rows (typeKey n) 4 + typeWord rows (typeKey n) 5 ≡ memberCountOf rows = laid .last (typeKey n) (sym n-is) ∙ member-end rows in
         members-more text after _ _ ∙ rw (ends, kept-members k text (typeWord rows (typeKey n) 4) (typeWord rows (typeKey n) 5) (omega arith), member-new text)
 
-    member-held : (text : Bytes) → tableOf text after ≡ plusMember (tableOf text rows) line (memberOf text (memberCountOf rows) name len pkg type form tag tagLen)
+    member-held : (text : Bytes) → tableOf text after ≡ plusMember (tableOf text rows) line (memberOf text (memberCountOf rows) name len (pkgOf pkg) type form tag tagLen)
     unfolding tableOf plusMember kindRead
     member-held text =
         same-table
@@ -181,7 +181,7 @@ module _ (rows after : Words) (n : ℕ) (laid : Laid rows) (n-is : typeCount row
         last-lines
         (rw m-is (each-grown (memberLines after) (memberLines rows) _ (kept-member-lines k) (row 7 (omega arith))))
 
-    pub member-grown : Holds after (λ text. plusMember (tableOf text rows) line (memberOf text (memberCountOf rows) name len pkg type form tag tagLen))
+    pub member-grown : Holds after (λ text. plusMember (tableOf text rows) line (memberOf text (memberCountOf rows) name len (pkgOf pkg) type form tag tagLen))
     member-grown = record {
       laid = last-laid (omega arith) (omega arith) (omega arith) (rw m-is room) (rw e-is (laid .elements)) (ap suc (member-end rows) ∙ sym (member-end after ∙ m-is));
       held = member-held;

@@ -1,15 +1,20 @@
--- Why the readers (src/rows.rt) give what specs/Types.antt reads off the words: one law for each way out.
+-- Why the readers (src/rows.rt) give what specs/Types.antt reads off the words: one law for each way out. And why the word of a package says it.
 use mathlib.Core.Path.{_≡_}
 use mathlib.Core.Bool.{Bool, true, false}
-use Prim.Native.Nat.{ℕ, _<_, _≤_}
+use Prim.Native.Nat.{ℕ, _+_, _-_, _<_, _≤_}
+use native.Mathlib.Omega.{arith}
 use lib.Dec.{eqb}
 use borrow.Author.Tests.{lt-ltb, le-ltb, ne-eqb}
 use Rattle.objects.specs.declared.TypeKey.{TypeKey}
+use Rattle.objects.specs.declared.ObjKey.{ObjKey}
+use Rattle.objects.specs.declared.PackageKey.{PackageKey}
+use Rattle.objects.specs.declared.«Package».{«Package»}
 use Rattle.objects.specs.declared.Dir.{Dir}
 use Rattle.objects.specs.declared.«Type».{«Type»}
-use Rattle.objects.specs.Table.{typeKey}
-use Rattle.objects.specs.Rows.{Words, typeWord, dirAt}
-use Rattle.objects.specs.Types.{typeRead, typeFrom, numberOf, numberRead, pointerRead, namedRead, bareRead, underRead, ifaceRead, namedPointerRead}
+use Rattle.objects.specs.Bounds.{maxReference}
+use Rattle.objects.specs.Table.{typeKey, packageKey, Numbered}
+use Rattle.objects.specs.Rows.{Words, typeWord, memberWord, packageMeant, packageFrom, dirAt}
+use Rattle.objects.specs.Types.{typeRead, typeFrom, numberOf, numberRead, pointerRead, namedRead, bareRead, underRead, ifaceRead, namedPointerRead, packageRead}
 
 -- ---- a whole type
 
@@ -130,3 +135,28 @@ module _ (rows : Words) (t : TypeKey) where
   pub named-pointer-no : {b : Bool} → b ≡ namedRead rows t → b ≡ false → false ≡ namedPointerRead rows t
   unfolding namedPointerRead
   named-pointer-no p q = rw (← p, q)
+
+-- ---- a member's package
+
+module _ (rows : Words) (m : ObjKey) {w : ℕ} (w-is : w ≡ memberWord rows m 2) where
+  pub package-absent : w ≡ 0 → «Package».Absent ≡ packageRead rows m
+  unfolding packageRead packageFrom
+  package-absent e = rw (← w-is, e)
+
+  pub package-is : (w ≡ 0 → ⊥) → «Package».Is (packageKey (w - 1)) ≡ packageRead rows m
+  unfolding packageRead packageFrom
+  package-is n = rw (← w-is, ne-eqb w 0 n)
+
+-- the word that says it
+module _ {p : «Package»} where
+  pub absent-said : p ≡ «Package».Absent → packageFrom 0 ≡ p
+  unfolding packageFrom
+  absent-said e = rw e
+
+  pub is-said : {k : PackageKey} → p ≡ «Package».Is k → packageFrom (k .0 + 1) ≡ p
+  unfolding packageFrom
+  is-said {k} e = let z : k .0 + 1 - 1 ≡ k .0 = omega arith in rw (e, ne-eqb (k .0 + 1) 0 (λ f. omega arith), z)
+
+  pub is-numbered : {k : PackageKey} → Numbered (packageMeant p) → p ≡ «Package».Is k → k .0 ≤ maxReference
+  unfolding packageMeant
+  is-numbered n e = rw e at n

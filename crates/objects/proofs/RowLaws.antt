@@ -15,8 +15,8 @@ use Rattle.objects.specs.declared.PackageKey.{PackageKey}
 use Rattle.objects.specs.declared.«Type».{«Type»}
 use Rattle.objects.specs.Lists.{Bytes, In, headOr}
 use Rattle.objects.specs.Table.{Member, Method, Basic, Named, typeKey, objKey, size, memberCount, kindNumber, membersOf, refs, isMethod, isEmbedded, hasPtr, kindAt, pathOf, under, bare, pointerAt, ifaceUnder, namedPointer, allMethodsOf, allMethods, fieldsOf, declaredOf}
-use Rattle.objects.specs.Rows.{Words, packageCount, typeCount, memberCountOf, typeWord, memberWord, elementAt, memberAt, membersFrom, elementsFrom, entityOf, kindOf, kindRead, pathRead, tableOf}
-use Rattle.objects.specs.Types.{typeFrom, typeRead, kindMeant, numberOf, numberRead, pointerRead, namedRead, bareRead, underRead, ifaceRead, namedPointerRead, firstRead, totalRead, memberTypeRead, embeddedRead, methodRead, ptrRead}
+use Rattle.objects.specs.Rows.{Words, packageCount, typeCount, memberCountOf, typeWord, memberWord, elementAt, packageMeant, pkgOf, memberAt, membersFrom, elementsFrom, entityOf, kindOf, kindRead, pathRead, tableOf}
+use Rattle.objects.specs.Types.{typeFrom, typeRead, kindMeant, numberOf, numberRead, pointerRead, namedRead, bareRead, underRead, ifaceRead, namedPointerRead, firstRead, totalRead, memberTypeRead, packageRead, embeddedRead, methodRead, ptrRead}
 use Rattle.objects.proofs.ListLaws.{cases, either}
 use Rattle.objects.proofs.Numbers.{each-length, each-at, run-length, run-at, run-has, run-In, run-more}
 
@@ -152,6 +152,10 @@ module _ (text : Bytes) (rows : Words) (m : ObjKey) where
   pub member-key : memberAt text rows m .key ≡ m
   unfolding memberAt
   member-key = refl
+
+  pub member-package-meant : memberAt text rows m .pkg ≡ packageMeant (packageRead rows m)
+  unfolding memberAt packageRead pkgOf
+  member-package-meant = refl
 
   pub member-type-meant : memberAt text rows m .type ≡ memberTypeRead rows m
   unfolding memberAt memberTypeRead

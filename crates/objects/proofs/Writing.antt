@@ -9,9 +9,10 @@ use lib.Dec.{eqb}
 use lib.ListN.{length, getD, set, length-set, replicate, length-replicate, getD-replicate}
 use lib.Seq.{sets, length-sets}
 use Rattle.objects.specs.declared.TypeKey.{TypeKey}
+use Rattle.objects.specs.declared.«Package».{«Package»}
 use Rattle.objects.specs.Bounds.{maxTypes, maxPackages, maxMembers, maxElements, rowWords, typesAt, membersAt, packagesAt}
 use Rattle.objects.specs.Table.{Table, typeKey}
-use Rattle.objects.specs.Rows.{Words, wordAt, packageCount, typeCount, memberCountOf, elementCount, typeWord, memberWord, packageWord, elementAt, bytesAt, kindOf, tableOf}
+use Rattle.objects.specs.Rows.{Words, wordAt, packageCount, typeCount, memberCountOf, elementCount, typeWord, memberWord, packageWord, elementAt, bytesAt, packageMeant, packageFrom, pkgOf, kindOf, tableOf}
 use Rattle.objects.specs.Laid.{endOf, lastType, used, Laid, Holds, raised, memberOf, plusPackage, plusType, plusMember, plusElement}
 use Rattle.objects.proofs.ListLaws.{cases}
 use Rattle.objects.proofs.Stores.{word-put, word-kept, run-put, run-kept, Kept, Free, kept-none, kept-set, kept-sets}
@@ -171,7 +172,7 @@ memberRow name len pkg type form tag width line = name ∷ len ∷ pkg ∷ type 
 module _ (rows : Words) (laid : Laid rows) (name len pkg type form tag width line : ℕ)
     (room : memberCountOf rows < maxMembers) (some : 0 < typeCount rows) (kind : typeWord rows (lastType rows) 0 ≢ 6) (space : used rows + rowWords ≤ length rows) where
   member-stored : Holds (set (sets (raised rows) (membersAt + rowWords * memberCountOf rows) (memberRow name len pkg type form tag width line)) 2 (memberCountOf rows + 1))
-      (λ text. plusMember (tableOf text rows) line (memberOf text (memberCountOf rows) name len pkg type form tag width))
+      (λ text. plusMember (tableOf text rows) line (memberOf text (memberCountOf rows) name len (pkgOf pkg) type form tag width))
   unfolding packageCount typeCount memberCountOf elementCount memberWord
   member-stored =
       let at = membersAt + rowWords * memberCountOf rows in
@@ -191,12 +192,13 @@ module _ (rows : Words) (laid : Laid rows) (name len pkg type form tag width lin
       (kept 3 (omega arith) (omega arith))
       (under-new rows laid some at vs 2 v l s (omega arith))
 
-pub member-holds : (rows : Words) (name len pkg type form tag width line : ℕ) {m : ℕ} {r r' : Words} → Laid rows → memberCountOf rows < maxMembers → 0 < typeCount rows
+pub member-holds : (rows : Words) (name len pkg type form tag width line : ℕ) {p : «Package»} {m : ℕ} {r r' : Words} → packageFrom pkg ≡ p → Laid rows → memberCountOf rows < maxMembers → 0 < typeCount rows
     → typeWord rows (lastType rows) 0 ≢ 6 → used rows + rowWords ≤ length rows → m ≡ memberCountOf rows → r ≡ raised rows
     → r' ≡ sets r (membersAt + rowWords * m) (memberRow name len pkg type form tag width line)
-    → Holds (set r' 2 (m + 1)) (λ text. plusMember (tableOf text rows) line (memberOf text (memberCountOf rows) name len pkg type form tag width))
-member-holds rows name len pkg type form tag width line laid room some kind space m-is r-is r'-is =
-    rw (r'-is, r-is, m-is) (member-stored rows laid name len pkg type form tag width line room some kind space)
+    → Holds (set r' 2 (m + 1)) (λ text. plusMember (tableOf text rows) line (memberOf text (memberCountOf rows) name len (packageMeant p) type form tag width))
+unfolding pkgOf
+member-holds rows name len pkg type form tag width line pkg-is laid room some kind space m-is r-is r'-is =
+    rw (← pkg-is, r'-is, r-is, m-is) (member-stored rows laid name len pkg type form tag width line room some kind space)
 
 -- ---- an element of a tuple
 

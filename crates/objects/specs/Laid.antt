@@ -4,14 +4,16 @@ use mathlib.Core.Path.{_≡_}
 use mathlib.Core.Bool.{cond}
 use mathlib.Core.List.{[], _∷_, _++_}
 use mathlib.Core.Logic.{_≢_}
+use mathlib.Core.Option.{Option}
 use Prim.Native.Nat.{ℕ, suc, _+_, _*_, _-_, _≤_, _<_}
 use lib.Dec.{eqb}
 use lib.ListN.{length, set}
 use Rattle.objects.specs.declared.TypeKey.{TypeKey}
+use Rattle.objects.specs.declared.PackageKey.{PackageKey}
 use Rattle.objects.specs.Bounds.{maxTypes, maxPackages, maxMembers, maxElements, rowWords, typesAt, membersAt}
 use Rattle.objects.specs.Lists.{Bytes, onLast}
 use Rattle.objects.specs.Table.{Table, Member, Kind, Basic, Array, Slice, Pointer, Map, Chan, Tuple, Func, Struct, Iface, Named, typeKey, objKey, withMember}
-use Rattle.objects.specs.Rows.{Words, packageCount, typeCount, memberCountOf, elementCount, typeWord, bytesAt, pkgOf, entityOf, tableOf}
+use Rattle.objects.specs.Rows.{Words, packageCount, typeCount, memberCountOf, elementCount, typeWord, bytesAt, entityOf, tableOf}
 
 -- ---- rows in order
 
@@ -48,12 +50,12 @@ raised rows = set rows (typesAt + rowWords * (typeCount rows - 1) + 5) (typeWord
 
 -- ---- a table with one line more
 
--- the member with this key that a row with these words says
-abbrev pub memberOf : Bytes → (key name len pkg type form tag tagLen : ℕ) → Member
+-- the member with this key and this package that a row with these words says
+abbrev pub memberOf : Bytes → (key name len : ℕ) (pkg : Option PackageKey) (type form tag tagLen : ℕ) → Member
 memberOf text key name len pkg type form tag tagLen = record {
   key = objKey key;
   name = bytesAt text name len;
-  pkg = pkgOf pkg;
+  pkg = pkg;
   type = typeKey type;
   entity = entityOf form (bytesAt text tag tagLen);
 }

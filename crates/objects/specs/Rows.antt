@@ -9,6 +9,7 @@ use lib.ListN.{length, getD, take, drop}
 use Rattle.objects.specs.declared.TypeKey.{TypeKey}
 use Rattle.objects.specs.declared.ObjKey.{ObjKey}
 use Rattle.objects.specs.declared.PackageKey.{PackageKey}
+use Rattle.objects.specs.declared.«Package».{«Package»}
 use Rattle.objects.specs.declared.Dir.{Dir}
 use Rattle.objects.specs.Bounds.{rowWords, typesAt, membersAt, packagesAt}
 use Rattle.objects.specs.Lists.{Bytes, upTo}
@@ -61,8 +62,17 @@ bytesAt text at count = take count (drop at text)
 unfoldable pub entityOf : ℕ → Bytes → Entity
 entityOf form tag = cond (eqb form 0) (Field false tag) (cond (eqb form 1) (Field true tag) (cond (eqb form 2) (Method false) (Method true)))
 
+-- "pkg is a number or `-` for none"
+unfoldable pub packageMeant : «Package» → Option PackageKey
+packageMeant «Package».Absent = none
+packageMeant («Package».Is p) = some p
+
+-- the package that a word says: its number and one, 0 for none
+unfoldable pub packageFrom : ℕ → «Package»
+packageFrom n = cond (eqb n 0) «Package».Absent («Package».Is (packageKey (n - 1)))
+
 unfoldable pub pkgOf : ℕ → Option PackageKey
-pkgOf n = cond (eqb n 0) none (some (packageKey (n - 1)))
+pkgOf n = packageMeant (packageFrom n)
 
 unfoldable pub dirAt : ℕ → Dir
 dirAt n = cond (eqb n 0) Dir.Both (cond (eqb n 1) Dir.Send Dir.Receive)

@@ -2,13 +2,14 @@
 use mathlib.Core.Bool.{Bool, true, false, cond, _&&_, _||_}
 use mathlib.Core.List.{List, [], _∷_, _++_, map}
 use mathlib.Core.Option.{Option, none, some}
-use Prim.Native.Nat.{ℕ}
+use Prim.Native.Nat.{ℕ, _≤_}
 use lib.Dec.{eqb, ltb}
 use lib.ListN.{length, getD}
 use Rattle.objects.specs.declared.TypeKey.{TypeKey}
 use Rattle.objects.specs.declared.ObjKey.{ObjKey}
 use Rattle.objects.specs.declared.PackageKey.{PackageKey}
 use Rattle.objects.specs.declared.Dir.{Dir}
+use Rattle.objects.specs.Bounds.{maxReference}
 use Rattle.objects.specs.Lists.{Bytes, headOr}
 
 -- ---- keys: "A type number, a member number and a package number are each a kind of their own"
@@ -182,6 +183,13 @@ allMethodsOf k = cond (isIface k) (membersOf k) []
 -- "By value (10): through array elements, fields and a named type's u."
 abbrev pub byValue : Kind → List TypeKey
 byValue k = cond (isArray k || isNamed k) (refs k) (map (λ m. m .type) (fieldsOf k))
+
+-- ---- packages
+
+-- "A type or package number of more than four digits has a wrong form."
+abbrev pub Numbered : Option PackageKey → Type 0
+Numbered none = Unit {0}
+Numbered (some p) = p .0 ≤ maxReference
 
 -- ---- what a table says
 

@@ -6,11 +6,12 @@ use Prim.Native.Nat.{ℕ}
 use lib.Dec.{eqb, ltb}
 use Rattle.objects.specs.declared.TypeKey.{TypeKey}
 use Rattle.objects.specs.declared.ObjKey.{ObjKey}
+use Rattle.objects.specs.declared.«Package».{«Package»}
 use Rattle.objects.specs.declared.«Type».{«Type»}
 use Rattle.objects.specs.declared.Stage.{Stage}
 use Rattle.objects.specs.Lists.{Bytes}
 use Rattle.objects.specs.Table.{Kind, Basic, Array, Slice, Pointer, Map, Chan, Tuple, Func, Struct, Iface, Named, typeKey}
-use Rattle.objects.specs.Rows.{Words, typeWord, memberWord, dirAt, membersFrom, elementsFrom}
+use Rattle.objects.specs.Rows.{Words, typeWord, memberWord, packageFrom, dirAt, membersFrom, elementsFrom}
 
 -- ---- a whole type
 
@@ -86,6 +87,9 @@ module _ (rows : Words) where
 
   unfoldable pub memberTypeRead : ObjKey → TypeKey
   memberTypeRead m = typeKey (memberWord rows m 3)
+
+  unfoldable pub packageRead : ObjKey → «Package»
+  packageRead m = packageFrom (memberWord rows m 2)
 
   unfoldable pub embeddedRead : ObjKey → Bool
   embeddedRead m = eqb (memberWord rows m 4) 1

@@ -10,6 +10,12 @@ pub struct ObjKey(pub u32);
 
 pub struct PackageKey(pub u32);
 
+// "pkg is a number or `-` for none"
+pub enum Package {
+    Absent,
+    Is(PackageKey),
+}
+
 // "A channel carries its direction d: 0 both ways, 1 send only, 2 receive only."
 pub enum Dir {
     Both,

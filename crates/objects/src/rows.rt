@@ -2,9 +2,10 @@
 // that every reader is total.
 ghost use mathlib.Core.Path.{_≡_};
 ghost use Rattle.objects.specs.Rows.{wordAt, packageCount, typeCount, memberCountOf, elementCount, typeWord, memberWord, packageWord, elementAt, dirAt};
-ghost use Rattle.objects.specs.Types.{typeRead, numberRead, pointerRead, namedRead, bareRead, underRead, ifaceRead, namedPointerRead, firstRead, totalRead, memberTypeRead, embeddedRead, methodRead, ptrRead};
+ghost use Rattle.objects.specs.Types.{typeRead, numberRead, pointerRead, namedRead, bareRead, underRead, ifaceRead, namedPointerRead, firstRead, totalRead, memberTypeRead, packageRead, embeddedRead, methodRead, ptrRead};
 use crate::Dir;
 use crate::ObjKey;
+use crate::Package;
 use crate::PackageKey;
 use crate::Type;
 use crate::TypeKey;
@@ -203,6 +204,17 @@ pub fn member_type(rows: &[u32], m: ObjKey) -> TypeKey
     ensures { λ r. ⌜ r ≡ memberTypeRead (now (rows .entry)) m ⌝ }
 {
     TypeKey(member_word(rows, m, 3))
+}
+
+pub fn member_package(rows: &[u32], m: ObjKey) -> Package
+    ensures { λ r. ⌜ r ≡ packageRead (now (rows .entry)) m ⌝ }
+{
+    let w = member_word(rows, m, 2);
+    if w == 0 {
+        Package::Absent
+    } else {
+        Package::Is(PackageKey(w - 1))
+    }
 }
 
 pub fn is_embedded(rows: &[u32], m: ObjKey) -> bool

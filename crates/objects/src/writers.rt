@@ -6,8 +6,10 @@ ghost use Prim.Native.Nat.{_+_, _<_, _≤_};
 ghost use lib.ListN.{length};
 ghost use lib.Seq.{sets};
 ghost use Rattle.objects.specs.Bounds.{maxPackages, maxTypes, maxMembers, maxElements, rowWords};
-ghost use Rattle.objects.specs.Rows.{packageCount, typeCount, memberCountOf, elementCount, typeWord, bytesAt, kindOf, tableOf};
+ghost use Rattle.objects.specs.Table.{Numbered};
+ghost use Rattle.objects.specs.Rows.{packageFrom, packageMeant, packageCount, typeCount, memberCountOf, elementCount, typeWord, bytesAt, kindOf, tableOf};
 ghost use Rattle.objects.specs.Laid.{used, Laid, Holds, RankPut, endOf, lastType, raised, memberOf, plusPackage, plusType, plusMember, plusElement};
+use crate::Package;
 use crate::TypeKey;
 use crate::rows::MEMBERS_AT;
 use crate::rows::PACKAGE_WORDS;
@@ -54,6 +56,17 @@ fn put_row(
     rows[at + 5] = f;
     rows[at + 6] = g;
     rows[at + 7] = h;
+}
+
+// The word of a member's row that says its package.
+fn package_said(p: Package) -> u32
+    requires { ⌜ Numbered (packageMeant p) ⌝ }
+    ensures { λ r. ⌜ packageFrom r ≡ p ⌝ }
+{
+    match p {
+        Package::Absent => 0,
+        Package::Is(k) => k.0 + 1,
+    }
 }
 
 // Where the members of a new type start: behind all members, a tuple's elements behind all elements.
@@ -119,25 +132,26 @@ pub fn put_member(
     rows: &mut [u32],
     name: u32,
     len: u32,
-    pkg: u32,
+    pkg: Package,
     t: TypeKey,
     form: u32,
     tag: u32,
     width: u32,
     line: u32,
 )
-    requires { ⌜ Laid (now rows) × (memberCountOf (now rows) < maxMembers) × (0 < typeCount (now rows)) × (typeWord (now rows) (lastType (now rows)) 0 ≢ 6) × (used (now rows) + rowWords ≤ length (now rows)) ⌝ }
-    ensures { λ _. ⌜ Holds (now (rows .exit)) (λ text. plusMember (tableOf text (now (rows .entry))) line (memberOf text (memberCountOf (now (rows .entry))) name len pkg (t .0) form tag width)) ⌝ }
+    requires { ⌜ Laid (now rows) × (memberCountOf (now rows) < maxMembers) × (0 < typeCount (now rows)) × (typeWord (now rows) (lastType (now rows)) 0 ≢ 6) × (used (now rows) + rowWords ≤ length (now rows)) × Numbered (packageMeant pkg) ⌝ }
+    ensures { λ _. ⌜ Holds (now (rows .exit)) (λ text. plusMember (tableOf text (now (rows .entry))) line (memberOf text (memberCountOf (now (rows .entry))) name len (packageMeant pkg) (t .0) form tag width)) ⌝ }
     ensures { λ _. ⌜ elementCount (now (rows .exit)) ≡ elementCount (now (rows .entry)) ⌝ }
 {
     let m = member_count(rows);
+    let said = package_said(pkg);
     raise(rows);
     put_row(
         rows,
         MEMBERS_AT + ROW_WORDS * (m as usize),
         name,
         len,
-        pkg,
+        said,
         t.0,
         form,
         tag,

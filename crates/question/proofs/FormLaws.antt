@@ -9,9 +9,10 @@ use lib.Dec.{leb}
 use lib.ListN.{length}
 use borrow.Author.Tests.{leb-true}
 use Rattle.objects.specs.declared.TypeKey.{TypeKey}
+use Rattle.objects.specs.declared.«Package».{«Package»}
 use Rattle.objects.specs.Bounds.{maxName}
 use Rattle.objects.specs.Lists.{Bytes, empty, every}
-use Rattle.objects.specs.Rows.{bytesAt, pkgOf}
+use Rattle.objects.specs.Rows.{bytesAt, packageMeant}
 use Rattle.objects.proofs.ListLaws.{clash, and-l, and-r}
 use Rattle.text.specs.declared.Cursor.{Cursor}
 use Rattle.text.specs.declared.Part.{Part}
@@ -130,7 +131,7 @@ module _ (line : Bytes) (f : Cursor) (r : Part) (p : partRead line r ≡ field f
   pub name-end : to ≤ length line
   name-end = let z = name-places .0 in exact-within line from to g exact (omega arith)
 
-  pub s-reads : (t : TypeKey) (a : Bool) (pkg : ℕ) → Reads line (Ask.S t a pkg from (to - from)) (some (askS t a (pkgOf pkg) (part line from to)))
+  pub s-reads : (t : TypeKey) (a : Bool) (pkg : «Package») → Reads line (Ask.S t a pkg from (to - from)) (some (askS t a (packageMeant pkg) (part line from to)))
   unfolding asksMeant NameIn bytesAt part
   s-reads t a pkg =
       let z = name-places in

@@ -2,15 +2,15 @@
 use mathlib.Core.Path.{_≡_, refl, sym, ap, ap₂, _∙_}
 use mathlib.Core.Bool.{Bool, true, false, not, _&&_}
 use mathlib.Core.Option.{Option, none, some}
-use Prim.Native.Nat.{ℕ, _-_, _≤_, _<_}
-use native.Mathlib.Omega.{arith}
+use Prim.Native.Nat.{_<_}
 use lib.Dec.{eqb, ltb, leb}
 use lib.ListN.{length}
-use borrow.Author.Tests.{ltb-true, leb-true, eqb-true, eqb-false, le-leb, lt-ltb, le-ltb, leb-false}
+use borrow.Author.Tests.{ltb-true}
 use Rattle.objects.specs.declared.TypeKey.{TypeKey}
+use Rattle.objects.specs.declared.«Package».{«Package»}
 use Rattle.objects.specs.Bounds.{maxQuestion}
 use Rattle.objects.specs.Lists.{Bytes}
-use Rattle.objects.specs.Rows.{Words, typeCount, packageCount, pkgOf, bytesAt, tableOf}
+use Rattle.objects.specs.Rows.{Words, typeCount, packageMeant, bytesAt, tableOf}
 use Rattle.objects.specs.Table.{Table, hasType, hasPackage}
 use Rattle.objects.proofs.ListLaws.{cases, and-l, and-r}
 use Rattle.objects.proofs.RowLaws.{size-read, package-count-read, number-read}
@@ -18,25 +18,17 @@ use Rattle.text.proofs.AnswerLaws.{none-some}
 use Rattle.rules.specs.Question.{Question, askS, askM, askN, askI, askC, askV, inTable, known, questionOf}
 use Rattle.rules.specs.Asked.{wrongSecond}
 use Rattle.question.specs.declared.Ask.{Ask}
-use Rattle.question.specs.Asks.{asksMeant, formOf, knownRead, Known, secondRead, Reads}
+use Rattle.question.specs.Asks.{asksMeant, formOf, packageKnown, knownRead, Known, secondRead, Reads}
 use Rattle.question.proofs.FormLaws.{reads-at, wrong-reads}
 
 module _ (text : Bytes) (rows : Words) where
   pub type-has : (t : TypeKey) → hasType (tableOf text rows) t ≡ ltb (t .0) (typeCount rows)
   type-has t = ap (ltb (t .0)) (size-read text rows)
 
-  pub package-has : (pkg : ℕ) → hasPackage (tableOf text rows) (pkgOf pkg) ≡ leb pkg (packageCount rows)
-  unfolding pkgOf
-  package-has pkg =
-      cases (eqb pkg 0)
-      (λ e. let z = eqb-true pkg 0 e in let y : pkg ≤ packageCount rows = omega arith in rw e (sym (le-leb pkg (packageCount rows) y)))
-      (λ e. let z = eqb-false pkg 0 e in rw e (ap (ltb (pkg - 1)) (package-count-read text rows) ∙ below z))
-    where
-      below : (pkg ≡ 0 → ⊥) → ltb (pkg - 1) (packageCount rows) ≡ leb pkg (packageCount rows)
-      below z =
-          cases (leb pkg (packageCount rows))
-          (λ e. let y = leb-true pkg (packageCount rows) e in let w : pkg - 1 < packageCount rows = omega arith in lt-ltb (pkg - 1) (packageCount rows) w ∙ sym e)
-          (λ e. let y = leb-false pkg (packageCount rows) e in let w : packageCount rows ≤ pkg - 1 = omega arith in le-ltb (pkg - 1) (packageCount rows) w ∙ sym e)
+  pub package-has : (pkg : «Package») → hasPackage (tableOf text rows) (packageMeant pkg) ≡ packageKnown rows pkg
+  unfolding packageMeant packageKnown
+  package-has «Package».Absent = refl
+  package-has («Package».Is p) = ap (ltb (p .0)) (package-count-read text rows)
 
 -- ---- what was read has these numbers, whatever the text is
 
@@ -44,7 +36,7 @@ module _ (text : Bytes) (rows : Words) (line : Bytes) where
   pub known-is : (a : Ask) (q : Question) → asksMeant line a ≡ some q → knownRead rows a ≡ inTable (tableOf text rows) q
   unfolding asksMeant knownRead
   known-is (Ask.S t b pkg at len) q h =
-      let z : askS t b (pkgOf pkg) (bytesAt line at len) ≡ q = cc in
+      let z : askS t b (packageMeant pkg) (bytesAt line at len) ≡ q = cc in
       ap₂ (λ x y. x && y) (sym (type-has text rows t)) (sym (package-has text rows pkg)) ∙ ap (inTable (tableOf text rows)) z
   known-is (Ask.M t) q h = let z : askM t ≡ q = cc in sym (type-has text rows t) ∙ ap (inTable (tableOf text rows)) z
   known-is (Ask.N t i s) q h =
@@ -59,7 +51,7 @@ module _ (text : Bytes) (rows : Words) (line : Bytes) where
 
   pub second-is : (a : Ask) (q : Question) → Known rows a → asksMeant line a ≡ some q → secondRead rows a ≡ wrongSecond (tableOf text rows) q
   unfolding asksMeant secondRead Known
-  second-is (Ask.S t b pkg at len) q k h = let z : askS t b (pkgOf pkg) (bytesAt line at len) ≡ q = cc in ap (wrongSecond (tableOf text rows)) z
+  second-is (Ask.S t b pkg at len) q k h = let z : askS t b (packageMeant pkg) (bytesAt line at len) ≡ q = cc in ap (wrongSecond (tableOf text rows)) z
   second-is (Ask.M t) q k h = let z : askM t ≡ q = cc in ap (wrongSecond (tableOf text rows)) z
   second-is (Ask.N t i s) q k h =
       let z : askN t i s ≡ q = cc in
@@ -75,7 +67,7 @@ module _ (rows : Words) where
 
   pub known-facts : (a : Ask) → knownRead rows a ≡ true → Known rows a
   unfolding knownRead Known
-  known-facts (Ask.S t b pkg at len) h = (ltb-true _ _ (and-l (ltb (t .0) (typeCount rows)) (leb pkg (packageCount rows)) h), leb-true _ _ (and-r (ltb (t .0) (typeCount rows)) (leb pkg (packageCount rows)) h))
+  known-facts (Ask.S t b pkg at len) h = (ltb-true _ _ (and-l (ltb (t .0) (typeCount rows)) (packageKnown rows pkg) h), and-r (ltb (t .0) (typeCount rows)) (packageKnown rows pkg) h)
   known-facts (Ask.M t) h = ltb-true _ _ h
   known-facts (Ask.N t i s) h = both t i h
   known-facts (Ask.I x y) h = both x y h

@@ -3,4 +3,3 @@ pub mod RefLaws
 pub mod FormLaws
 pub mod LetterLaws
 pub mod KnownLaws
-pub mod AskLaws

@@ -4,9 +4,10 @@ use mathlib.Core.List.{List, [], _∷_}
 use mathlib.Core.Option.{Option, none, some}
 use Prim.Native.Nat.{ℕ}
 use lib.Dec.{eqb}
+use Rattle.objects.specs.declared.«Package».{«Package»}
 use Rattle.objects.specs.Bounds.{maxReference}
 use Rattle.objects.specs.Lists.{Bytes, mapped}
-use Rattle.objects.specs.Rows.{pkgOf}
+use Rattle.objects.specs.Rows.{packageMeant}
 use Rattle.objects.specs.Table.{typeKey}
 use Rattle.text.specs.declared.Cursor.{Cursor}
 use Rattle.text.specs.Bytes.{number}
@@ -14,8 +15,9 @@ use Rattle.text.specs.Readers.{field}
 use Rattle.text.specs.Cursors.{fieldsLeft}
 use Rattle.rules.specs.Forms.{typeRef, packageRef, flagBit}
 use Rattle.line_forms.specs.declared.Small.{Small}
+use Rattle.line_forms.specs.declared.Packaged.{Packaged}
 use Rattle.line_forms.specs.Steps.{numbered, packaged}
-use Rattle.line_forms.specs.Forms.{smallRead, packageRead}
+use Rattle.line_forms.specs.Forms.{smallRead, packagedRead}
 
 -- ---- a number that stands for something
 
@@ -54,11 +56,11 @@ module _ (s : Bytes) (fs : List Bytes) (r : Small) (p : smallRead s r ≡ number
   unfolding smallRead numbered
   flag-out q = mapped-out (λ n. eqb n 1) (number 1) fs (sym p ∙ ap (smallRead s) q)
 
-module _ (s : Bytes) (fs : List Bytes) (r : Small) (p : packageRead s r ≡ packaged fs) where
-  pub pkg-on : {w : ℕ} {c : Cursor} → r ≡ Small.Value w c → field packageRef fs ≡ some (pkgOf w, fieldsLeft s c)
-  unfolding packageRead packaged
-  pkg-on q = sym p ∙ ap (packageRead s) q
+module _ (s : Bytes) (fs : List Bytes) (r : Packaged) (p : packagedRead s r ≡ packaged fs) where
+  pub pkg-on : {pkg : «Package»} {c : Cursor} → r ≡ Packaged.Is pkg c → field packageRef fs ≡ some (packageMeant pkg, fieldsLeft s c)
+  unfolding packagedRead packaged
+  pkg-on q = sym p ∙ ap (packagedRead s) q
 
-  pub pkg-out : r ≡ Small.Wrong → field packageRef fs ≡ none
-  unfolding packageRead packaged
-  pkg-out q = sym p ∙ ap (packageRead s) q
+  pub pkg-out : r ≡ Packaged.Wrong → field packageRef fs ≡ none
+  unfolding packagedRead packaged
+  pkg-out q = sym p ∙ ap (packagedRead s) q

@@ -3,33 +3,35 @@ ghost use mathlib.Core.Path.{_≡_};
 ghost use mathlib.Core.Bool.{_&&_, true};
 ghost use mathlib.Core.Option.{some};
 ghost use Prim.Native.Nat.{_≤_};
-ghost use lib.Dec.{ltb, leb};
+ghost use lib.Dec.{ltb};
 ghost use lib.ListN.{length};
 ghost use Rattle.objects.specs.Bounds.{maxQuestion};
 ghost use Rattle.objects.specs.Lists.{Bytes};
-ghost use Rattle.objects.specs.Rows.{typeCount, packageCount, tableOf};
+ghost use Rattle.objects.specs.Rows.{typeCount, tableOf};
 ghost use Rattle.text.specs.Bytes.{ascii};
 ghost use Rattle.text.specs.Readers.{done, whole};
 ghost use Rattle.text.specs.Cursors.{fieldsLeft};
 ghost use Rattle.rules.specs.Question.{Question, inTable, questionOf};
 ghost use Rattle.rules.specs.Asked.{wrongSecond};
-ghost use Rattle.question.specs.Asks.{asksMeant, behindLetter, letterAt, formOf, Reads, knownRead, Known};
+ghost use Rattle.question.specs.Asks.{asksMeant, behindLetter, formOf, Reads, packageKnown, knownRead, Known};
+use line_forms::Packaged;
 use line_forms::Small;
 use line_forms::fields::MAX_REFERENCE;
 use line_forms::fields::package;
 use line_forms::fields::small;
+use objects::Package;
 use objects::TypeKey;
 use objects::rows::kind_number;
 use objects::rows::package_count;
 use objects::rows::type_count;
 use text::Cursor;
 use text::Part;
+use text::Past;
 use text::bytes::both;
-use text::scan::byte;
 
-// The question of a line. S has the type, whether it is addressable, the word of the package, and place and length of the name in the line.
+// The question of a line. S has the type, whether it is addressable, the package, and place and length of the name in the line.
 pub enum Ask {
-    S(TypeKey, bool, u32, u32, u32),
+    S(TypeKey, bool, Package, u32, u32),
     M(TypeKey),
     N(TypeKey, TypeKey, bool),
     I(TypeKey, TypeKey),
@@ -61,7 +63,7 @@ fn ask_s(c: Cursor, line: &[u8]) -> Ask
     let Small::Value(a, e) = small(line, d, 1) else {
         return Ask::Wrong;
     };
-    let Small::Value(pkg, f) = package(line, e) else {
+    let Packaged::Is(pkg, f) = package(line, e) else {
         return Ask::Wrong;
     };
     let Part::Is(from, to, g) = f.name(line) else {
@@ -116,19 +118,7 @@ fn ask_c(c: Cursor, line: &[u8]) -> Ask
     ended(d, Ask::C(TypeKey(t)))
 }
 
-// The byte of a part that has one byte, else 256.
-fn letter(line: &[u8], from: usize, to: usize) -> u64
-    ensures { λ r. ⌜ r ≡ letterAt (now (line .entry)) from to ⌝ }
-{
-    if from < to {
-        if to - from == 1 {
-            return byte(line, from, to);
-        }
-    }
-    256
-}
-
-// The form alone.
+// The form alone, by its letter.
 pub fn parse(line: &[u8]) -> Ask
     ensures { λ r. ⌜ Reads (now (line .entry)) r (formOf (now (line .entry))) ⌝ }
 {
@@ -136,18 +126,26 @@ pub fn parse(line: &[u8]) -> Ask
     if MAX_QUESTION < n {
         return Ask::Wrong;
     }
-    let Part::Is(from, to, c) = Cursor::line(0, n).field(line) else {
-        return Ask::Wrong;
-    };
-    match letter(line, from, to) {
-        83 => ask_s(c, line),
-        77 => ask_m(c, line),
-        78 => ask_n(c, line),
-        73 => ask_i(c, line),
-        67 => ask_c(c, line),
-        86 => ended(c, Ask::V),
-        _ => Ask::Wrong,
+    let c = Cursor::line(0, n);
+    if let Past::To(d) = c.word(line, b"S") {
+        return ask_s(d, line);
     }
+    if let Past::To(d) = c.word(line, b"M") {
+        return ask_m(d, line);
+    }
+    if let Past::To(d) = c.word(line, b"N") {
+        return ask_n(d, line);
+    }
+    if let Past::To(d) = c.word(line, b"I") {
+        return ask_i(d, line);
+    }
+    if let Past::To(d) = c.word(line, b"C") {
+        return ask_c(d, line);
+    }
+    if let Past::To(d) = c.word(line, b"V") {
+        return ended(d, Ask::V);
+    }
+    Ask::Wrong
 }
 
 // ---- the table's numbers
@@ -158,10 +156,13 @@ fn has_type(rows: &[u32], t: TypeKey) -> bool
     t.0 < type_count(rows)
 }
 
-fn has_package(rows: &[u32], pkg: u32) -> bool
-    ensures { λ r. ⌜ r ≡ leb pkg (packageCount (now (rows .entry))) ⌝ }
+fn has_package(rows: &[u32], p: Package) -> bool
+    ensures { λ r. ⌜ r ≡ packageKnown (now (rows .entry)) p ⌝ }
 {
-    pkg <= package_count(rows)
+    match p {
+        Package::Absent => true,
+        Package::Is(k) => k.0 < package_count(rows),
+    }
 }
 
 fn known_words(rows: &[u32], a: Ask) -> bool

@@ -6,18 +6,19 @@ use Prim.Native.Nat.{ℕ, _+_, _-_, _<_, _≤_}
 use native.Mathlib.Omega.{arith}
 use lib.Dec.{ltb}
 use lib.ListN.{drop}
-use borrow.Author.Tests.{ne-eqb}
 use Rattle.objects.specs.declared.TypeKey.{TypeKey}
 use Rattle.objects.specs.declared.ObjKey.{ObjKey}
+use Rattle.objects.specs.declared.PackageKey.{PackageKey}
+use Rattle.objects.specs.declared.«Package».{«Package»}
 use Rattle.objects.specs.declared.«Type».{«Type»}
 use Rattle.objects.specs.Lists.{Bytes, every}
 use Rattle.objects.specs.Table.{Table, Kind, refs, hasType, hasPackage, kindNumber, kindAt}
-use Rattle.objects.specs.Rows.{Words, typeCount, packageCount, memberWord, pkgOf, elementAt, elementsFrom, memberAt, tableOf}
-use Rattle.objects.specs.Types.{typeRead, kindMeant, numberRead, firstRead, totalRead, memberTypeRead}
+use Rattle.objects.specs.Rows.{Words, typeCount, packageCount, packageMeant, elementAt, elementsFrom, memberAt, tableOf}
+use Rattle.objects.specs.Types.{typeRead, kindMeant, numberRead, firstRead, totalRead, memberTypeRead, packageRead}
 use Rattle.objects.proofs.ListLaws.{clash}
 use Rattle.objects.proofs.BoolLaws.{and-yes, false-of}
 use Rattle.objects.proofs.PartLaws.{every-In, every-next, every-end}
-use Rattle.objects.proofs.RowLaws.{size-read, package-count-read, kind-read, number-read, type-meant, elements-length, elements-at, elements-have}
+use Rattle.objects.proofs.RowLaws.{size-read, package-count-read, kind-read, number-read, type-meant, elements-length, elements-at, elements-have, member-type-meant, member-package-meant}
 use Rattle.rules.specs.Checks.{mayRefer}
 use Rattle.references.specs.declared.Test.{Test}
 use Rattle.references.specs.Tests.{passes}
@@ -29,19 +30,19 @@ module _ (text : Bytes) (rows : Words) where
   pub type-had : (t : TypeKey) {n : ℕ} → n ≡ typeCount rows → ltb (t .0) n ≡ hasType (tableOf text rows) t
   type-had t p = ap (ltb (t .0)) (p ∙ sym (size-read text rows))
 
-  pub no-package : {n : ℕ} → n ≡ 0 → true ≡ hasPackage (tableOf text rows) (pkgOf n)
-  unfolding pkgOf
-  no-package e = rw e
+  module _ {p : «Package»} where
+    pub no-package : p ≡ «Package».Absent → true ≡ hasPackage (tableOf text rows) (packageMeant p)
+    unfolding packageMeant
+    no-package e = rw e
 
-  pub package-had : (n : ℕ) → (n ≡ 0 → ⊥) → {c : ℕ} → c ≡ packageCount rows → ltb (n - 1) c ≡ hasPackage (tableOf text rows) (pkgOf n)
-  unfolding pkgOf
-  package-had n z p = rw (ne-eqb n 0 z) (ap (ltb (n - 1)) (p ∙ sym (package-count-read text rows)))
+    pub package-had : {k : PackageKey} → p ≡ «Package».Is k → {c : ℕ} → c ≡ packageCount rows → ltb (k .0) c ≡ hasPackage (tableOf text rows) (packageMeant p)
+    unfolding packageMeant
+    package-had {k} e q = rw e (ap (ltb (k .0)) (q ∙ sym (package-count-read text rows)))
 
   pub member-had : (m : ObjKey) {e : TypeKey} → e ≡ memberTypeRead rows m → {a : Bool} → a ≡ hasType (tableOf text rows) e
-      → {w : ℕ} → w ≡ memberWord rows m 2 → {b : Bool} → b ≡ hasPackage (tableOf text rows) (pkgOf w) → {r : Bool} → r ≡ a && b
+      → {p : «Package»} → p ≡ packageRead rows m → {b : Bool} → b ≡ hasPackage (tableOf text rows) (packageMeant p) → {r : Bool} → r ≡ a && b
       → r ≡ hasType (tableOf text rows) (memberAt text rows m .type) && hasPackage (tableOf text rows) (memberAt text rows m .pkg)
-  unfolding memberAt memberTypeRead
-  member-had m pe pa pw pb pr = pr ∙ rw (pa, pb, pe, pw)
+  member-had m pe pa pp pb pr = pr ∙ rw (pa, pb, pe, pp, member-type-meant text rows m, member-package-meant text rows m)
 
 -- ---- a reference
 

@@ -3,7 +3,7 @@ ghost use mathlib.Core.Bool.{_&&_};
 ghost use Prim.Native.Nat.{_<_};
 ghost use Rattle.objects.specs.Lists.{every};
 ghost use Rattle.objects.specs.Table.{kindAt, refs, hasType, hasPackage};
-ghost use Rattle.objects.specs.Rows.{typeCount, pkgOf};
+ghost use Rattle.objects.specs.Rows.{typeCount, packageMeant};
 ghost use Rattle.objects.specs.Laid.{Laid};
 ghost use Rattle.references.specs.Lines.{Says, SaysOf, SaysEach};
 ghost use Rattle.references.specs.Tests.{passes};
@@ -12,10 +12,11 @@ use crate::allowed::may_refer;
 use crate::elements::elements_allowed;
 use crate::elements::elements_within;
 use objects::ObjKey;
+use objects::Package;
 use objects::Type;
 use objects::TypeKey;
+use objects::rows::member_package;
 use objects::rows::member_type;
-use objects::rows::member_word;
 use objects::rows::package_count;
 use objects::rows::type_count;
 use objects::rows::type_of;
@@ -29,14 +30,12 @@ pub fn has_type(rows: &[u32], t: TypeKey) -> bool
     t.0 < type_count(rows)
 }
 
-// A package as a member's row has it: its number and one, 0 for none.
-pub fn has_package(rows: &[u32], n: u32) -> bool
-    ensures { λ r. ⌜ Says (now (rows .entry)) r (λ T. hasPackage T (pkgOf n)) ⌝ }
+pub fn has_package(rows: &[u32], p: Package) -> bool
+    ensures { λ r. ⌜ Says (now (rows .entry)) r (λ T. hasPackage T (packageMeant p)) ⌝ }
 {
-    if n == 0 {
-        true
-    } else {
-        n - 1 < package_count(rows)
+    match p {
+        Package::Absent => true,
+        Package::Is(k) => k.0 < package_count(rows),
     }
 }
 
@@ -46,7 +45,7 @@ pub fn member_within(rows: &[u32], m: ObjKey) -> bool
 {
     both(
         has_type(rows, member_type(rows, m)),
-        has_package(rows, member_word(rows, m, 2)),
+        has_package(rows, member_package(rows, m)),
     )
 }
 

@@ -3,13 +3,14 @@ use mathlib.Core.Path.{_≡_, refl}
 use mathlib.Core.Bool.{true, false, not, _&&_}
 use mathlib.Core.List.{List, [], _∷_}
 use mathlib.Core.Logic.{_⊎_, inl, inr}
-use mathlib.Core.Option.{some}
-use Prim.Native.Nat.{_≤_}
+use mathlib.Core.Option.{Option, none, some}
+use Prim.Native.Nat.{ℕ, _≤_}
 use borrow.Author.Tests.{not-true}
-use Rattle.objects.specs.Bounds.{maxBasic, maxArray}
-use Rattle.objects.specs.Lists.{Bytes, when}
-use Rattle.objects.specs.Table.{isMethod, tagOf, Entity, Field, Method, Kind, Basic, Array, Slice, Pointer, Map, Chan, Tuple, Func, Struct, Iface, Named, membersOf}
-use Rattle.objects.proofs.ListLaws.{clash, and-l, and-r}
+use Rattle.objects.specs.declared.PackageKey.{PackageKey}
+use Rattle.objects.specs.Bounds.{maxReference, maxBasic, maxArray}
+use Rattle.objects.specs.Lists.{Bytes, when, mapped}
+use Rattle.objects.specs.Table.{isMethod, tagOf, Entity, Field, Method, Kind, Basic, Array, Slice, Pointer, Map, Chan, Tuple, Func, Struct, Iface, Named, membersOf, packageKey, Numbered}
+use Rattle.objects.proofs.ListLaws.{cases, clash, and-l, and-r}
 use Rattle.text.specs.Bytes.{isName, isBlank, isPath, isTag, number}
 use Rattle.text.specs.Readers.{_>>=_, field, others, isWord}
 use Rattle.text.proofs.Gives.{Holds, First, Gives, when-holds, holds-some, field-gives, done-gives, none-gives, cond-gives, whole-gives, bind-gives, then-gives, number-max}
@@ -33,9 +34,10 @@ InRange (Named u ms) = Unit {0}
 abbrev pub TagOrNone : Bytes → Type 0
 TagOrNone t = (t ≡ []) ⊎ (isTag t ≡ true)
 
--- the name and the tag of an F or M line
-pub record Says (name : Bytes) (e : Entity) : Type 0 where
+-- the name, the package and the tag of an F or M line
+pub record Says (name : Bytes) (pkg : Option PackageKey) (e : Entity) : Type 0 where
   pub named : isName name ≡ true
+  pub numbered : Numbered pkg
   pub notBlank : isMethod e ≡ true → isBlank name ≡ false
   pub tagged : TagOrNone (tagOf e)
 
@@ -46,7 +48,7 @@ Fresh k = InRange k × (membersOf k ≡ [])
 abbrev pub Formed : Line → Type 0
 Formed (packageLine path) = isPath path ≡ true
 Formed (typeLine k) = Fresh k
-Formed (memberLine name pkg type e) = Says name e
+Formed (memberLine name pkg type e) = Says name pkg e
 
 kind-form : (w : Bytes) → Gives Fresh (kindForm w)
 unfolding kindForm
@@ -71,17 +73,24 @@ tag-form = record { given = λ fs. of fs }
     of [] = inl refl
     of (b ∷ fs) = when-holds (First TagOrNone) (isTag b) (b, fs) (λ e. inr e)
 
+package-numbered : (b : Bytes) → Holds Numbered (packageRef b)
+package-numbered b = cases (isWord "-" b) (λ e. rw e tt) (λ e. rw e (go (number maxReference b) (number-max maxReference b)))
+  where
+    go : (o : Option ℕ) → Holds (λ n. n ≤ maxReference) o → Holds Numbered (mapped (λ n. some (packageKey n)) o)
+    go none h = tt
+    go (some n) h = h
+
 line-form : (l : Bytes) → Gives Formed (lineForm l)
 unfolding lineForm
 line-form l =
     cond-gives (isWord "P" l) (bind-gives (field-gives (λ b. when (isPath b) b) path) (λ p h. done-gives (packageLine p) h))
     (cond-gives (isWord "T" l) (then-gives (field some) (λ w. bind-gives (kind-form w) (λ k h. done-gives (typeLine k) h)))
     (cond-gives (isWord "F" l)
-    (bind-gives (field-gives fieldName name) (λ n h. then-gives (field packageRef) (λ pkg. then-gives (field typeRef) (λ type. then-gives (field flagBit) (λ emb.
-    bind-gives tag-form (λ t k. done-gives (memberLine n pkg type (Field emb t)) (record { named = h; notBlank = λ e. clash e refl; tagged = k })))))))
+    (bind-gives (field-gives fieldName name) (λ n h. bind-gives (field-gives packageRef package-numbered) (λ pkg p. then-gives (field typeRef) (λ type. then-gives (field flagBit) (λ emb.
+    bind-gives tag-form (λ t k. done-gives (memberLine n pkg type (Field emb t)) (record { named = h; numbered = p; notBlank = λ e. clash e refl; tagged = k })))))))
     (cond-gives (isWord "M" l)
-    (bind-gives (field-gives methodName method) (λ n h. then-gives (field packageRef) (λ pkg. then-gives (field typeRef) (λ sig. then-gives (field flagBit) (λ ptr.
-    done-gives (memberLine n pkg sig (Method ptr)) (record { named = h .0; notBlank = λ e. h .1; tagged = inl refl }))))))
+    (bind-gives (field-gives methodName method) (λ n h. bind-gives (field-gives packageRef package-numbered) (λ pkg p. then-gives (field typeRef) (λ sig. then-gives (field flagBit) (λ ptr.
+    done-gives (memberLine n pkg sig (Method ptr)) (record { named = h .0; numbered = p; notBlank = λ e. h .1; tagged = inl refl }))))))
     none-gives)))
   where
     path : (b : Bytes) → Holds (λ p. isPath p ≡ true) (when (isPath b) b)

@@ -22,7 +22,7 @@ use Rattle.rules.proofs.FormLaws.{InRange, Fresh, Says, Formed, line-fo
 
 pub record WellFormed (k : Kind) : Type 0 where
   pub inRange : InRange k
-  pub said : (m : Member) → In m (membersOf k) → Says (m .name) (m .entity)
+  pub said : (m : Member) → In m (membersOf k) → Says (m .name) (m .pkg) (m .entity)
   pub standing : (m : Member) → In m (membersOf k) → stands (m .entity) k ≡ true
   pub few : length (membersOf k) ≤ maxPerType
 
@@ -73,10 +73,10 @@ fresh k (r, e) = record {
   few = rw e (omega arith);
 }
 
-grown : (m : Member) (k : Kind) → Says (m .name) (m .entity) → stands (m .entity) k ≡ true → ltb (length (membersOf k)) maxPerType ≡ true → WellFormed k → WellFormed (withMember m k)
+grown : (m : Member) (k : Kind) → Says (m .name) (m .pkg) (m .entity) → stands (m .entity) k ≡ true → ltb (length (membersOf k)) maxPerType ≡ true → WellFormed k → WellFormed (withMember m k)
 grown m k says h room w = record {
   inRange = with-form m k (w .inRange) .0;
-  said = λ n i. all-snoc (λ x. Says (x .name) (x .entity)) (membersOf k) m (w .said) says n (rw more at i);
+  said = λ n i. all-snoc (λ x. Says (x .name) (x .pkg) (x .entity)) (membersOf k) m (w .said) says n (rw more at i);
   standing = λ n i. stands-number (n .entity) k (withMember m k) (with-form m k (w .inRange) .1) (all-snoc (λ x. stands (x .entity) k ≡ true) (membersOf k) m (w .standing) h n (rw more at i));
   few = rw more (few-snoc (membersOf k) m maxPerType room);
 }
@@ -156,7 +156,7 @@ with-type line T k new room b = record {
   membersAbove = later line (suc line) T (omega arith) b .membersAbove;
 }
 
-with-member : (line : ℕ) (T : Table) (m : Member) → m .key ≡ objKey (memberCount T) → Says (m .name) (m .entity) → stands (m .entity) (lastKind T) ≡ true
+with-member : (line : ℕ) (T : Table) (m : Member) → m .key ≡ objKey (memberCount T) → Says (m .name) (m .pkg) (m .entity) → stands (m .entity) (lastKind T) ≡ true
     → ltb (memberCount T) maxMembers ≡ true → ltb (length (membersOf (lastKind T))) maxPerType ≡ true → Built line T
     → Built (suc line) (record { packages = T .packages; types = onLast (withMember m) (T .types); typeLines = T .typeLines; memberLines = T .memberLines ++ (line ∷ []) })
 with-member line T m key says h room each b = record {

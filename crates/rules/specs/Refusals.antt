@@ -4,17 +4,17 @@ use Prim.Native.Nat.{ℕ, zero, suc}
 use Prim.Native.String.{String}
 use lib.ListN.{replicate}
 use Rattle.objects.specs.Lists.{Bytes}
-use Rattle.rules.specs.Rows.{Run, run, whole, bad, _⏎_, spaced}
+use Rattle.rules.specs.Rows.{Run, run, whole, bad, table, _⏎_, spaced}
 use Rattle.rules.specs.Worked.{office}
-
--- a table of these lines
-abbrev table : Bytes → Bytes
-table lines = "typetable 1" ⏎ lines
 
 -- the same line n times
 abbrev times : ℕ → String → Bytes → Bytes
 times zero l rest = rest
 times (suc n) l rest = l ⏎ times n l rest
+
+-- a struct with as many members as one type may have
+abbrev full : Bytes → Bytes
+full rest = "T struct" ⏎ times 255 "F _ - 0 0" rest
 
 -- tables and questions that are refused
 abbrev pub refusals : List Run
@@ -36,10 +36,11 @@ refusals =
     ∷ bad (table ("T basic 2" ⏎ "P a" ⏎ [])) ("refused 5 3" ⏎ [])
     ∷ bad (table ("T iface" ⏎ "F X - 0 0" ⏎ [])) ("refused 5 3" ⏎ [])
     ∷ bad (table ("T struct" ⏎ "M X - 0 0" ⏎ [])) ("refused 5 3" ⏎ [])
-    -- 6: a 65th package, a 257th type, a 256th member of one type
+    -- 6: a 65th package, a 257th type, a 256th member of one type, a 1,025th member
     ∷ bad (table (times 65 "P a" [])) ("refused 6 66" ⏎ [])
     ∷ bad (table (times 257 "T struct" [])) ("refused 6 258" ⏎ [])
     ∷ bad (table ("T struct" ⏎ times 256 "F _ - 0 0" [])) ("refused 6 258" ⏎ [])
+    ∷ bad (table (full (full (full (full ("T struct" ⏎ times 5 "F _ - 0 0" [])))))) ("refused 6 1031" ⏎ [])
     -- 7: a type and a package that the table lacks
     ∷ bad (table ("T basic 2" ⏎ "T slice 9999" ⏎ [])) ("refused 7 3" ⏎ [])
     ∷ bad (table ("P a" ⏎ "T basic 2" ⏎ "T struct" ⏎ "F X 1 0 0" ⏎ [])) ("refused 7 5" ⏎ [])

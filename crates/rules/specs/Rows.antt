@@ -39,6 +39,10 @@ infixr 66 _⏎_
 abbrev pub _⏎_ : String → Bytes → Bytes
 s ⏎ rest = spaced s ++ (10 ∷ rest)
 
+-- a table of these lines
+abbrev pub table : Bytes → Bytes
+table lines = "typetable 1" ⏎ lines
+
 -- Everything that is computed: what is opened here is open where `called` and `prints` are.
 unfoldable opened : Bytes → Bytes
 unfolding isName isBlank isPath isTag exported valueFrom isNumeral number digitsOn decimal split pieces fields kindAt pathOf under bare pointerAt ifaceUnder namedPointer allMethods identityFrom identityOf sameId idBytes kindForm lineForm lineOf leads realType ownNumber parts mismatch pairParts identical itemsFrom lineOfItem lacking forbidden clashing containing added linesFrom unless checked load comparableKind comparableIn comparable owned onward walks judged ways shortestFrom shortest searched select below methodFlag settled standingFrom standing methodNames methodSet unmet missing questionForm questionOf answer answerBytes outcomeOf outcome refusal numberOf written asked inputOf typeask

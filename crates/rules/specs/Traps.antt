@@ -1,21 +1,22 @@
 -- The traps that document 01 names, sentences of it that could be read in another way, and answers to N, I and C, as rows.
-use mathlib.Core.List.{List, [], _∷_}
+use mathlib.Core.List.{List, [], _∷_, _++_}
+use lib.ListN.{replicate}
 use Rattle.objects.specs.Lists.{Bytes}
-use Rattle.rules.specs.Rows.{Run, run, _⏎_}
-use Rattle.rules.specs.Worked.{diamond, eachOwns}
+use Rattle.rules.specs.Rows.{Run, run, table, _⏎_, spaced}
+use Rattle.rules.specs.Worked.{office, diamond, eachOwns}
 
--- A is 4, B 6, both embed C, 2, which has the method Run; D, 8, embeds A then B; E, 10, embeds D
+-- G, 2, has the method Run; C, 4, embeds G; A, 6, and B, 8, embed C; D, 10, embeds A then B
 abbrev methods : Bytes
 methods =
     "typetable 1" ⏎
     "T tuple" ⏎
     "T struct" ⏎
-    "T named 1" ⏎ "M Run - 9 0" ⏎
-    "T struct" ⏎ "F C - 2 1" ⏎ "T named 3" ⏎
-    "T struct" ⏎ "F C - 2 1" ⏎ "T named 5" ⏎
-    "T struct" ⏎ "F A - 4 1" ⏎ "F B - 6 1" ⏎ "T named 7" ⏎
-    "T func 0 0 0" ⏎
-    "T struct" ⏎ "F D - 8 1" ⏎ []
+    "T named 1" ⏎ "M Run - 11 0" ⏎
+    "T struct" ⏎ "F G - 2 1" ⏎ "T named 3" ⏎
+    "T struct" ⏎ "F C - 4 1" ⏎ "T named 5" ⏎
+    "T struct" ⏎ "F C - 4 1" ⏎ "T named 7" ⏎
+    "T struct" ⏎ "F A - 6 1" ⏎ "F B - 8 1" ⏎ "T named 9" ⏎
+    "T func 0 0 0" ⏎ []
 
 -- two packages; 1 is a struct with the field x of package 0 and the pointer field P; 3 a struct that embeds a pointer to it
 abbrev hidden : Bytes
@@ -33,8 +34,8 @@ abbrev pub traps : List Run
 traps =
     -- "taking the first of two equal-length ways"
     run eachOwns ("S 6 0 - X" ⏎ []) ("ambiguous 1 0" ⏎ [])
-    -- "not passing "reached twice" down to embedded types": E embeds D, and behind the two ways to C lies one more step
-    ∷ run methods ("S 8 0 - Run" ⏎ "S 10 0 - Run" ⏎ "M 8" ⏎ "M 10" ⏎ []) ("ambiguous 0 0 0" ⏎ "ambiguous 0 0 0 0" ⏎ "set 0" ⏎ "set 0" ⏎ [])
+    -- "not passing "reached twice" down to embedded types": D reaches C twice, and G, which has Run, lies below C
+    ∷ run methods ("S 10 0 - Run" ⏎ "M 10" ⏎ "S 6 0 - Run" ⏎ []) ("ambiguous 0 0 0 0" ⏎ "set 0" ⏎ "entry 0 0 0 0 0" ⏎ [])
     -- "marking a type as seen before all ways to it on its level are counted"
     ∷ run diamond ("S 8 0 - X" ⏎ []) ("ambiguous 0 0 0" ⏎ [])
     -- "counting the found field's own pointer in the flag": In is a pointer, found at once; x lies behind it
@@ -82,6 +83,18 @@ readings =
     ∷ run ("typetable 1" ⏎ "T named 1" ⏎ "T struct" ⏎ "F X - 4 0" ⏎ "F Y - 2 0" ⏎ "T named 3" ⏎ "T struct" ⏎ "F Z - 2 0" ⏎ "T named 5" ⏎ "T struct" ⏎ "F W - 4 0" ⏎ []) [] ("refused 10 6" ⏎ [])
     -- .. "through array elements", of an array of none too
     ∷ run ("typetable 1" ⏎ "T named 1" ⏎ "T array 0 0" ⏎ []) [] ("refused 10 2" ⏎ [])
+    -- 8, "if variadic the first ends in a slice": itself of kind slice, not a name of one; and it has an element
+    ∷ run ("typetable 1" ⏎ "T basic 2" ⏎ "T slice 0" ⏎ "T tuple 1" ⏎ "T func 1 2 2" ⏎ []) ("V" ⏎ []) ("ok 0 4 0" ⏎ [])
+    ∷ run ("typetable 1" ⏎ "T basic 2" ⏎ "T slice 0" ⏎ "T named 1" ⏎ "T tuple 2" ⏎ "T func 1 3 3" ⏎ []) [] ("refused 8 6" ⏎ [])
+    ∷ run ("typetable 1" ⏎ "T tuple" ⏎ "T func 1 0 0" ⏎ []) [] ("refused 8 3" ⏎ [])
+    -- 8, "nor a pointer to a pointer, an interface, or a name of either": an interface and a name of one may be embedded, a pointer to one may not
+    ∷ run (table ("T iface" ⏎ "T named 0" ⏎ "T struct" ⏎ "T slice 2" ⏎ "T struct" ⏎ "F A - 0 1" ⏎ "F B - 1 1" ⏎ "F C - 2 1" ⏎ "F D - 3 1" ⏎ [])) ("V" ⏎ []) ("ok 0 5 4" ⏎ [])
+    ∷ run (table ("T iface" ⏎ "T pointer 0" ⏎ "T struct" ⏎ "F A - 1 1" ⏎ [])) [] ("refused 8 5" ⏎ [])
+    ∷ run (table ("T basic 2" ⏎ "T pointer 0" ⏎ "T pointer 1" ⏎ "T struct" ⏎ "F A - 2 1" ⏎ [])) [] ("refused 8 6" ⏎ [])
+    ∷ run (table ("T basic 2" ⏎ "T pointer 0" ⏎ "T named 1" ⏎ "T pointer 2" ⏎ "T struct" ⏎ "F A - 3 1" ⏎ [])) [] ("refused 8 7" ⏎ [])
+    -- the form of S: no package, or one of the table, also for an exported name; `_` has the form of a name; 64 bytes at most, no digit first, not empty
+    ∷ run office ("S 7 0 - Close" ⏎ "S 7 0 1 Close" ⏎ "S 7 0 0 _" ⏎ "S 7 0 0 1x" ⏎ "S 7 0 0 " ⏎ []) ("entry 0 1 0 0" ⏎ "refused 11 0" ⏎ "notfound" ⏎ "refused 11 0" ⏎ "refused 11 0" ⏎ [])
+    ∷ run office (spaced "S 7 0 0 " ++ replicate 64 120 ++ "" ⏎ spaced "S 7 0 0 " ++ replicate 65 120 ++ "" ⏎ []) ("notfound" ⏎ "refused 11 0" ⏎ [])
     -- "ends in a type identical to the first's": two names of one struct are not identical
     ∷ run ("typetable 1" ⏎ "T basic 2" ⏎ "T struct" ⏎ "F X - 0 0" ⏎ "T named 1" ⏎ "T named 1" ⏎ "T struct" ⏎ "F A - 2 1" ⏎ "F B - 3 1" ⏎ []) ("S 4 0 - X" ⏎ []) ("ambiguous 1 0" ⏎ [])
     -- "another shortest": the third ends in a type identical to the first's, the second does not

@@ -43,9 +43,37 @@ pub data Selected : Type 0 where
   entry : Member → (flag : Bool) (places : List ℕ) → Selected
   ambiguous : (places : List ℕ) → Selected
 
--- "One shortest way: `entry`, member, flag, places. But `badreceiver` if it is a method with pointer receiver, the flag is 0 and a is 0."
+-- the answer is `ambiguous`, whatever ways it shows
+abbrev pub isAmbiguous : Selected → Bool
+isAmbiguous notfound = false
+isAmbiguous badreceiver = false
+isAmbiguous (entry m flag places) = false
+isAmbiguous (ambiguous places) = true
+
+-- the places of each way that the answer shows
+abbrev pub given : Selected → List (List ℕ)
+given notfound = []
+given badreceiver = []
+given (entry m flag places) = places ∷ []
+given (ambiguous places) = places ∷ []
+
+-- "`entry`, member, flag, places. But `badreceiver` if it is a method with pointer receiver, the flag is 0 and a is 0."
+abbrev pub received : (a : Bool) → Member → (flag : Bool) (places : List ℕ) → Selected
+received a m flag places = cond (hasPtr (m .entity) && not flag && not a) badreceiver (entry m flag places)
+
+-- "One shortest way: .."
 abbrev pub single : Bool → Way → Selected
-single a w = cond (hasPtr (memberOf w .entity) && not (w .walk .flag) && not a) badreceiver (entry (memberOf w) (w .walk .flag) (placesOf w))
+single a w = received a (memberOf w) (w .walk .flag) (placesOf w)
+
+-- "Two or more shortest: `ambiguous` and places .. The first is given if another shortest ends in a type identical to the first's, otherwise the second."
+abbrev pub tied : (twin : Bool) (first second : Way) → Selected
+tied twin w v = ambiguous (cond twin (placesOf w) (placesOf v))
+
+-- what the shortest ways give, in the order of their places; `same` tells which types are identical
+abbrev pub judgedBy : (TypeKey → TypeKey → Bool) → Bool → List Way → Selected
+judgedBy same a [] = notfound
+judgedBy same a (w ∷ []) = single a w
+judgedBy same a (w ∷ v ∷ rest) = tied (any (λ x. same (w .walk .at) (x .walk .at)) (v ∷ rest)) w v
 
 -- "an `entry` that is a method becomes `notfound`"
 abbrev pub noMethod : Selected → Selected
@@ -91,11 +119,8 @@ module _ (T : Table) where
   abbrev pub targets : TypeKey → List TypeKey
   targets t = map (λ p. bare T (p .member .type)) (embedded t)
 
-  -- "The first is given if another shortest ends in a type identical to the first's, otherwise the second."
   unfoldable pub judged : Bool → List Way → Selected
-  judged a [] = notfound
-  judged a (w ∷ []) = single a w
-  judged a (w ∷ v ∷ rest) = ambiguous (cond (any (λ x. identical T (w .walk .at) (x .walk .at)) (v ∷ rest)) (placesOf w) (placesOf v))
+  judged a ws = judgedBy (identical T) a ws
 
   module _ (asked : Identity) where
     abbrev pub matching : TypeKey → List Place

@@ -4,7 +4,7 @@ ghost use mathlib.Core.Bool.{true};
 ghost use Prim.Native.Nat.{ℕ, _+_, _<_, _≤_};
 ghost use Rattle.objects.specs.Bounds.{maxElements};
 ghost use Rattle.objects.specs.Table.{objKey, hasPackage, membersOf, kindAt};
-ghost use Rattle.objects.specs.Rows.{typeCount, pkgOf, memberAt, membersFrom, tableOf};
+ghost use Rattle.objects.specs.Rows.{typeCount, packageMeant, memberAt, membersFrom, tableOf};
 ghost use Rattle.objects.specs.Types.{numberRead};
 ghost use Rattle.rules.specs.Library.{Library};
 ghost use Rattle.rules.specs.Ways.{matching};
@@ -12,6 +12,7 @@ ghost use Rattle.selection.specs.Results.{nameMeant, first, ownMeant};
 ghost use Rattle.selection.specs.Finds.{firstFrom, firstPlain, placeAt};
 use obj::same_id;
 use objects::ObjKey;
+use objects::Package;
 use objects::TypeKey;
 use objects::rows::first_member;
 use objects::rows::kind_number;
@@ -19,11 +20,11 @@ use objects::rows::member_total;
 use objects::rows::named_at;
 use objects::rows::under;
 
-// A name that is asked for from a package: its place and length in the text that it stands in, and the package's number and one, 0 for none.
+// A name that is asked for from a package: its place and length in the text that it stands in, and the package.
 pub struct Name {
     pub at: u32,
     pub len: u32,
-    pub pkg: u32,
+    pub pkg: Package,
 }
 
 // "the selection enum holds a method-or-field enum"
@@ -62,12 +63,13 @@ pub enum Missing {
 
 // The place of the first of `count` members from number `from` on that has the name, or count.
 fn find(text: &[u8], rows: &[u32], from: u32, count: u32, names: &[u8], q: Name) -> u32
-    requires { ⌜ ((i : ℕ) → i < count → hasPackage (tableOf (now text) (now rows)) (memberAt (now text) (now rows) (objKey (from + i)) .pkg) ≡ true) × (hasPackage (tableOf (now text) (now rows)) (pkgOf (q .pkg)) ≡ true) × (from + count ≤ maxElements) ⌝ }
+    requires { ⌜ ((i : ℕ) → i < count → hasPackage (tableOf (now text) (now rows)) (memberAt (now text) (now rows) (objKey (from + i)) .pkg) ≡ true) × (hasPackage (tableOf (now text) (now rows)) (packageMeant (q .pkg)) ≡ true) × (from + count ≤ maxElements) ⌝ }
     ensures { λ r. ⌜ placeAt (now (text .entry)) (now (rows .entry)) from count r ≡ firstFrom (tableOf (now (text .entry)) (now (rows .entry))) (nameMeant (now (text .entry)) (now (rows .entry)) (now (names .entry)) q) 0 (membersFrom (now (text .entry)) (now (rows .entry)) from count) ⌝ }
 {
+    let pkg = q.pkg;
     let mut i = 0;
     while i < count {
-        if same_id(text, rows, ObjKey(from + i), names, q.at, q.len, q.pkg) {
+        if same_id(text, rows, ObjKey(from + i), names, q.at, q.len, pkg) {
             return i;
         }
         i += 1;
@@ -78,7 +80,7 @@ fn find(text: &[u8], rows: &[u32], from: u32, count: u32, names: &[u8], q: Name)
 // The first of the members under the T line of t, which may have some.
 fn listed(text: &[u8], rows: &[u32], t: TypeKey, names: &[u8], q: Name) -> Own
     requires { ⌜ Library (now text) (now rows) ⌝ }
-    requires { ⌜ (t .0 < typeCount (now rows)) × (hasPackage (tableOf (now text) (now rows)) (pkgOf (q .pkg)) ≡ true) × (8 ≤ numberRead (now rows) t) ⌝ }
+    requires { ⌜ (t .0 < typeCount (now rows)) × (hasPackage (tableOf (now text) (now rows)) (packageMeant (q .pkg)) ≡ true) × (8 ≤ numberRead (now rows) t) ⌝ }
     ensures { λ r. ⌜ ownMeant (now (text .entry)) (now (rows .entry)) r ≡ firstFrom (tableOf (now (text .entry)) (now (rows .entry))) (nameMeant (now (text .entry)) (now (rows .entry)) (now (names .entry)) q) 0 (membersOf (kindAt (tableOf (now (text .entry)) (now (rows .entry))) t)) ⌝ }
 {
     let from = first_member(rows, t);
@@ -94,7 +96,7 @@ fn listed(text: &[u8], rows: &[u32], t: TypeKey, names: &[u8], q: Name) -> Own
 // The first of the fields of a struct or of the methods of an interface.
 fn plain_member(text: &[u8], rows: &[u32], u: TypeKey, names: &[u8], q: Name) -> Own
     requires { ⌜ Library (now text) (now rows) ⌝ }
-    requires { ⌜ (u .0 < typeCount (now rows)) × (hasPackage (tableOf (now text) (now rows)) (pkgOf (q .pkg)) ≡ true) ⌝ }
+    requires { ⌜ (u .0 < typeCount (now rows)) × (hasPackage (tableOf (now text) (now rows)) (packageMeant (q .pkg)) ≡ true) ⌝ }
     ensures { λ r. ⌜ ownMeant (now (text .entry)) (now (rows .entry)) r ≡ firstPlain (tableOf (now (text .entry)) (now (rows .entry))) (nameMeant (now (text .entry)) (now (rows .entry)) (now (names .entry)) q) u ⌝ }
 {
     match kind_number(rows, u) {
@@ -107,7 +109,7 @@ fn plain_member(text: &[u8], rows: &[u32], u: TypeKey, names: &[u8], q: Name) ->
 // The member of t itself that has the name.
 pub fn own_member(text: &[u8], rows: &[u32], t: TypeKey, names: &[u8], q: Name) -> Own
     requires { ⌜ Library (now text) (now rows) ⌝ }
-    requires { ⌜ (t .0 < typeCount (now rows)) × (hasPackage (tableOf (now text) (now rows)) (pkgOf (q .pkg)) ≡ true) ⌝ }
+    requires { ⌜ (t .0 < typeCount (now rows)) × (hasPackage (tableOf (now text) (now rows)) (packageMeant (q .pkg)) ≡ true) ⌝ }
     ensures { λ r. ⌜ ownMeant (now (text .entry)) (now (rows .entry)) r ≡ first (matching (tableOf (now (text .entry)) (now (rows .entry))) (nameMeant (now (text .entry)) (now (rows .entry)) (now (names .entry)) q) t) ⌝ }
 {
     let u = under(rows, t);

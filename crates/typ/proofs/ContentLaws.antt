@@ -22,7 +22,7 @@ use Rattle.objects.proofs.Numbers.{upTo-has, upTo-below}
 use Rattle.objects.proofs.RowLaws.{size-read}
 use Rattle.rules.specs.Checks.{contents}
 use Rattle.rules.specs.Comparable.{comparableKind, comparable}
-use Rattle.rules.specs.Library.{Library, rankRead}
+use Rattle.rules.specs.Library.{Library}
 use Rattle.rules.specs.Sound.{Sound}
 use Rattle.rules.proofs.RangeLaws.{content-in}
 use Rattle.rules.proofs.ComparableLaws.{comparable-step}
@@ -31,6 +31,7 @@ use Rattle.type_parts.proofs.Spans.{SpanIs, span-is, span-small}
 use Rattle.type_parts.proofs.ReadLaws.{member-types, meant-at}
 use Rattle.typ.specs.Contents.{mayCompareIn, heldIn, contentIn, mayCompare, contentCount, contentAt, MetComparable, Judged}
 use Rattle.typ.proofs.Zero.{getD-zeros}
+use Rattle.typ.proofs.Lower.{lower, lower-falls}
 
 every-map : {A B : Type 0} (p : B → Bool) (f : A → B) (l : List A) → every p (map f l) ≡ every (λ x. p (f x)) l
 every-map p f [] = refl
@@ -127,8 +128,8 @@ module _ (text : Bytes) (rows : Words) (lib : Library text rows) (t : TypeKey) (
     pub content-inside : e .0 < typeCount rows
     content-inside = let r = content-in (tableOf text rows) sound t e content-of in rw (size-read text rows) at r
 
-    pub content-lower : rankRead rows e < rankRead rows t
-    content-lower = lib .ranked t e h content-of
+    pub content-lower : lower rows e < lower rows t
+    content-lower = lower-falls rows e t content-inside (lib .ranked t e h content-of)
 
     pub content-not : (met : List ℕ) (r : Bool) → Judged text rows met e r → not r ≡ true → Judged text rows met t false
     content-not met r j z = record {

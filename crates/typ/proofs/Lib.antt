@@ -1,3 +1,4 @@
+pub mod Lower
 pub mod ContentLaws
 pub mod Bits
 pub mod Zero
@@ -5,6 +6,7 @@ pub mod Marked
 pub mod JoinLaws
 pub mod Following
 pub mod Passing
+pub mod DepthLaws
 pub mod Cycle
 pub mod Top
 pub mod Early

@@ -2,3 +2,4 @@ pub mod Contents
 pub mod Marks
 pub mod Classes
 pub mod Compared
+pub mod Depth

@@ -81,7 +81,8 @@ pub fn content_at(rows: &[u32], t: TypeKey, i: u32) -> TypeKey
 }
 
 // t is judged by what it contains by value, whose rank is lower: "no type contains itself by value". A type met before is comparable, since the first
-// that is not ends all; so each type is judged once. At most 256 levels are nested, of 144 bytes of stack each as measured: 37 KB.
+// that is not ends all; so each type is judged once. At most 256 levels are nested (`lower-few`, proofs/Lower.antt), of 144 bytes of stack each as measured:
+// 37 KB.
 fn comparable_impl(text: &[u8], rows: &[u32], met: &mut [u32], t: TypeKey) -> bool
     requires { ⌜ Library (now text) (now rows) ⌝ }
     requires { ⌜ (t .0 < typeCount (now rows)) × (maxTypes ≤ length (now met)) ⌝ }

@@ -12,6 +12,7 @@ ghost use Rattle.rules.specs.Library.{Library};
 ghost use Rattle.rules.specs.Identity.{identical};
 ghost use Rattle.type_parts.specs.Parts.{ownRead, Kin};
 ghost use Rattle.typ.specs.Marks.{met};
+ghost use Rattle.typ.specs.Depth.{openLevels, deepest, Within, PartsWithin};
 ghost use Rattle.typ.specs.Compared.{pairs, Entered, PairEntered, Well, Follows, Compared, PartsCompared};
 use crate::classes::join;
 use crate::classes::number;
@@ -37,13 +38,9 @@ pub const TYPES: usize = 256;
 
 pub const PAIRS: usize = 65_536;
 
-// So many levels may be nested before pairs are put off. Below the last such pair lie only arrays, slices, pointers and channels, whose numbers fall:
-// 506 levels at most. docs/ENTRY.md has what stack they take.
-pub const DEEP: usize = 250;
-
-fn less(deep: usize) -> usize {
-    if deep == 0 { 0 } else { deep - 1 }
-}
+// So many levels may be nested before pairs are put off. Below the last such pair lie only arrays, slices, pointers and channels, whose numbers fall, and
+// what they end in: 506 levels at most, for each call requires `level < deepest` (specs/Depth.antt). docs/ENTRY.md has what stack they take.
+const DEEP: usize = 250;
 
 // Kinds of several parts: map, tuple, func, struct and iface.
 fn several(kind: u32) -> bool
@@ -55,16 +52,17 @@ fn several(kind: u32) -> bool
     5 < kind
 }
 
-// Whether the pair numbered p is opened now. It is not if it was met before; and at depth 0 it is put off: met, and not opened.
-fn enter(marks: &mut [u32], p: usize, deep: usize) -> bool
+// Whether the pair numbered p is opened now. It is not if it was met before; and below DEEP levels it is put off: met, and not opened.
+fn enter(marks: &mut [u32], p: usize, level: usize) -> bool
     requires { ⌜ (p < pairs) × (markWords ≤ length (now marks)) ⌝ }
     ensures { λ r. ⌜ Entered (now (marks .entry)) (now (marks .exit)) p r ⌝ }
+    ensures { λ r. ⌜ (r ≡ true → level < openLevels) ⌝ }
 {
     if is_met(marks, p) {
         return false;
     }
     set_met(marks, p);
-    if deep == 0 {
+    if DEEP <= level {
         return false;
     }
     if is_met(marks, PAIRS + p) {
@@ -82,24 +80,25 @@ fn enter_pair(
     k: u32,
     x: TypeKey,
     y: TypeKey,
-    deep: usize,
+    level: usize,
 ) -> bool
     requires { ⌜ (x .0 < maxTypes) × (y .0 < maxTypes) ⌝ }
     requires { ⌜ (markWords ≤ length (now marks)) × (maxTypes ≤ length (now labels)) ⌝ }
     ensures { λ r. ⌜ PairEntered (now (marks .entry)) (now (marks .exit)) (now (labels .entry)) (now (labels .exit)) x y r ⌝ }
+    ensures { λ r. ⌜ (r ≡ true → level < openLevels) ⌝ }
 {
     if labels[x.0 as usize] == labels[y.0 as usize] {
         return false;
     }
-    let opened = enter(marks, TYPES * (x.0 as usize) + y.0 as usize, deep);
+    let opened = enter(marks, TYPES * (x.0 as usize) + y.0 as usize, level);
     if k == 9 {
         join(labels, x, y);
     }
     opened
 }
 
-// Types x and y are compared. Interfaces lie on cycles, so that a pair of them must be marked; every other pair of several parts is marked too, for it
-// would be compared twice as often at each level otherwise.
+// Types x and y are compared, below `level` calls of this function. Interfaces lie on cycles, so that a pair of them must be marked; every other pair of
+// several parts is marked too, for it would be compared twice as often at each level otherwise.
 fn identical_impl(
     text: &[u8],
     rows: &[u32],
@@ -107,12 +106,13 @@ fn identical_impl(
     labels: &mut [u32],
     x: TypeKey,
     y: TypeKey,
-    deep: usize,
+    level: usize,
 ) -> bool
     requires { ⌜ Library (now text) (now rows) ⌝ }
     requires { ⌜ (x .0 < typeCount (now rows)) × (y .0 < typeCount (now rows)) × (markWords ≤ length (now marks)) ⌝ }
     requires { ⌜ Well (tableOf (now text) (now rows)) (now marks) ⌝ }
     requires { ⌜ Follows (tableOf (now text) (now rows)) (now marks) (now labels) ⌝ }
+    requires { ⌜ (level < deepest) × Within (now rows) x y level ⌝ }
     ensures { λ r. ⌜ Compared (tableOf (now (text .entry)) (now (rows .entry))) (now (marks .entry)) (now (marks .exit)) x y r ⌝ }
     ensures { λ _. ⌜ Follows (tableOf (now (text .entry)) (now (rows .entry))) (now (marks .exit)) (now (labels .exit)) ⌝ }
 {
@@ -126,17 +126,17 @@ fn identical_impl(
     if own_number(rows, x) != own_number(rows, y) {
         return false;
     }
-    let lower = less(deep);
+    let next = level + 1;
     if several(k) {
-        if !enter_pair(marks, labels, k, x, y, deep) {
+        if !enter_pair(marks, labels, k, x, y, level) {
             return true;
         }
-        return identical_impl_o(text, rows, marks, labels, x, y, lower);
+        return identical_impl_o(text, rows, marks, labels, x, y, next);
     }
-    identical_impl_o(text, rows, marks, labels, x, y, lower)
+    identical_impl_o(text, rows, marks, labels, x, y, next)
 }
 
-// The parts of x and y, which have one kind and one own number, are compared in turn.
+// The parts of x and y, which have one kind and one own number, are compared in turn, below `level` calls of `identical_impl`.
 pub fn identical_impl_o(
     text: &[u8],
     rows: &[u32],
@@ -144,12 +144,13 @@ pub fn identical_impl_o(
     labels: &mut [u32],
     x: TypeKey,
     y: TypeKey,
-    deep: usize,
+    level: usize,
 ) -> bool
     requires { ⌜ Library (now text) (now rows) ⌝ }
     requires { ⌜ Kin (tableOf (now text) (now rows)) x y × (markWords ≤ length (now marks)) ⌝ }
     requires { ⌜ Well (tableOf (now text) (now rows)) (now marks) ⌝ }
     requires { ⌜ Follows (tableOf (now text) (now rows)) (now marks) (now labels) ⌝ }
+    requires { ⌜ (level < deepest) × PartsWithin (now rows) x y level ⌝ }
     ensures { λ r. ⌜ PartsCompared (tableOf (now (text .entry)) (now (rows .entry))) (now (marks .entry)) (now (marks .exit)) x y r ⌝ }
     ensures { λ _. ⌜ Follows (tableOf (now (text .entry)) (now (rows .entry))) (now (marks .exit)) (now (labels .exit)) ⌝ }
 {
@@ -166,7 +167,7 @@ pub fn identical_impl_o(
         }
         let p = part_in(rows, x, j, first, i);
         let q = part_in(rows, y, k, second, i);
-        if !identical_impl(text, rows, marks, labels, p, q, deep) {
+        if !identical_impl(text, rows, marks, labels, p, q, level) {
             return false;
         }
         i += 1;
@@ -230,7 +231,7 @@ fn decide_by(
     requires { ⌜ Follows (tableOf (now text) (now rows)) (now marks) (now labels) ⌝ }
     ensures { λ r. ⌜ r ≡ identical (tableOf (now (text .entry)) (now (rows .entry))) x y ⌝ }
 {
-    if !identical_impl(text, rows, marks, labels, x, y, DEEP) {
+    if !identical_impl(text, rows, marks, labels, x, y, 0) {
         return false;
     }
     while !settled(marks) {

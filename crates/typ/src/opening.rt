@@ -7,7 +7,6 @@ ghost use Rattle.objects.specs.Bounds.{markWords};
 ghost use Rattle.objects.specs.Rows.{tableOf};
 ghost use Rattle.rules.specs.Library.{Library};
 ghost use Rattle.typ.specs.Compared.{pairs, pairWords, Clean, WordClean, AllClean, Follows, State, Turn};
-use crate::identical::DEEP;
 use crate::identical::PAIRS;
 use crate::identical::TYPES;
 use crate::identical::identical_impl_o;
@@ -46,7 +45,7 @@ fn open_at(
     set_met(marks, PAIRS + p);
     let a = TypeKey((p / TYPES) as u32);
     let b = TypeKey((p % TYPES) as u32);
-    if identical_impl_o(text, rows, marks, labels, a, b, DEEP) {
+    if identical_impl_o(text, rows, marks, labels, a, b, 0) {
         2
     } else {
         0

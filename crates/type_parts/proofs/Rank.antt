@@ -124,7 +124,7 @@ module _ (text : Bytes) (rows : Words) (lib : Library text rows) (x : TypeKey) (
   pub part-inside : partAt rows x i .0 < typeCount rows
   part-inside = let r = part-in (tableOf text rows) (library-sound lib) x (partAt rows x i) part-has in rw (size-read text rows) at r
 
-  down : numberRead rows x ≢ 9 → (partAt rows x i .0 < x .0) ⊎ ((numberRead rows (partAt rows x i) ≡ 10) ⊎ (numberRead rows (partAt rows x i) ≡ 9))
+  pub down : numberRead rows x ≢ 9 → (partAt rows x i .0 < x .0) ⊎ ((numberRead rows (partAt rows x i) ≡ 10) ⊎ (numberRead rows (partAt rows x i) ≡ 9))
   down n =
       let s = library-sound lib in
       let e = number-read text rows (partAt rows x i) part-inside in

@@ -61,7 +61,7 @@ unfolding parts
 named-parts k e = rw (eq-eqb (kindNumber k) 10 e)
 
 -- "named types are identical only to themselves"
-named-own : (x : TypeKey) (k : Kind) → kindNumber k ≡ 10 → ownNumber x k ≡ x .0
+pub named-own : (x : TypeKey) (k : Kind) → kindNumber k ≡ 10 → ownNumber x k ≡ x .0
 unfolding ownNumber
 named-own x (Basic k) e = absurd (omega arith)
 named-own x (Array n t) e = absurd (omega arith)

@@ -1,15 +1,15 @@
 -- The rules' walks, ways and selection are those of the table's graph.
-use mathlib.Core.Path.{_≡_, refl, sym, ap, ap₂, _∙_}
-use mathlib.Core.Bool.{Bool, true, false, not}
-use mathlib.Core.List.{List, [], _∷_, map}
+use mathlib.Core.Path.{_≡_, refl, sym, ap, _∙_}
+use mathlib.Core.Bool.{Bool}
+use mathlib.Core.List.{List}
 use Prim.Native.Nat.{ℕ, zero, suc}
-use Rattle.objects.specs.Lists.{any, keep, flat, empty}
-use Rattle.objects.proofs.ListLaws.{cases, clash, map-map, flat-In-ext}
+use Rattle.objects.specs.Lists.{flat}
+use Rattle.objects.proofs.ListLaws.{map-map, flat-In-ext}
 use Rattle.objects.specs.declared.TypeKey.{TypeKey}
-use Rattle.objects.specs.Table.{Table, size, bare, pointerAt}
+use Rattle.objects.specs.Table.{Table}
 use Rattle.rules.specs.Members.{Identity}
 use Rattle.rules.specs.Ways as rules
-use Rattle.rules.specs.Ways.{Walk, Way, Selected, notfound, onward, walks, ways, judged, shortestFrom, shortest, hasOwn}
+use Rattle.rules.specs.Ways.{Walk, Way, onward, walks, ways, judged}
 use Rattle.ways.specs.Graph as over
 use Rattle.ways.specs.OfTable.{graph, stepOf}
 
@@ -31,6 +31,4 @@ module _ (T : Table) where
 
   pub judged-is : (a : Bool) (ws : List Way) → judged T a ws ≡ over.judge (graph T) a ws
   unfolding judged
-  judged-is a [] = refl
-  judged-is a (w ∷ []) = refl
-  judged-is a (w ∷ v ∷ ws) = refl
+  judged-is a ws = refl

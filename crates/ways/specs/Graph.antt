@@ -1,12 +1,12 @@
 -- Walks and ways over a graph of types. The graph of a table (specs/OfTable.antt) makes them the rules' own; other graphs serve proofs.
-use mathlib.Core.Bool.{Bool, true, false, cond, not, _&&_, _||_}
+use mathlib.Core.Bool.{Bool, _||_}
 use mathlib.Core.List.{List, [], _∷_, _++_, map}
 use Prim.Native.Nat.{ℕ, zero, suc}
-use Rattle.objects.specs.Lists.{any, keep, flat}
+use Rattle.objects.specs.Lists.{keep, flat}
 use Rattle.objects.specs.declared.TypeKey.{TypeKey}
 use Rattle.objects.specs.declared.ObjKey.{ObjKey}
 use Rattle.rules.specs.Members.{Identity}
-use Rattle.rules.specs.Ways.{Place, Walk, Way, placesOf, Selected, notfound, ambiguous, single}
+use Rattle.rules.specs.Ways.{Place, Walk, Way, Selected, judgedBy}
 
 -- An embedded field: its place, its member's key, the type that it leads to once one pointer is removed, and whether there was a pointer.
 pub record Step : Type 0 where
@@ -52,11 +52,9 @@ module _ (G : Graph) where
   shortest q r d zero = []
   shortest q r d (suc k) = elim (ways q r d) [ [] ↦ shortest q r (suc d) k | w ∷ ws ↦ w ∷ ws ]
 
--- Of two or more shortest ways, in order: the first if another ends in a type identical to the first's, otherwise the second.
+-- what the shortest ways give, as the rules say
 abbrev pub judge : Graph → Bool → List Way → Selected
-judge G a [] = notfound
-judge G a (w ∷ []) = single a w
-judge G a (w ∷ v ∷ rest) = ambiguous (cond (any (λ x. G .same (w .walk .at) (x .walk .at)) (v ∷ rest)) (placesOf w) (placesOf v))
+judge G = judgedBy (G .same)
 
 abbrev pub start : TypeKey → Bool → Walk
 start t f = record { places = []; used = []; at = t; flag = f }

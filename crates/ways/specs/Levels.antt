@@ -1,5 +1,5 @@
 -- The search level by level, as `lookup_field_or_method_impl` makes it.
-use mathlib.Core.Bool.{Bool, true, false, cond, not, _&&_, _||_}
+use mathlib.Core.Bool.{Bool, true, false, cond, not, _||_}
 use mathlib.Core.List.{List, [], _∷_, _++_, map}
 use Prim.Native.Nat.{ℕ, zero, suc}
 use mathlib.Core.Option.{none}
@@ -7,8 +7,8 @@ use Rattle.objects.specs.Table.{Method, typeKey, objKey}
 use Rattle.objects.specs.Lists.{any, keep, flat}
 use Rattle.objects.specs.declared.TypeKey.{TypeKey}
 use Rattle.rules.specs.Members.{Identity}
-use Rattle.rules.specs.Ways.{Place, Walk, Way, notfound, ambiguous, single, placesOf, Selected}
-use Rattle.ways.specs.Graph.{Graph, Step, along, matching, start}
+use Rattle.rules.specs.Ways.{Place, Walk, Way, notfound, tied, single, Selected}
+use Rattle.ways.specs.Graph.{Graph, along, matching, start}
 
 -- A type reached at a level: the first walk to it, and whether there is more than one.
 pub record EmbeddedType : Type 0 where
@@ -51,8 +51,8 @@ module _ (G : Graph) where
   -- the records of a level that have the key
   abbrev pub verdict : Identity → Bool → List EmbeddedType → Selected
   verdict key a [] = notfound
-  verdict key a (r ∷ []) = cond (r .multiples) (ambiguous (placesOf (found key r))) (single a (found key r))
-  verdict key a (r ∷ s ∷ rest) = ambiguous (cond (r .multiples) (placesOf (found key r)) (placesOf (found key s)))
+  verdict key a (r ∷ []) = cond (r .multiples) (tied true (found key r) (found key r)) (single a (found key r))
+  verdict key a (r ∷ s ∷ rest) = tied (r .multiples) (found key r) (found key s)
 
 -- A level leaves out what `skip` says was seen. goscript's: a named type, by its number. Any rule will do that skips only what is identical to a type seen.
 abbrev pub unseen : (List TypeKey → TypeKey → Bool) → List TypeKey → EmbeddedType → Bool

@@ -9,4 +9,6 @@ mod pages;
 #[cfg(target_os = "linux")]
 mod stack;
 mod stored;
+#[path = "../typeask/mod.rs"]
+mod typeask;
 mod vectors;

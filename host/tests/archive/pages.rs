@@ -4,6 +4,7 @@
 use crate::fenced::{Fenced, Side};
 use crate::lent::asked;
 use crate::stored::{cases, say};
+use crate::typeask::parted;
 use yifgrun::{Refusal, WORK_WORDS};
 
 const SIDES: [Side; 2] = [Side::Front, Side::Back];
@@ -59,7 +60,7 @@ fn stored_questions_touch_only_what_is_lent() {
     let cases = cases();
     let mut calls = 0;
     for case in &cases {
-        let (table, mut questions) = case.parted();
+        let (table, mut questions) = parted(&case.input);
         questions.sort_unstable();
         questions.dedup();
         // The second time the room is just the answer's length, so that the page behind follows its last byte.

@@ -76,21 +76,3 @@ fn split(mut rest: &[u8]) -> Vec<Vec<u8>> {
     assert!(rest.is_empty(), "a case without an end");
     parts
 }
-
-impl Case {
-    /// The table text and the questions: what stands before the first line `Q`, and the lines behind it; without
-    /// one, everything and a V.
-    pub fn parted(&self) -> (&[u8], Vec<&[u8]>) {
-        let input = &self.input[..];
-        let mut at = 0;
-        for line in input.split_inclusive(|&b| b == b'\n') {
-            if line == b"Q\n" {
-                let questions = input[at + 2..].split_inclusive(|&b| b == b'\n');
-                let bare = questions.map(|line| line.strip_suffix(b"\n").unwrap_or(line));
-                return (&input[..at], bare.collect());
-            }
-            at += line.len();
-        }
-        (input, vec![b"V"])
-    }
-}

@@ -12,7 +12,10 @@ enum-known-a : tie.Need-enum-known-a
 enum-known-a c = search needs
 
 ask-s-requires : tie.Need-ask-s-requires
-ask-s-requires c κs = ((c .before .before .before .before .before .before .before .before .before .before .before .pre .0), ((s-known _ (c .before .before .before .before .before .question .ensures .1) (c .before .before .before .a .given .1) .0, s-known _ (c .before .before .before .before .before .question .ensures .1) (c .before .before .before .a .given .1) .1, (c .before .before .before .before .before .before .before .before .before .before .before .pre .1 .0)), (c .before .before .before .before .before .before .before .before .before .before .before .pre .1 .1)))
+ask-s-requires c κs = let at-question = c .before .before .before .before .before in
+    let at-entry = at-question .before .before .before .before .before .before in
+    let known = s-known _ (at-question .question .ensures .1) (at-entry .args .text .now) (c .before .before .before .a .given .1) in
+    (at-entry .pre .0, ((known .0, known .1, at-entry .pre .1 .0), at-entry .pre .1 .1))
 
 enum-known-a-2 : tie.Need-enum-known-a-2
 enum-known-a-2 c = search needs

@@ -23,20 +23,30 @@ same-across-requires c κs = search needs
 exported-requires : tie.Need-exported-requires
 exported-requires c κs = search needs
 
-member-word-requires-3 : tie.Need-member-word-requires-3
-member-word-requires-3 c κs = search needs
+member-package-requires : tie.Need-member-package-requires
+member-package-requires c κs = search needs
 
 same-path-requires : tie.Need-same-path-requires
-same-path-requires c κs = (member-has _ _ _ ((c .before .before .before .before .before .before .before .before .before .before .pre) .0) (c .member-word3 .ensures), (c .before .before .before .before .before .before .before .before .before .before .pre) .1)
+same-path-requires c κs = let at-entry = c .before .before .before .before .before .before .before .before .before .before in
+    (member-has _ _ _ (at-entry .pre .0) (c .member-package .ensures), (at-entry .pre .1))
 
 returns : tie.Need-returns
-returns c = sym (same-exported _ _ _ _ _ _ _ (c .before .before .before .before .before .member-word .ensures) (c .before .before .before .before .member-word2 .ensures) (c .before .before .before .same-across .ensures) (c .before .exported .ensures) (c .before .before .if1 .taken) (c .if2 .taken))
+returns c = let at-same-across = c .before .before .before in
+    let at-member-word2 = at-same-across .before in
+    let at-member-word = at-member-word2 .before in
+    sym (same-exported _ _ _ _ _ _ _ (at-member-word .member-word .ensures) (at-member-word2 .member-word2 .ensures) (at-same-across .same-across .ensures) (c .before .exported .ensures) (c .before .before .if1 .taken) (c .if2 .taken))
 
 returns-2 : tie.Need-returns-2
-returns-2 c = (c .same-path .ensures) ∙ sym (same-paths _ _ _ _ _ _ _ (c .before .before .before .before .before .before .before .member-word .ensures) (c .before .before .before .before .before .before .member-word2 .ensures) (c .before .before .before .before .before .same-across .ensures) (c .before .before .before .exported .ensures) (c .before .before .before .before .if1 .taken) (c .before .before .if2 .left) (c .before .member-word3 .ensures))
+returns-2 c = let at-exported = c .before .before .before in
+    let at-if1 = at-exported .before in
+    let at-same-across = at-if1 .before in
+    let at-member-word2 = at-same-across .before in
+    let at-member-word = at-member-word2 .before in
+    (c .same-path .ensures) ∙ sym (same-paths _ _ _ _ _ _ _ (at-member-word .member-word .ensures) (at-member-word2 .member-word2 .ensures) (at-same-across .same-across .ensures) (at-exported .exported .ensures) (at-if1 .if1 .taken) (c .before .before .if2 .left) (c .before .member-package .ensures))
 
 returns-3 : tie.Need-returns-3
-returns-3 c = sym (same-differ _ _ _ _ _ _ _ (c .before .before .before .member-word .ensures) (c .before .before .member-word2 .ensures) (c .before .same-across .ensures) (c .if1 .left))
+returns-3 c = let at-member-word = c .before .before .before in
+    sym (same-differ _ _ _ _ _ _ _ (at-member-word .member-word .ensures) (c .before .before .member-word2 .ensures) (c .before .same-across .ensures) (c .if1 .left))
 
 pub same-id-spec : {M : Type 1} → statement M
 same-id-spec =
@@ -48,7 +58,7 @@ same-id-spec =
     cast-same-across-2
     same-across-requires
     exported-requires
-    member-word-requires-3
+    member-package-requires
     same-path-requires
     returns
     returns-2

@@ -12,14 +12,16 @@ member-word-requires c κs = search needs
 member-word-requires-2 : tie.Need-member-word-requires-2
 member-word-requires-2 c κs = search needs
 
-member-word-requires-3 : tie.Need-member-word-requires-3
-member-word-requires-3 c κs = search needs
+member-package-requires : tie.Need-member-package-requires
+member-package-requires c κs = search needs
 
 same-id-requires : tie.Need-same-id-requires
-same-id-requires c κs = ((c .before .before .before .before .before .pre) .0, member-has _ _ _ ((c .before .before .before .before .before .pre) .1) (c .member-word3 .ensures))
+same-id-requires c κs = let at-entry = c .before .before .before .before .before in
+    ((at-entry .pre .0), member-has _ _ _ (at-entry .pre .1) (c .member-package .ensures))
 
 returns : tie.Need-returns
-returns c = (c .same-id .ensures) ∙ ap (sameId _) (member-asked _ _ _ (c .before .before .before .member-word .ensures) (c .before .before .member-word2 .ensures) (c .before .member-word3 .ensures))
+returns c = let at-member-word = c .before .before .before in
+    (c .same-id .ensures) ∙ ap (sameId _) (member-asked _ _ _ (at-member-word .member-word .ensures) (c .before .before .member-word2 .ensures) (c .before .member-package .ensures))
 
 pub same-member-spec : {M : Type 1} → statement M
 same-member-spec =
@@ -27,6 +29,6 @@ same-member-spec =
     (tie.spec
     member-word-requires
     member-word-requires-2
-    member-word-requires-3
+    member-package-requires
     same-id-requires
     returns)

@@ -1,71 +1,58 @@
 -- `obj::same_path` meets its contract.
 use mathlib.Core.Path.{sym, _∙_}
-use Rattle.obj.proofs.IdentityLaws.{path-same, path-left, path-right, path-both}
+use Rattle.obj.proofs.IdentityLaws.{path-none, path-right, path-left, path-both}
 use borrow.Author.Needs.{needs}
 use Rattle.obj.proofs.same_path.Statement.{statement}
 use Rattle.obj.proofs.same_path.Tie as tie
 
+enum-told : tie.Need-enum-told
+enum-told c = search needs
+
+enum-told-2 : tie.Need-enum-told-2
+enum-told-2 c = search needs
+
+enum-told-3 : tie.Need-enum-told-3
+enum-told-3 c = search needs
+
+enum-known-p : tie.Need-enum-known-p
+enum-known-p c = search needs
+
+enum-told-4 : tie.Need-enum-told-4
+enum-told-4 c = search needs
+
+enum-known-q : tie.Need-enum-known-q
+enum-known-q c = search needs
+
+one-path-requires : tie.Need-one-path-requires
+one-path-requires c κs = search needs
+
 returns : tie.Need-returns
-returns c = sym (path-same _ (c .if1 .taken))
+returns c = sym (path-none _ _ (c .before .before .enum-told .given .1) (c .enum-told2 .given .1))
 
 returns-2 : tie.Need-returns-2
-returns-2 c = sym (path-left _ (c .before .if1 .left) (c .if2 .taken))
+returns-2 c = sym (path-right _ _ (c .before .before .enum-told .given .1) (c .enum-told3 .given .1))
 
 returns-3 : tie.Need-returns-3
-returns-3 c = sym (path-right _ (c .before .before .if1 .left) (c .if3 .taken))
-
-package-of-requires : tie.Need-package-of-requires
-package-of-requires c κs = search needs
-
-package-of-requires-2 : tie.Need-package-of-requires-2
-package-of-requires-2 c κs = search needs
-
-package-word-requires : tie.Need-package-word-requires
-package-word-requires c κs = search needs
-
-cast-same-part : tie.Need-cast-same-part
-cast-same-part c = search needs
-
-package-word-requires-2 : tie.Need-package-word-requires-2
-package-word-requires-2 c κs = search needs
-
-cast-same-part-2 : tie.Need-cast-same-part-2
-cast-same-part-2 c = search needs
-
-package-word-requires-3 : tie.Need-package-word-requires-3
-package-word-requires-3 c κs = search needs
-
-cast-same-part-3 : tie.Need-cast-same-part-3
-cast-same-part-3 c = search needs
-
-package-word-requires-4 : tie.Need-package-word-requires-4
-package-word-requires-4 c κs = search needs
-
-cast-same-part-4 : tie.Need-cast-same-part-4
-cast-same-part-4 c = search needs
-
-same-part-requires : tie.Need-same-part-requires
-same-part-requires c κs = search needs
+returns-3 c = let at-p = c .before .before .before in
+    sym (path-left _ _ (at-p .p .given .1) (c .enum-told4 .given .1))
 
 returns-4 : tie.Need-returns-4
-returns-4 c = (c .same-part .ensures) ∙ path-both (c .before .before .before .before .before .before .before .before .before .before .before .before .args .text .now) (c .before .before .before .before .before .before .before .before .before .before .before .before .args .rows .now) _ _ ((c .before .before .before .before .before .before .before .before .before .before .before .before .pre) .0) ((c .before .before .before .before .before .before .before .before .before .before .before .before .pre) .1) (c .before .before .before .before .before .before .before .before .if2 .left) (c .before .before .before .before .before .before .before .if3 .left) (c .before .before .before .before .before .before .package-of .ensures) (c .before .before .before .before .before .package-of2 .ensures) (c .before .before .before .before .package-word .ensures) (c .before .before .before .package-word2 .ensures) (c .before .before .package-word3 .ensures) (c .before .package-word4 .ensures)
+returns-4 c = let at-p = c .before .before .before .before .before in
+    let at-entry = at-p .before .before .before .before in
+    (c .one-path .ensures) ∙ sym (path-both _ _ (at-entry .pre .0) (at-entry .pre .1) (at-p .p .given .1) (c .before .before .q .given .1))
 
 pub same-path-spec : {M : Type 1} → statement M
 same-path-spec =
     tie.close
     (tie.spec
+    enum-told
+    enum-told-2
+    enum-told-3
+    enum-known-p
+    enum-told-4
+    enum-known-q
+    one-path-requires
     returns
     returns-2
     returns-3
-    package-of-requires
-    package-of-requires-2
-    package-word-requires
-    cast-same-part
-    package-word-requires-2
-    cast-same-part-2
-    package-word-requires-3
-    cast-same-part-3
-    package-word-requires-4
-    cast-same-part-4
-    same-part-requires
     returns-4)

@@ -11,24 +11,27 @@ use Rattle.selection.proofs.find.Statement.{statement}
 use Rattle.selection.proofs.find.Tie as tie
 
 abbrev Inv-loop : tie.InvT-loop
-Inv-loop text rows from count names q i₀ i =
+Inv-loop text rows from count names q pkg₀ i₀ i =
     (firstFrom (tableOf text rows) (nameMeant text rows names q) 0 (membersFrom text rows from count)
     ≡ firstFrom (tableOf text rows) (nameMeant text rows names q) i (membersFrom text rows (from + i) (count - i))) × (i ≤ count)
 
 abbrev μ-loop : tie.MeasureT-loop
-μ-loop text rows from count names q i₀ i = count - i
+μ-loop text rows from count names q pkg₀ i₀ i = count - i
 
 loop-holds : tie.Need-loop-holds Inv-loop μ-loop
 loop-holds c = (find-start _ _ _ _ _ _, omega arith)
 
-add-t10 : tie.Need-add-t10 Inv-loop μ-loop
-add-t10 c = omega (arith, (c .before .before .before .before .before .pre .2))
+add-t11 : tie.Need-add-t11 Inv-loop μ-loop
+add-t11 c = let at-entry = c .before .before .before .before .before in
+    omega (arith, (at-entry .pre .2))
 
 same-id-requires : tie.Need-same-id-requires Inv-loop μ-loop
-same-id-requires c κs = ((c .before .before .before .before .before .pre .0) _ (c .loop-test .taken), (c .before .before .before .before .before .pre .1))
+same-id-requires c κs = let at-entry = c .before .before .before .before .before in
+    ((at-entry .pre .0) _ (c .loop-test .taken), (at-entry .pre .1))
 
 returns : tie.Need-returns Inv-loop μ-loop
-returns c = find-here _ _ _ _ _ _ _ (c .before .before .loop-test .taken) (c .before .same-id .ensures) (c .if1 .taken) ∙ sym ((c .before .before .before .loop .inv .0))
+returns c = let at-loop = c .before .before .before in
+    find-here _ _ _ _ _ _ _ (c .before .before .loop-test .taken) (c .before .same-id .ensures) (c .if1 .taken) ∙ sym (at-loop .loop .inv .0)
 
 add-i : tie.Need-add-i Inv-loop μ-loop
 add-i c = search needs
@@ -37,7 +40,8 @@ loop-less : tie.Need-loop-less Inv-loop μ-loop
 loop-less c = omega arith
 
 loop-again : tie.Need-loop-again Inv-loop μ-loop
-loop-again c = ((c .before .before .before .loop .inv .0) ∙ find-next _ _ _ _ _ _ _ (c .before .before .loop-test .taken) (c .before .same-id .ensures) (c .if1 .left), omega arith)
+loop-again c = let at-loop = c .before .before .before in
+    ((at-loop .loop .inv .0) ∙ find-next _ _ _ _ _ _ _ (c .before .before .loop-test .taken) (c .before .same-id .ensures) (c .if1 .left), omega arith)
 
 returns-2 : tie.Need-returns-2 Inv-loop μ-loop
 returns-2 c = find-end _ _ _ _ _ _ _ (c .before .loop .inv .1) (c .loop-test .left) ∙ sym ((c .before .loop .inv .0))
@@ -49,7 +53,7 @@ find-spec =
     Inv-loop
     μ-loop
     loop-holds
-    add-t10
+    add-t11
     same-id-requires
     returns
     add-i

@@ -17,7 +17,8 @@ enum-known-d : tie.Need-enum-known-d
 enum-known-d c = search needs
 
 returns : tie.Need-returns
-returns c = package-none _ _ _ (c .before .before .before .word .ensures) (c .before .d .given .1)
+returns c = let at-word = c .before .before .before in
+    package-none _ _ _ (at-word .word .ensures) (c .before .d .given .1)
 
 enum-told : tie.Need-enum-told
 enum-told c = search needs
@@ -31,20 +32,24 @@ number-requires c κs = search needs
 enum-known-v : tie.Need-enum-known-v
 enum-known-v c = search needs
 
-cast-t13 : tie.Need-cast-t13
-cast-t13 c = omega (arith, number-fits (c .before .before .before .before .before .before .before .before .before .args .s .now) maxReference (fieldsLeft (c .before .before .before .before .before .before .before .before .before .args .s .now) (c .before .before .before .before .before .before .before .before .before .args .c)) _ (c .before .before .before .number .ensures) (c .before .v .given .1))
-
-add-t14 : tie.Need-add-t14
-add-t14 c = omega (arith, number-fits (c .before .before .before .before .before .before .before .before .before .args .s .now) maxReference (fieldsLeft (c .before .before .before .before .before .before .before .before .before .args .s .now) (c .before .before .before .before .before .before .before .before .before .args .c)) _ (c .before .before .before .number .ensures) (c .before .v .given .1))
+cast-t14 : tie.Need-cast-t14
+cast-t14 c = let at-number = c .before .before .before in
+    let at-entry = at-number .before .before .before .before .before .before in
+    omega (arith, number-fits (at-entry .args .s .now) maxReference (fieldsLeft (at-entry .args .s .now) (at-entry .args .c)) _ (at-number .number .ensures) (c .before .v .given .1))
 
 enum-told-2 : tie.Need-enum-told-2
 enum-told-2 c = search needs
 
 returns-2 : tie.Need-returns-2
-returns-2 c = package-is _ _ _ _ (c .before .before .before .before .before .before .word .ensures) (c .before .before .before .before .enum-told .given .1) (c .before .before .before .number .ensures) (c .before .v .given .1)
+returns-2 c = let at-number = c .before .before .before in
+    let at-enum-told = at-number .before in
+    let at-word = at-enum-told .before .before in
+    package-is _ _ _ _ (at-word .word .ensures) (at-enum-told .enum-told .given .1) (at-number .number .ensures) (c .before .v .given .1)
 
 returns-3 : tie.Need-returns-3
-returns-3 c = package-wrong _ _ _ _ (c .before .before .before .before .before .word .ensures) (c .before .before .before .enum-told .given .1) (c .before .before .number .ensures) (c .enum-told2 .given .1)
+returns-3 c = let at-enum-told = c .before .before .before in
+    let at-word = at-enum-told .before .before in
+    package-wrong _ _ _ _ (at-word .word .ensures) (at-enum-told .enum-told .given .1) (c .before .before .number .ensures) (c .enum-told2 .given .1)
 
 pub package-spec : {M : Type 1} → statement M
 package-spec =
@@ -58,8 +63,7 @@ package-spec =
     cast-number
     number-requires
     enum-known-v
-    cast-t13
-    add-t14
+    cast-t14
     enum-told-2
     returns-2
     returns-3)

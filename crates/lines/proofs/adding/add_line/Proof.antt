@@ -1,7 +1,7 @@
 -- `lines::adding::add_line` meets its contract.
 use mathlib.Core.Path.{refl}
 use mathlib.Core.Option.{none}
-use Rattle.lines.proofs.TupleLaws.{grown-form, tuple-space, member-space}
+use Rattle.lines.proofs.TupleLaws.{grown-form, tuple-space, member-space, member-numbered}
 use Rattle.lines.proofs.AddLaws.{refusing}
 use Rattle.text.specs.Cursors.{fieldsLeft}
 use Rattle.line_forms.specs.Forms.{formMeant}
@@ -28,13 +28,21 @@ enum-known-d : tie.Need-enum-known-d
 enum-known-d c = search needs
 
 add-tuple-requires : tie.Need-add-tuple-requires
-add-tuple-requires c κs = ((c .before .before .before .before .before .before .before .pre .1), tuple-space (c .before .before .before .before .before .before .before .args .s .now) (c .before .before .before .before .before .before .before .args .rows .now) (fieldsLeft (c .before .before .before .before .before .before .before .args .s .now) (c .before .before .before .before .before .before .before .args .c)) _ (c .before .before .before .before .before .before .before .pre .1) (c .before .before .before .before .before .before .before .pre .0) (c .before .before .before .before .before .before .before .pre .2) (c .before .before .before .before .before .before .before .pre .3) (c .before .before .before .before .parse .ensures .1) (c .before .before .d .given .1) .0, tuple-space (c .before .before .before .before .before .before .before .args .s .now) (c .before .before .before .before .before .before .before .args .rows .now) (fieldsLeft (c .before .before .before .before .before .before .before .args .s .now) (c .before .before .before .before .before .before .before .args .c)) _ (c .before .before .before .before .before .before .before .pre .1) (c .before .before .before .before .before .before .before .pre .0) (c .before .before .before .before .before .before .before .pre .2) (c .before .before .before .before .before .before .before .pre .3) (c .before .before .before .before .parse .ensures .1) (c .before .before .d .given .1) .1)
+add-tuple-requires c κs = let at-parse = c .before .before .before .before in
+    let at-entry = at-parse .before .before .before in
+    let s = at-entry .args .s .now in
+    let space = tuple-space s (at-entry .args .rows .now) (fieldsLeft s (at-entry .args .c)) _ (at-entry .pre .1) (at-entry .pre .0) (at-entry .pre .2) (at-entry .pre .3) (at-parse .parse .ensures .1) (c .before .before .d .given .1) in
+    (at-entry .pre .1, space .0, space .1)
 
 enum-known-name : tie.Need-enum-known-name
 enum-known-name c = search needs
 
 add-member-requires : tie.Need-add-member-requires
-add-member-requires c κs = ((c .before .before .before .before .before .before .before .pre .1), member-space (c .before .before .before .before .before .before .before .args .s .now) (c .before .before .before .before .before .before .before .args .rows .now) (fieldsLeft (c .before .before .before .before .before .before .before .args .s .now) (c .before .before .before .before .before .before .before .args .c)) _ (c .before .before .before .before .before .before .before .pre .1) (c .before .before .before .before .before .before .before .pre .0) (c .before .before .before .before .before .before .before .pre .2) (c .before .before .before .before .before .before .before .pre .3) (c .before .before .before .before .parse .ensures .0) (c .before .before .name .given .1))
+add-member-requires c κs = let at-parse = c .before .before .before .before in
+    let at-entry = at-parse .before .before .before in
+    let s = at-entry .args .s .now in
+    let fs = fieldsLeft s (at-entry .args .c) in
+    (at-entry .pre .1, member-space s (at-entry .args .rows .now) fs _ (at-entry .pre .1) (at-entry .pre .0) (at-entry .pre .2) (at-entry .pre .3) (at-parse .parse .ensures .0) (c .before .before .name .given .1), member-numbered s fs _ (at-parse .parse .ensures .0) (c .before .before .name .given .1))
 
 enum-told : tie.Need-enum-told
 enum-told c = search needs

@@ -10,12 +10,12 @@ member-word-requires c κs = search needs
 member-word-requires-2 : tie.Need-member-word-requires-2
 member-word-requires-2 c κs = search needs
 
-member-word-requires-3 : tie.Need-member-word-requires-3
-member-word-requires-3 c κs = search needs
+member-package-requires : tie.Need-member-package-requires
+member-package-requires c κs = search needs
 
 returns : tie.Need-returns
 unfolding nameRead
-returns c = rw ((c .before .before .member-word .ensures), (c .before .member-word2 .ensures), (c .member-word3 .ensures))
+returns c = rw ((c .before .before .member-word .ensures), (c .before .member-word2 .ensures), (c .member-package .ensures))
 
 pub name-of-spec : {M : Type 1} → statement M
 name-of-spec =
@@ -23,5 +23,5 @@ name-of-spec =
     (tie.spec
     member-word-requires
     member-word-requires-2
-    member-word-requires-3
+    member-package-requires
     returns)

@@ -8,6 +8,10 @@ use Rattle.objects.proofs.writers.put_member.Tie as tie
 member-count-requires : tie.Need-member-count-requires
 member-count-requires c κs = search needs
 
+package-said-requires : tie.Need-package-said-requires
+package-said-requires c κs = let at-entry = c .before .before .before in
+    (at-entry .pre .5)
+
 raise-requires : tie.Need-raise-requires
 raise-requires c κs = search needs
 
@@ -30,16 +34,22 @@ slice-write-rows : tie.Need-slice-write-rows
 slice-write-rows c = search needs
 
 same-length : tie.Need-same-length
-same-length c = simp length-set ((c .before .before .put-row .kept .0) ∙ (c .before .before .before .before .before .before .raise .kept .0))
+same-length c = let at-raise = c .before .before .before .before .before .before in
+    simp length-set ((c .before .before .put-row .kept .0) ∙ (at-raise .raise .kept .0))
 
 returns : tie.Need-returns
-returns c = (member-holds _ _ _ _ _ _ _ _ _ (c .before .before .before .before .before .before .before .before .before .before .before .pre .0) (c .before .before .before .before .before .before .before .before .before .before .before .pre .1) (c .before .before .before .before .before .before .before .before .before .before .before .pre .2) (c .before .before .before .before .before .before .before .before .before .before .before .pre .3) (c .before .before .before .before .before .before .before .before .before .before .before .pre .4) (c .before .before .before .before .before .before .before .before .member-count .ensures) (c .before .before .before .before .before .before .raise .ensures) (c .before .before .put-row .ensures), member-elements _ _ _ _ _ _ _ _ _ (c .before .before .before .before .before .before .before .before .member-count .ensures) (c .before .before .before .before .before .before .raise .ensures) (c .before .before .put-row .ensures))
+returns c = let at-raise = c .before .before .before .before .before .before in
+    let at-package-said = at-raise .before .before in
+    let at-member-count = at-package-said .before in
+    let at-entry = at-member-count .before .before .before in
+    (member-holds _ _ _ _ _ _ _ _ _ (at-package-said .package-said .ensures) (at-entry .pre .0) (at-entry .pre .1) (at-entry .pre .2) (at-entry .pre .3) (at-entry .pre .4) (at-member-count .member-count .ensures) (at-raise .raise .ensures) (c .before .before .put-row .ensures), member-elements _ _ _ _ _ _ _ _ _ (at-member-count .member-count .ensures) (at-raise .raise .ensures) (c .before .before .put-row .ensures))
 
 pub put-member-spec : {M : Type 1} → statement M
 put-member-spec =
     tie.close
     (tie.spec
     member-count-requires
+    package-said-requires
     raise-requires
     cast-put-row
     mul-put-row

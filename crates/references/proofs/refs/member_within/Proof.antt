@@ -9,8 +9,8 @@ member-type-requires c κs = search needs
 has-type-requires : tie.Need-has-type-requires
 has-type-requires c κs = search needs
 
-member-word-requires : tie.Need-member-word-requires
-member-word-requires c κs = search needs
+member-package-requires : tie.Need-member-package-requires
+member-package-requires c κs = search needs
 
 has-package-requires : tie.Need-has-package-requires
 has-package-requires c κs = search needs
@@ -19,7 +19,10 @@ both-requires : tie.Need-both-requires
 both-requires c κs = search needs
 
 returns : tie.Need-returns
-returns c text = member-had text (c .before .before .before .before .before .before .args .rows .now) (c .before .before .before .before .before .before .args .m) (c .before .before .before .before .member-type .ensures) ((c .before .before .before .has-type .ensures) text) (c .before .before .member-word .ensures) ((c .before .has-package .ensures) text) (c .both .ensures)
+returns c text = let at-has-type = c .before .before .before in
+    let at-member-type = at-has-type .before in
+    let at-entry = at-member-type .before .before in
+    member-had text (at-entry .args .rows .now) (at-entry .args .m) (at-member-type .member-type .ensures) ((at-has-type .has-type .ensures) text) (c .before .before .member-package .ensures) ((c .before .has-package .ensures) text) (c .both .ensures)
 
 pub member-within-spec : {M : Type 1} → statement M
 member-within-spec =
@@ -27,7 +30,7 @@ member-within-spec =
     (tie.spec
     member-type-requires
     has-type-requires
-    member-word-requires
+    member-package-requires
     has-package-requires
     both-requires
     returns)

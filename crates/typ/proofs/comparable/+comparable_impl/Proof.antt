@@ -9,8 +9,8 @@ use borrow.Fn.Kinds.{In}
 use borrow.Fn.PlainCycle.{Measures, is, falls, and}
 use Rattle.objects.specs.Rows.{tableOf}
 use Rattle.rules.specs.Comparable.{comparable}
-use Rattle.rules.specs.Library.{rankRead}
 use Rattle.typ.specs.Contents.{contentAt, MetComparable}
+use Rattle.typ.proofs.Lower.{lower}
 use Rattle.typ.proofs.ContentLaws.{Passed, held-place, was-met, may-not, content-inside, content-lower, content-not, content-is, all-passed, now-met}
 use Rattle.typ.proofs.comparable.comparable_impl.Reads as comparable-impl
 use Rattle.typ.proofs.comparable.comparable_impl.Kinds as comparable-impl-kinds
@@ -21,9 +21,9 @@ use Rattle.typ.proofs.comparable.may_compare.Reads as may-compare-reads
 use Rattle.typ.proofs.comparable.+comparable_impl.{statement}
 use Rattle.typ.proofs.comparable.+comparable_impl.Tie.{close}
 
--- the rank of the type that is judged
+-- how many types have a smaller rank than the one that is judged: fewer than there are types
 abbrev μ-comparable-impl : Measures 3 comparable-impl-kinds.ps ℕ
-μ-comparable-impl κs a = rankRead (a .1 .0 .now) (a .1 .1 .1 .0)
+μ-comparable-impl κs a = lower (a .1 .0 .now) (a .1 .1 .1 .0)
 
 abbrev comparable-impl-at : ℕ → In 3 comparable-impl-kinds.ps
 comparable-impl-at t = and 3 comparable-impl-kinds.ps (is 3 comparable-impl-kinds.ps μ-comparable-impl t) comparable-impl.Pre

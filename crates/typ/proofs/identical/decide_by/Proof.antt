@@ -8,6 +8,7 @@ use Rattle.rules.proofs.Sounds.{library-sound}
 use Rattle.typ.specs.Marks.{unmet}
 use Rattle.typ.specs.Compared.{Follows, State}
 use Rattle.typ.proofs.Marked.{well-none}
+use Rattle.typ.proofs.DepthLaws.{within}
 use Rattle.typ.proofs.Top.{begun, differed, agreed, answered}
 use Rattle.typ.proofs.identical.decide_by.Statement.{statement}
 use Rattle.typ.proofs.identical.decide_by.Tie as tie
@@ -19,7 +20,9 @@ abbrev μ-loop : tie.MeasureT-loop
 μ-loop text rows marks₀ labels₀ x y marks labels = unmet marks
 
 identical-impl-requires : tie.Need-identical-impl-requires Inv-loop μ-loop
-identical-impl-requires c κs = ((c .before .before .before .before .before .before .pre .0), ((c .before .before .before .before .before .before .pre .1 .0), (well-none _ _ (c .before .before .before .before .before .before .pre .1 .1 .0), c .before .before .before .before .before .before .pre .1 .1 .1)))
+identical-impl-requires c κs =
+    let asked = c .before .before .before .before .before .before .pre in
+    (asked .0, (asked .1 .0, (well-none _ _ (asked .1 .1 .0), (asked .1 .1 .1, within _ _ (asked .0) _ (omega arith) _ _ (asked .1 .0 .0) (asked .1 .0 .1)))))
 
 same-length : tie.Need-same-length Inv-loop μ-loop
 same-length c = search needs

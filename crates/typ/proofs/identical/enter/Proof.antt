@@ -1,5 +1,7 @@
 use borrow.Author.Needs.{needs}
-use mathlib.Core.Path.{sym, _∙_}
+use mathlib.Core.Path.{refl, sym, _∙_}
+use native.Mathlib.Omega.{arith}
+use Rattle.objects.proofs.ListLaws.{clash}
 use Rattle.typ.proofs.Cycle.{enter-met, enter-off, enter-open}
 use Rattle.typ.proofs.identical.enter.Statement.{statement}
 use Rattle.typ.proofs.identical.enter.Tie as tie
@@ -11,7 +13,7 @@ same-length : tie.Need-same-length
 same-length c = search needs
 
 returns : tie.Need-returns
-returns c = enter-met _ _ _ (c .before .is-met .ensures) (c .if1 .taken)
+returns c = (enter-met _ _ _ (c .before .is-met .ensures) (c .if1 .taken), λ q. clash q refl)
 
 set-met-requires : tie.Need-set-met-requires
 set-met-requires c κs = (search needs, sym (c .before .before .is-met .ensures) ∙ c .before .if1 .left)
@@ -20,7 +22,11 @@ same-length-2 : tie.Need-same-length-2
 same-length-2 c = search needs
 
 returns-2 : tie.Need-returns-2
-returns-2 c = enter-off _ _ _ (c .before .before .before .before .before .before .is-met .ensures) (c .before .before .before .before .before .if1 .left) _ (c .before .before .before .set-met .ensures)
+returns-2 c =
+    let at-set-met = c .before .before .before in
+    let at-if1 = at-set-met .before .before in
+    let at-is-met = at-if1 .before in
+    (enter-off _ _ _ (at-is-met .is-met .ensures) (at-if1 .if1 .left) _ (at-set-met .set-met .ensures), λ q. clash q refl)
 
 add-is-met : tie.Need-add-is-met
 add-is-met c = search needs
@@ -32,7 +38,11 @@ same-length-3 : tie.Need-same-length-3
 same-length-3 c = search needs
 
 returns-3 : tie.Need-returns-3
-returns-3 c = enter-off _ _ _ (c .before .before .before .before .before .before .before .before .before .is-met .ensures) (c .before .before .before .before .before .before .before .before .if1 .left) _ (c .before .before .before .before .before .before .set-met .ensures)
+returns-3 c =
+    let at-set-met = c .before .before .before .before .before .before in
+    let at-if1 = at-set-met .before .before in
+    let at-is-met = at-if1 .before in
+    (enter-off _ _ _ (at-is-met .is-met .ensures) (at-if1 .if1 .left) _ (at-set-met .set-met .ensures), λ q. clash q refl)
 
 add-set-met : tie.Need-add-set-met
 add-set-met c = search needs
@@ -44,7 +54,14 @@ same-length-4 : tie.Need-same-length-4
 same-length-4 c = search needs
 
 returns-4 : tie.Need-returns-4
-returns-4 c = enter-open _ _ _ (c .before .before .before .before .before .before .before .before .before .before .before .before .before .is-met .ensures) (c .before .before .before .before .before .before .before .before .before .before .before .before .if1 .left) _ (c .before .before .before .before .before .before .before .before .before .before .set-met .ensures) _ (c .before .before .before .before .before .is-met2 .ensures) (c .before .before .before .before .if3 .left) _ (c .before .before .set-met2 .ensures)
+returns-4 c =
+    let at-if3 = c .before .before .before .before in
+    let at-is-met2 = at-if3 .before in
+    let at-if2 = at-is-met2 .before .before in
+    let at-set-met = at-if2 .before .before .before in
+    let at-if1 = at-set-met .before .before in
+    let at-is-met = at-if1 .before in
+    (enter-open _ _ _ (at-is-met .is-met .ensures) (at-if1 .if1 .left) _ (at-set-met .set-met .ensures) _ (at-is-met2 .is-met2 .ensures) (at-if3 .if3 .left) _ (c .before .before .set-met2 .ensures), λ q. omega (arith, at-if2 .if2 .left))
 
 pub enter-spec : {M : Type 1} → statement M
 enter-spec =

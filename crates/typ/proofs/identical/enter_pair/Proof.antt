@@ -2,6 +2,7 @@ use borrow.Author.Needs.{needs}
 use mathlib.Core.Path.{refl}
 use mathlib.Core.Logic.{inl, inr}
 use native.Mathlib.Omega.{arith}
+use Rattle.objects.proofs.ListLaws.{clash}
 use Rattle.typ.proofs.Cycle.{entered-met, class-entered}
 use Rattle.typ.proofs.identical.enter_pair.Statement.{statement}
 use Rattle.typ.proofs.identical.enter_pair.Tie as tie
@@ -25,7 +26,7 @@ slice-read-if1-2 : tie.Need-slice-read-if1-2
 slice-read-if1-2 c = search needs
 
 returns : tie.Need-returns
-returns c = class-entered _ _ _ _ (c .if1 .taken)
+returns c = (class-entered _ _ _ _ (c .if1 .taken), λ q. clash q refl)
 
 cast-enter : tie.Need-cast-enter
 cast-enter c = search needs
@@ -52,13 +53,18 @@ same-length-2 : tie.Need-same-length-2
 same-length-2 c = search needs
 
 returns-2 : tie.Need-returns-2
-returns-2 c = record { marked = inr (c .before .before .before .before .before .before .before .enter .ensures); linked = inr (c .before .before .join .ensures, entered-met _ _ _ _ (omega (arith, c .before .before .before .before .before .before .before .before .before .before .before .before .before .before .before .before .before .before .pre .0 .0, c .before .before .before .before .before .before .before .before .before .before .before .before .before .before .before .before .before .before .pre .0 .1)) (c .before .before .before .before .before .before .before .before .before .before .before .before .before .before .before .before .before .before .pre .1 .0) (c .before .before .before .before .before .before .before .enter .ensures)) }
+returns-2 c =
+    let at-enter = c .before .before .before .before .before .before .before in
+    let at-entry = at-enter .before .before .before .before .before .before .before .before .before .before .before in
+    (record { marked = inr (at-enter .enter .ensures .0); linked = inr (c .before .before .join .ensures, entered-met _ _ _ _ (omega (arith, at-entry .pre .0 .0, at-entry .pre .0 .1)) (at-entry .pre .1 .0) (at-enter .enter .ensures .0)) }, at-enter .enter .ensures .1)
 
 same-length-3 : tie.Need-same-length-3
 same-length-3 c = search needs
 
 returns-3 : tie.Need-returns-3
-returns-3 c = record { marked = inr (c .before .before .before .enter .ensures); linked = inl refl }
+returns-3 c =
+    let at-enter = c .before .before .before in
+    (record { marked = inr (at-enter .enter .ensures .0); linked = inl refl }, at-enter .enter .ensures .1)
 
 pub enter-pair-spec : {M : Type 1} → statement M
 enter-pair-spec =

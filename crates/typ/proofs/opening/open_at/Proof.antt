@@ -1,6 +1,7 @@
 use borrow.Author.Needs.{needs}
 use mathlib.Core.Path.{sym, _∙_}
 use native.Mathlib.Omega.{arith}
+use Rattle.typ.proofs.DepthLaws.{parts-within}
 use Rattle.typ.proofs.Following.{follows-grown}
 use Rattle.typ.proofs.Top.{skip-unmet, skip-opened, known, open-well, open-grown, open-same, open-differ}
 use Rattle.typ.proofs.opening.open_at.Statement.{statement}
@@ -40,7 +41,17 @@ cast-t21-2 : tie.Need-cast-t21-2
 cast-t21-2 c = search needs
 
 identical-impl-o-requires : tie.Need-identical-impl-o-requires
-identical-impl-o-requires c κs = (c .before .before .before .before .before .before .before .before .before .before .before .before .before .before .before .before .pre .0, ((known _ _ _ _ _ (c .before .before .before .before .before .before .before .before .before .before .before .before .before .before .before .before .pre .1 .1 .0) (c .before .before .before .before .before .before .before .before .before .before .before .before .before .before .before .before .pre .1 .0 .0) _ (c .before .before .before .before .before .before .before .before .before .before .is-met .ensures) (c .before .before .before .before .before .before .before .before .before .if1 .left) _ (c .before .before .before .before .before .before .before .is-met2 .ensures) (c .before .before .before .before .before .before .if2 .left) (c .before .before .before .before .before .before .before .before .before .before .before .before .before .before .before .before .pre .1 .0 .1), omega (arith, c .before .before .before .before .set-met .kept .0, c .before .before .before .before .before .before .before .before .before .before .before .before .before .before .before .before .pre .1 .0 .1)), (open-well _ _ _ _ _ (c .before .before .before .before .before .before .before .before .before .before .before .before .before .before .before .before .pre .1 .1 .0) (c .before .before .before .before .before .before .before .before .before .before .before .before .before .before .before .before .pre .1 .0 .0) _ (c .before .before .before .before .before .before .before .before .before .before .is-met .ensures) (c .before .before .before .before .before .before .before .before .before .if1 .left) _ (c .before .before .before .before .before .before .before .is-met2 .ensures) (c .before .before .before .before .before .before .if2 .left) (c .before .before .before .before .before .before .before .before .before .before .before .before .before .before .before .before .pre .1 .0 .1) _ (c .before .before .before .before .set-met .ensures), follows-grown _ _ _ _ (open-grown _ _ _ _ _ (c .before .before .before .before .before .before .before .before .before .before .before .before .before .before .before .before .pre .1 .1 .0) (c .before .before .before .before .before .before .before .before .before .before .before .before .before .before .before .before .pre .1 .0 .0) _ (c .before .before .before .before .before .before .before .before .before .before .is-met .ensures) (c .before .before .before .before .before .before .before .before .before .if1 .left) _ (c .before .before .before .before .before .before .before .is-met2 .ensures) (c .before .before .before .before .before .before .if2 .left) (c .before .before .before .before .before .before .before .before .before .before .before .before .before .before .before .before .pre .1 .0 .1) _ (c .before .before .before .before .set-met .ensures)) (c .before .before .before .before .before .before .before .before .before .before .before .before .before .before .before .before .pre .1 .1 .1))))
+identical-impl-o-requires c κs =
+    let at-set-met = c .before .before .before .before in
+    let at-if2 = at-set-met .before .before in
+    let at-is-met2 = at-if2 .before in
+    let at-if1 = at-is-met2 .before .before in
+    let at-is-met = at-if1 .before in
+    let asked = at-is-met .before .before .before .before .before .before .pre in
+    let k = known _ _ _ _ _ (asked .1 .1 .0) (asked .1 .0 .0) _ (at-is-met .is-met .ensures) (at-if1 .if1 .left) _ (at-is-met2 .is-met2 .ensures) (at-if2 .if2 .left) (asked .1 .0 .1) in
+    let well = open-well _ _ _ _ _ (asked .1 .1 .0) (asked .1 .0 .0) _ (at-is-met .is-met .ensures) (at-if1 .if1 .left) _ (at-is-met2 .is-met2 .ensures) (at-if2 .if2 .left) (asked .1 .0 .1) _ (at-set-met .set-met .ensures) in
+    let grown = open-grown _ _ _ _ _ (asked .1 .1 .0) (asked .1 .0 .0) _ (at-is-met .is-met .ensures) (at-if1 .if1 .left) _ (at-is-met2 .is-met2 .ensures) (at-if2 .if2 .left) (asked .1 .0 .1) _ (at-set-met .set-met .ensures) in
+    (asked .0, ((k, omega (arith, at-set-met .set-met .kept .0, asked .1 .0 .1)), (well, (follows-grown _ _ _ _ grown (asked .1 .1 .1), parts-within _ _ (asked .0) _ (omega arith) _ _ k))))
 
 same-length-3 : tie.Need-same-length-3
 same-length-3 c = search needs

@@ -1,0 +1,105 @@
+-- EVERY PROMISE, as one statement each over texts that load and calls that are made. `called` is what the exported call gives: the contract of `yifgrun_ask`
+-- (crate yifgrun, src/lib.rt) says that number, answer buffer and work area are those of `asked`, for every table, question, buffer and work area.
+use mathlib.Core.Path.{_≡_, ap, _∙_}
+use mathlib.Core.Bool.{Bool, true}
+use mathlib.Core.List.{map}
+use mathlib.Core.Logic.{_↔_}
+use mathlib.Core.Option.{Option, none}
+use Prim.Native.Nat.{_<_}
+use lib.ListN.{length}
+use borrow.Author.Tests.{ltb-true, lt-ltb, le-ltb, not-false}
+use Rattle.objects.specs.Bounds.{workWords}
+use Rattle.objects.specs.Lists.{Bytes}
+use Rattle.objects.specs.declared.TypeKey.{TypeKey}
+use Rattle.objects.specs.declared.PackageKey.{PackageKey}
+use Rattle.objects.specs.Table.{Table, size, hasType, hasPackage, isIface, isNamed, kindAt, under}
+use Rattle.objects.proofs.ListLaws.{and-l}
+use Rattle.objects.proofs.KindLaws.{iface-is, under-plain}
+use Rattle.rules.specs.Members.{identityFrom}
+use Rattle.rules.specs.Question.{Question, askS, askN, askI, askC, inTable}
+use Rattle.rules.specs.Ways.{Selected, select}
+use Rattle.rules.specs.Identity.{identical}
+use Rattle.rules.specs.Comparable.{comparable}
+use Rattle.rules.specs.Missing.{Lack, missing}
+use Rattle.rules.specs.Answer.{answer, selected, says, lackAnswer}
+use Rattle.rules.specs.Asked.{numberOf, written, asked}
+use Rattle.rules.specs.Rows as rows
+use Rattle.rules.specs.Worked.{worked}
+use Rattle.rules.proofs.Computed as computed
+use Rattle.rules.proofs.Numbers.{outcome-bound, answered-fits}
+use Rattle.rules.proofs.Sounds.{loads-sound}
+use Rattle.goscript.specs.Answer.{Unended, goscriptAnswer, Answers}
+use Rattle.goscript.proofs.AnswersAre as goscript
+use Rattle.gospec.specs.Go.{Identical, Comparable}
+use Rattle.gospec.specs.GoSelectors.{OneStar}
+use Rattle.gospec.specs.GoImplements.{Implements}
+use Rattle.gospec.proofs.Loaded as go
+use Rattle.growth.specs.Grown.{GrownTexts}
+use Rattle.growth.specs.Calls.{Lent, called, PutAgain, Said}
+use Rattle.growth.proofs.Promised.{asked-in, outcome-says, call-says, grown-calls}
+use Rattle.promises.specs.Demands.{CallGives, Answered, CallSays, GoSelects}
+
+-- ---- DEMAND 1: what every call gives
+
+pub every-call : (table : Bytes) (c : Lent) → CallGives table c
+unfolding asked numberOf written
+every-call table c = record {
+  tooFewWords = λ h. rw (lt-ltb (length (c .work)) workWords h);
+  refuses = λ n line h e. let b = outcome-bound table (c .line) (length (c .buffer)) n line e in (rw (le-ltb (length (c .work)) workWords h, e), b .0, b .1, b .2);
+  answers = λ bytes h e. (call-says table bytes c e h, answered-fits table (c .line) bytes (length (c .buffer)) e);
+}
+
+-- ---- DEMAND 2: what a call says
+
+module _ (text : Bytes) (c : Lent) (T : Table) where
+  in-table : (q : Question) → Answered text c T q → inTable T q ≡ true
+  in-table q h = asked-in T (c .line) q (h .asks)
+
+  in-range : (t : TypeKey) → hasType T t ≡ true → t .0 < size T
+  in-range t h = ltb-true (t .0) (size T) h
+
+  -- the rules' answer
+  pub call-answers : (q : Question) → Answered text c T q → CallSays text c (answer T q)
+  call-answers q h = call-says text _ c (outcome-says text (c .line) (length (c .buffer)) T q (h .loads) (h .asks) (h .second) (h .fits)) (h .words)
+
+  -- every answer is what goscript's function for the question returns, whatever a loop of it would give that did not end: they all end
+  pub answers-are-goscripts : (q : Question) → Answered text c T q → (out : Unended) → CallSays text c (answer T q) × Answers (goscriptAnswer out T q) (answer T q)
+  answers-are-goscripts q h out = (call-answers q h, goscript.answers-are-goscripts T (loads-sound text T (h .loads)) q (in-table q h) out)
+
+  -- S: "Selectors" of the Go spec
+  pub selection-is-go : (t : TypeKey) (a : Bool) (pkg : Option PackageKey) (name : Bytes) → Answered text c T (askS t a pkg name)
+      → (r : Selected) × CallSays text c (selected r) × GoSelects T t a pkg name r
+  unfolding answer
+  selection-is-go t a pkg name h =
+      let in0 = in-range t (and-l (hasType T t) (hasPackage T pkg) (in-table (askS t a pkg name) h)) in
+      let says-it : GoSelects T t a pkg name (select T (identityFrom T pkg name) t a) = record { gives = go.selection-is-go text T (h .loads) t in0 a pkg name; alone = go.go-is-selection text T (h .loads) t in0 a pkg name } in
+      (select T (identityFrom T pkg name) t a, call-answers (askS t a pkg name) h, says-it)
+
+  -- I: "Type identity"
+  pub identity-is-go : (x y : TypeKey) → Answered text c T (askI x y) → (b : Bool) × CallSays text c (says b) × ((b ≡ true) ↔ Identical T x y)
+  unfolding answer
+  identity-is-go x y h = (identical T x y, call-answers (askI x y) h, go.identity-is-go text T (h .loads) x y)
+
+  -- C: "Comparison operators"
+  pub comparability-is-go : (t : TypeKey) → Answered text c T (askC t) → (b : Bool) × CallSays text c (says b) × ((b ≡ true) ↔ Comparable T t)
+  unfolding answer
+  comparability-is-go t h = (comparable T t, call-answers (askC t) h, go.comparability-is-go text T (h .loads) t)
+
+  -- N with s 1: "Implementing an interface"
+  pub satisfied-is-go : (t i : TypeKey) → Answered text c T (askN t i true) → (r : Option Lack) × CallSays text c (lackAnswer r) × ((r ≡ none) ↔ Implements T (OneStar T) t i)
+  unfolding answer
+  satisfied-is-go t i h =
+      let k = in-table (askN t i true) h in
+      let f = iface-is (kindAt T i) (not-false (isIface (kindAt T i)) (h .second)) in
+      let own : under T i ≡ i = under-plain T i (ap isNamed (f .1)) in
+      (missing T t i true, call-answers (askN t i true) h, go.satisfied-is-go text T (h .loads) t i (in-range t (and-l (hasType T t) (hasType T i) k)) (f .0) (ap (kindAt T) own ∙ f .1))
+
+-- ---- DEMAND 3: growth, one claim about two libraries
+
+pub growth-promise : (a b : Bytes) (g : GrownTexts a b) (q : Question) (old new : Lent) → PutAgain g q old new → Said g q old new
+growth-promise = grown-calls
+
+-- ---- "These eleven answers are established of the rules themselves, as rows of one table"
+
+pub worked-answers : map rows.called worked ≡ map rows.owed worked
+worked-answers = computed.worked-answers

@@ -1,0 +1,52 @@
+-- The words that the promises are said in: what a call gives, and when it answers a question.
+use mathlib.Core.Path.{_≡_}
+use mathlib.Core.Bool.{Bool, false}
+use mathlib.Core.Option.{Option, some}
+use Prim.Native.Nat.{ℕ, _≤_, _<_}
+use lib.ListN.{length, replicate}
+use Rattle.objects.specs.Bounds.{workWords, refusalUnit}
+use Rattle.objects.specs.Lists.{Bytes}
+use Rattle.objects.specs.declared.TypeKey.{TypeKey}
+use Rattle.objects.specs.declared.PackageKey.{PackageKey}
+use Rattle.objects.specs.Table.{Table}
+use Rattle.rules.specs.Load.{load, loaded}
+use Rattle.rules.specs.Question.{Question, questionOf}
+use Rattle.rules.specs.Ways.{Selected}
+use Rattle.rules.specs.Answer.{Answer, answer, answerBytes}
+use Rattle.rules.specs.Asked.{outcome, refuse, say, refusal, wrongSecond}
+use Rattle.gospec.specs.GoSelectors.{OneStar}
+use Rattle.gospec.specs.Says.{Says, Alike}
+use Rattle.growth.specs.Calls.{Lent, called, answersWith}
+
+-- ---- demand 1
+
+-- All that a call gives, by what is due (`outcome`: refusals 2 to 13, or the bytes of the answer).
+pub record CallGives (table : Bytes) (c : Lent) : Type 0 where
+  -- 1: "The work area has fewer words than the number the team fixes"; it "leaves it unchanged"
+  pub tooFewWords : length (c .work) < workWords → called table c ≡ record { number = refusal 1 0; answer = c .buffer; work = c .work }
+  -- "minus (refusal × 65,536 + line)"; "a refusal changes none of it"; "The work area is zero on every return except after refusal 1"
+  pub refuses : (n line : ℕ) → workWords ≤ length (c .work) → outcome table (c .line) (length (c .buffer)) ≡ refuse n line
+      → (called table c ≡ record { number = refusal n line; answer = c .buffer; work = replicate (length (c .work)) 0 }) × (2 ≤ n) × (n ≤ 13) × (line < refusalUnit)
+  -- "the answer's length"; "An answer fills the front of the answer buffer and the rest is unchanged"
+  pub answers : (bytes : Bytes) → workWords ≤ length (c .work) → outcome table (c .line) (length (c .buffer)) ≡ say bytes
+      → (called table c ≡ answersWith bytes c) × (length bytes ≤ length (c .buffer))
+
+-- ---- demand 2
+
+-- A call that is answered: the table loads, the line asks q of it, neither 12 nor 13 is due, and there are words enough.
+pub record Answered (text : Bytes) (c : Lent) (T : Table) (q : Question) : Type 0 where
+  pub loads : load text ≡ loaded T
+  pub asks : questionOf T (c .line) ≡ some q
+  pub second : wrongSecond T q ≡ false
+  pub fits : length (answerBytes (answer T q)) ≤ length (c .buffer)
+  pub words : workWords ≤ length (c .work)
+
+-- the call says r
+abbrev pub CallSays : Bytes → Lent → Answer → Type 0
+CallSays text c r = called text c ≡ answersWith (answerBytes r) c
+
+-- What the Go spec says of the selector x.f and of the call x.f(), x of type t, a for addressable: this answer, and no other but for the ways that
+-- `ambiguous` shows. `OneStar`: document 01's reading of (*x).f (docs/DIFFERENCES.md).
+pub record GoSelects (T : Table) (t : TypeKey) (a : Bool) (pkg : Option PackageKey) (name : Bytes) (r : Selected) : Type 0 where
+  pub gives : Says T (OneStar T) name pkg t a r
+  pub alone : (s : Selected) → Says T (OneStar T) name pkg t a s → Alike s r

@@ -1,0 +1,239 @@
+//! The examples of the documents, run: each block ```typeask is an input of the program, and the block ```prints
+//! behind it is what the program prints.
+
+mod typeask;
+
+use std::collections::BTreeSet;
+use std::fs;
+use std::path::Path;
+
+/// The words that may stand behind an opening fence, so that a slip in one is no example lost.
+const KINDS: [&str; 6] = ["typeask", "prints", "rust", "go", "sh", "text"];
+
+/// A fenced block, and the number of its first line in the document.
+struct Block<'a> {
+    kind: &'a str,
+    lines: Vec<&'a str>,
+    first: usize,
+    /// Whether nothing but empty lines stands between it and the block before.
+    follows: bool,
+}
+
+/// The fenced blocks of a document.
+fn blocks(text: &str) -> Vec<Block<'_>> {
+    let mut blocks: Vec<Block> = Vec::new();
+    let (mut open, mut follows) = (false, false);
+    for (line, n) in text.lines().zip(1..) {
+        match line.strip_prefix("```") {
+            Some("") if open => (open, follows) = (false, true),
+            Some(kind) if !open => {
+                assert!(KINDS.contains(&kind), "line {n}: no kind of block: {line}");
+                blocks.push(Block {
+                    kind,
+                    lines: Vec::new(),
+                    first: n + 1,
+                    follows,
+                });
+                open = true;
+            }
+            _ if open => blocks.last_mut().expect("an open block").lines.push(line),
+            _ => follows = follows && line.is_empty(),
+        }
+    }
+    assert!(!open, "the last block has no end");
+    blocks
+}
+
+/// An input of `typeask`, what it prints, and the line of the document where it stands.
+struct Example {
+    input: String,
+    output: String,
+    line: usize,
+}
+
+impl Example {
+    fn of(input: &Block, output: &Block) -> Example {
+        Example {
+            input: input.lines.iter().map(|line| written(line)).collect(),
+            output: output.lines.iter().map(|line| tabbed(line)).collect(),
+            line: input.first,
+        }
+    }
+
+    /// The letter of each question with the first word of its answer.
+    fn forms(&self) -> Vec<String> {
+        let (table, questions) = typeask::parted(self.input.as_bytes());
+        let form = |question: &&[u8]| {
+            let input = [table, b"Q\n", question].concat();
+            let printed = typeask::print(&input, yifgrun::ask);
+            let word = printed.split(|b| b"\t\n".contains(b)).next();
+            [question.get(..1), Some(b" "), word]
+                .map(Option::unwrap_or_default)
+                .concat()
+        };
+        let text = |form: Vec<u8>| String::from_utf8(form).expect("text");
+        questions.iter().map(form).map(text).collect()
+    }
+}
+
+/// The examples of a document: every ```typeask has its ```prints directly behind it, and every ```prints its
+/// ```typeask before it.
+fn examples(text: &str) -> Vec<Example> {
+    let mut examples = Vec::new();
+    let blocks = blocks(text);
+    let mut rest = &blocks[..];
+    while let [block, behind @ ..] = rest {
+        rest = behind;
+        let half = format!("line {}: half an example", block.first);
+        assert_ne!(block.kind, "prints", "{half}");
+        if block.kind == "typeask" {
+            let (output, behind) = behind.split_first().expect(&half);
+            assert!(output.kind == "prints" && output.follows, "{half}");
+            examples.push(Example::of(block, output));
+            rest = behind;
+        }
+    }
+    examples
+}
+
+/// A line of an example: its blanks are tabs.
+fn tabbed(line: &str) -> String {
+    line.replace(' ', "\t") + "\n"
+}
+
+/// The lines that a line of an input stands for. What is behind two blanks and `//` is a remark; `9 times: A / B`
+/// is nine times the lines A and B, with 0, 1, 2, .. for each `#`.
+fn written(line: &str) -> String {
+    let text = line.split("  //").next().unwrap_or("").trim_end();
+    let Some((count, repeated)) = text.split_once(" times: ") else {
+        return tabbed(text);
+    };
+    let count: usize = count.parse().expect("a number of times");
+    let lines = |n: usize| repeated.replace('#', &n.to_string());
+    (0..count)
+        .flat_map(|n| lines(n).split(" / ").map(tabbed).collect::<Vec<_>>())
+        .collect()
+}
+
+/// A file of the repository, by its path from the root.
+fn read(path: &str) -> String {
+    let root = Path::new(env!("CARGO_MANIFEST_DIR")).join("..");
+    fs::read_to_string(root.join(path)).unwrap_or_else(|e| panic!("{path}: {e}"))
+}
+
+/// Runs every example of a document, which are at least so many, and gives them.
+fn run(document: &str, least: usize) -> Vec<Example> {
+    let examples = examples(&read(document));
+    for example in &examples {
+        let printed = typeask::print(example.input.as_bytes(), yifgrun::ask);
+        let printed = String::from_utf8(printed).expect("answers are text");
+        let line = example.line;
+        assert_eq!(printed, example.output, "{document}, line {line}");
+    }
+    let count = examples.len();
+    assert!(
+        count >= least,
+        "{count} examples in {document}, not {least}"
+    );
+    examples
+}
+
+#[test]
+fn the_readme_is_right() {
+    run("README.md", 1);
+}
+
+/// Every letter of a question with every word that its answer may begin with.
+const FORMS: [&str; 12] = [
+    "S entry",
+    "S badreceiver",
+    "S ambiguous",
+    "S notfound",
+    "M set",
+    "N satisfied",
+    "N missing",
+    "I yes",
+    "I no",
+    "C yes",
+    "C no",
+    "V ok",
+];
+
+#[test]
+fn the_manual_is_right_and_shows_every_answer_and_refusal() {
+    let (mut words, mut forms) = (BTreeSet::new(), BTreeSet::new());
+    for example in run("docs/MANUAL.md", 25) {
+        words.extend(typeask::words(example.output.as_bytes()));
+        forms.extend(example.forms());
+    }
+    for word in typeask::WORDS {
+        assert!(words.contains(word), "the manual does not show {word}");
+    }
+    for form in FORMS {
+        assert!(forms.contains(form), "the manual does not show {form}");
+    }
+}
+
+#[test]
+fn the_newest_entry_of_the_changelog_is_this_version() {
+    let changelog = read("CHANGELOG.md");
+    let newest = changelog.lines().find_map(|line| line.strip_prefix("## "));
+    assert_eq!(newest, Some(env!("CARGO_PKG_VERSION")));
+    let compare = read("host/compare/Cargo.toml");
+    let version = format!("version = \"{}\"", env!("CARGO_PKG_VERSION"));
+    assert!(compare.lines().any(|line| line == version), "not {version}");
+}
+
+const INPUT: &str = "```typeask\ntypetable 1\nT basic 2  // int\nQ\nC 0\n```\n";
+const OUTPUT: &str = "```prints\nyes\n```\n";
+
+#[test]
+fn an_example_is_read_as_it_is_meant() {
+    let found = examples(&format!("# A\n\n{INPUT}\n{OUTPUT}B\n```go\nx\n```\n"));
+    let [example] = &found[..] else {
+        panic!("one example, not {}", found.len());
+    };
+    assert_eq!(example.input, "typetable\t1\nT\tbasic\t2\nQ\nC\t0\n");
+    assert_eq!((&*example.output, example.line), ("yes\n", 4));
+    let repeated = written("2 times: F A# - # 1 / T struct");
+    assert_eq!(
+        repeated,
+        "F\tA0\t-\t0\t1\nT\tstruct\nF\tA1\t-\t1\t1\nT\tstruct\n"
+    );
+}
+
+#[test]
+#[should_panic(expected = "line 2: half an example")]
+fn an_input_alone_fails() {
+    examples(INPUT);
+}
+
+#[test]
+#[should_panic(expected = "line 2: half an example")]
+fn an_output_alone_fails() {
+    examples(OUTPUT);
+}
+
+#[test]
+#[should_panic(expected = "line 2: half an example")]
+fn two_inputs_in_a_row_fail() {
+    examples(&format!("{INPUT}{INPUT}{OUTPUT}"));
+}
+
+#[test]
+#[should_panic(expected = "line 2: half an example")]
+fn words_within_a_pair_fail() {
+    examples(&format!("{INPUT}prints\n{OUTPUT}"));
+}
+
+#[test]
+#[should_panic(expected = "no kind of block")]
+fn a_misspelt_block_fails() {
+    examples("```typask\ntypetable 1\n```\n");
+}
+
+#[test]
+#[should_panic(expected = "has no end")]
+fn a_block_without_end_fails() {
+    examples("```typeask\ntypetable 1\n");
+}
