@@ -2,38 +2,36 @@
 """Makes the stdin and stdout of the programs typeask_run and typeask: inputs of typeask, and what it prints.
 
     host/compare/target/release/random_inputs 1 3000 > RANDOM
-    ask_sample.py VECTORS RANDOM CRATES
+    ask_sample.py VECTORS VECTORS02 RANDOM CRATES
 
-VECTORS has small, mixed and damaged (.in and .out): inputs of typeask with what it prints. Every k-th of each is taken. The edges of document 01 are
-added; what is due for them is said here, with the sentence of document 01 that decides it, and no program is asked. RANDOM has random and damaged tables with
-one question each, and what goscript and document 01's refusals give for them. CRATES/typeask_run gets all of it, each input behind its length and each print
-behind its number; CRATES/typeask gets the example of document 01 alone.
+VECTORS has the base's small, mixed and damaged (.in and .out): inputs of typeask with what it prints. Of every k-th of each those are taken that have no answer
+`ambiguous`, which point 1 of document 02 changes. VECTORS02 has the pair 1, with point 1 in force: the first cases, worked out by hand, are all taken, then
+every k-th and those with two ways. The edges of document 01 are added; what is due for them is said here, with the sentence of document 01 or 02 that decides
+it, and no program is asked. RANDOM has random and damaged tables with one question each, and what goscript and document 01's refusals give for them, none of it
+`ambiguous`. CRATES/typeask_run gets all of it, each input behind its length and each print behind its number; CRATES/typeask gets the example of document 01
+alone.
 """
 import sys
+
+from vectors import cases, read, still_due
 
 HEAD = b'typetable\t1\n'
 INT = b'T\tbasic\t2'
 
 
-def cases(path):
-    data = open(path, 'rb').read()
-    if path.endswith('.in'):
-        data = data[data.index(b'\n') + 1:]
-    return data.split(b'---\n')[:-1]
-
-
-def sample(vectors):
+def sample(vectors, vectors02):
     chosen = []
     for name, step in [('small', 5), ('mixed', 3), ('damaged', 12)]:
-        inputs, prints = cases(f'{vectors}/{name}.in'), cases(f'{vectors}/{name}.out')
-        assert len(inputs) == len(prints)
-        # no more than 32,769 bytes of an input are read
-        chosen += [(text[:32769], print_) for text, print_ in list(zip(inputs, prints))[::step]]
-    return chosen
+        chosen += still_due(cases(vectors, name)[::step])
+    for k, case in enumerate(cases(vectors02, '1')):
+        if k < 40 or k % 5 == 0 or b'\nand\t' in case[1]:
+            chosen.append(case)
+    # no more than 32,769 bytes of an input are read
+    return [(text[:32769], print_) for text, print_ in chosen]
 
 
 def random(path):
-    parts, data = [], open(path, 'rb').read()
+    parts, data = [], read(path)
     while data:
         n = int(data[:5])
         parts.append(data[6:6 + n])
@@ -253,14 +251,15 @@ def refusal_edges():
 
 
 def more_edges():
-    """"More": what document 01 says of two ways of one length and of Byte, and one answer of each word of N."""
+    """"More": what document 01 says of Byte and document 02 of two ways of one length, and one answer of each word of N."""
     embeds = lambda *ts: [b'T\tstruct'] + [b'F\tE%d\t-\t%d\t1' % (t, t) for t in ts]
     owns = [b'T\tstruct', b'F\tX\t-\t0\t0']
     return [
-        # "D embeds A then B, both embed C with field X: `ambiguous 0 0 0`": C is 2, A 4, B 6, D 8
-        (asked(table(INT, *owns, b'T\tnamed\t1', *embeds(2), b'T\tnamed\t3', *embeds(2), b'T\tnamed\t5', *embeds(4, 6), b'T\tnamed\t7'), b'S\t8\t0\t-\tX'), b'ambiguous\t0\t0\t0\n'),
-        # "A and B each own X instead: `ambiguous 1 0`": A is 2, B 4, D 6
-        (asked(table(INT, *owns, b'T\tnamed\t1', *owns, b'T\tnamed\t3', *embeds(2, 4), b'T\tnamed\t5'), b'S\t6\t0\t-\tX'), b'ambiguous\t1\t0\n'),
+        # "carries the first shortest way, and a second line, `and`, carries the next one in the order of places": D embeds A then B, both embed C with field X, and
+        # C is 2, A 4, B 6, D 8. "This holds too where both ways end in identical types"
+        (asked(table(INT, *owns, b'T\tnamed\t1', *embeds(2), b'T\tnamed\t3', *embeds(2), b'T\tnamed\t5', *embeds(4, 6), b'T\tnamed\t7'), b'S\t8\t0\t-\tX'), b'ambiguous\t0\t0\t0\nand\t1\t0\t0\n'),
+        # A and B each own X instead: A is 2, B 4, D 6
+        (asked(table(INT, *owns, b'T\tnamed\t1', *owns, b'T\tnamed\t3', *embeds(2, 4), b'T\tnamed\t5'), b'S\t6\t0\t-\tX'), b'ambiguous\t0\t0\nand\t1\t0\n'),
         # "Basic 26 and 8: `yes`"
         (asked(table(b'T\tbasic\t26', b'T\tbasic\t8', INT), b'I\t0\t1', b'I\t0\t2'), b'yes\nno\n'),
         # named type 4 has Close with the signature 1, named type 5 with 3; interface 6 wants it with 1: the methods are members 0, 1 and 2
@@ -284,8 +283,8 @@ def words(rows):
 
 
 def main():
-    vectors, stored, crates = sys.argv[1:4]
-    rows = input_edges() + bound_edges() + set_edges() + refusal_edges() + more_edges() + sample(vectors) + random(stored)
+    vectors, vectors02, stored, crates = sys.argv[1:5]
+    rows = input_edges() + bound_edges() + set_edges() + refusal_edges() + more_edges() + sample(vectors, vectors02) + random(stored)
     with open(f'{crates}/typeask_run/stdin', 'wb') as inputs, open(f'{crates}/typeask_run/stdout', 'wb') as prints:
         for k, (text, print_) in enumerate(rows):
             inputs.write(b'%05d\n' % len(text) + text)

@@ -23,6 +23,9 @@
 //! T struct
 //! F Block 0 5 1
 //! T named 6
+//! T struct
+//! F A 0 3 1
+//! F B 0 5 1
 //! "
 //! .replace(' ', "\t");
 //! let mut answers = yifgrun::Answers::new();
@@ -33,10 +36,11 @@
 //!         Err(refusal) => refusal.to_string(),
 //!     }
 //! };
-//! assert_eq!(print("V"), "ok 1 8 3\n");
+//! assert_eq!(print("V"), "ok 1 9 5\n");
 //! assert_eq!(print("S 7 0 0 Close"), "entry 0 1 0 0\n");
 //! assert_eq!(print("S 7 0 0 Len"), "entry 1 1 0 0\n");
 //! assert_eq!(print("S 3 0 0 Close"), "badreceiver\n");
+//! assert_eq!(print("S 8 0 0 Len"), "ambiguous 0 0\nand 1 0\n");
 //! assert_eq!(print("S 7 0 0 Open"), "notfound\n");
 //! assert_eq!(print("M 3"), "set 0\n");
 //! assert_eq!(print("M 5"), "set 1\nsel 0 1 0\n");

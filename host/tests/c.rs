@@ -7,6 +7,9 @@ use std::process::Command;
 const DUE: &str = "\
 entry\t0\t1\t0\t0
 rest kept, work zero
+ambiguous\t0\t0
+and\t1\t0
+rest kept, work zero
 set\t1
 sel\t0\t1\t0\t0
 rest kept, work zero

@@ -6,7 +6,8 @@ use std::process::{Command, Output, Stdio};
 use std::{env, fs};
 
 const TABLE: &str = "typetable\t1\nP\toffice/cat\nT\tbasic\t2\nT\ttuple\nT\tfunc\t0\t1\t1\nT\tnamed\t4\n\
-    M\tClose\t0\t2\t1\nT\tstruct\nF\tLen\t0\t0\t0\nT\tpointer\t3\nT\tstruct\nF\tBlock\t0\t5\t1\nT\tnamed\t6\n";
+    M\tClose\t0\t2\t1\nT\tstruct\nF\tLen\t0\t0\t0\nT\tpointer\t3\nT\tstruct\nF\tBlock\t0\t5\t1\nT\tnamed\t6\n\
+    T\tstruct\nF\tA\t0\t3\t1\nF\tB\t0\t5\t1\n";
 
 /// A table that contains itself by value: line 2.
 const CYCLE: &str = "typetable\t1\nT\tarray\t3\t1\nT\tnamed\t0\n";
@@ -59,6 +60,13 @@ fn one_question() {
 }
 
 #[test]
+fn both_ways_of_an_ambiguous_name() {
+    let answer = says(0, "ambiguous\t0\t0\nand\t1\t0\n", "");
+    assert_eq!(run(&["-", "S 8 0 0 Len"], TABLE), answer);
+    assert_eq!(run(&[], &format!("{TABLE}Q\nS\t8\t0\t0\tLen\n")), answer);
+}
+
+#[test]
 fn one_refused_question() {
     let table = file("refused", TABLE);
     let wrong = "yifgrun: the question has a wrong form, more than 256 bytes, or a number that the table lacks \
@@ -90,7 +98,7 @@ fn a_file_of_questions() {
     assert_eq!(run(&[&file("questions", &input)], ""), answers);
     assert_eq!(run(&[], &input), answers);
     assert_eq!(run(&["-"], &input), answers);
-    assert_eq!(run(&[], TABLE), says(0, "ok\t1\t8\t3\n", ""));
+    assert_eq!(run(&[], TABLE), says(0, "ok\t1\t9\t5\n", ""));
     assert_eq!(run(&[], &format!("{TABLE}Q\n")), says(0, "", ""));
 }
 

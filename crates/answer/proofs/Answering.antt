@@ -3,9 +3,11 @@ use mathlib.Core.Path.{_≡_, refl, sym, ap, subst, _∙_}
 use mathlib.Core.Bool.{Bool, true, false}
 use mathlib.Core.List.{List, [], _∷_, _++_, map, append-nil}
 use mathlib.Core.Option.{Option, some}
-use Prim.Native.Nat.{ℕ, suc, _-_, _≤_, _<_}
+use Prim.Native.Nat.{ℕ, suc, _*_, _-_, _≤_, _<_}
 use native.Mathlib.Omega.{arith}
-use lib.ListN.{length, take, drop, drop-of-length-le}
+use lib.ListN.{length, take, drop, replicate, drop-of-length-le, length-replicate, getD-replicate, length-take, length-drop}
+use lib.Seq.{getD-take}
+use Rattle.objects.specs.Bounds.{maxPlaces}
 use Rattle.objects.specs.Lists.{Bytes, flat}
 use Rattle.objects.specs.declared.TypeKey.{TypeKey}
 use Rattle.objects.specs.declared.«Package».{«Package»}
@@ -31,7 +33,9 @@ use Rattle.obj.specs.Ids.{askedId}
 use Rattle.selection.specs.declared.Name.{Name}
 use Rattle.selection.specs.declared.Missing.{Missing}
 use Rattle.selection.specs.declared.Selection.{Selection}
-use Rattle.selection.specs.Results.{nameMeant, resultMeant, missingMeant, Selects}
+use Rattle.selection.specs.Results.{nameMeant, resultMeant, secondOf, missingMeant, Selects}
+use Rattle.multiples.specs.Records.{Record, maxRecords, recordWords}
+use Rattle.levels.specs.Hits.{Scratch}
 use Rattle.method_set.specs.Sets.{selAt, selNumbers, SetHeld}
 use Rattle.reply.specs.declared.Done.{Done}
 use Rattle.reply.specs.Done.{Does, due}
@@ -76,6 +80,34 @@ pub selects-behind : {text : Bytes} {rows : Words} {s : Selection} {x : Selected
     → Selects text rows s (drop 2 (take 2 xs ++ (ys ++ drop (length xs - 2) (drop 2 xs)))) x
 selects-behind {text} {rows} {s} {x} xs {ys} h p = subst (λ z. Selects text rows s z x) (sym (part-back xs ys h)) p
 
+-- ---- what a search is lent
+
+abbrev noWords : Record
+noWords = replicate {A = ℕ} recordWords 0
+
+-- the first n of k records of zeros
+pub lent-long : (k n : ℕ) → n ≤ k → n ≡ length (take n (replicate k noWords))
+lent-long k n h = let all = length-replicate k noWords in simp length-take (omega arith)
+
+-- two for each type
+pub scratch-new : (rows : Words) (k n : ℕ) → n ≡ 2 * typeCount rows → n ≤ k → n ≤ maxRecords → (places : Words) → 2 * maxPlaces ≤ length places → Scratch rows (take n (replicate k noWords)) places
+scratch-new rows k n e room most places h =
+    let long = lent-long k n room in
+    record {
+      room = omega arith;
+      most = omega arith;
+      wide = λ j l. ap length (getD-take n (replicate k noWords) j [] (omega arith) ∙ getD-replicate k j noWords [] (omega arith));
+      long = h;
+    }
+
+-- the places behind two words that are left free
+module _ (numbers : Words) {rows : Words} {walk : List Record} (h : Scratch rows walk (drop 2 numbers)) where
+  pub scratch-long : 2 ≤ length numbers
+  scratch-long = let long = h .long in let k = length-drop 2 numbers in omega arith
+
+  pub scratch-part : Scratch rows walk (take (length numbers - 2) (drop 2 numbers))
+  scratch-part = record { room = h .room; most = h .most; wide = h .wide; long = simp (length-take, length-drop) (let long = h .long in let k = length-drop 2 numbers in omega arith) }
+
 -- ---- letter by letter
 
 module _ (text : Bytes) (rows : Words) (before : Bytes) {after : Bytes} {r : Done} where
@@ -85,7 +117,7 @@ module _ (text : Bytes) (rows : Words) (before : Bytes) {after : Bytes} {r : Don
 
   pub s-due : (names : Bytes) (q : Name) (t : TypeKey) (a : Bool) {s : Selection} (numbers : Words)
       → Selects text rows s (drop 2 numbers) (select (tableOf text rows) (nameMeant text rows names q) t a)
-      → Does (fitted (length before) (answerBytes (selected (resultMeant text rows (s .result) (take (s .count) (drop 2 numbers)))))) r before after
+      → Does (fitted (length before) (answerBytes (selected (resultMeant text rows (s .result) (take (s .count) (drop 2 numbers)) (take (s .count) (secondOf (drop 2 numbers))))))) r before after
       → Does (due (tableOf text rows) (length before) (askS t a (packageMeant (q .pkg)) (bytesAt names (q .at) (q .len)))) r before after
   unfolding answer nameMeant askedId
   s-due names q t a numbers h d = due-said (askS t a (packageMeant (q .pkg)) (bytesAt names (q .at) (q .len))) (ap (λ x. answerBytes (selected x)) (sym (h .says))) d

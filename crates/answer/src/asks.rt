@@ -1,36 +1,46 @@
 // The questions, one function for each letter. Each has the local arrays that it alone needs.
 ghost use mathlib.Core.Path.{_≡_};
 ghost use mathlib.Core.Bool.{true};
-ghost use Prim.Native.Nat.{_+_, _≤_, _<_};
+ghost use Prim.Native.Nat.{_*_, _≤_, _<_};
 ghost use lib.ListN.{length, drop, replicate};
-ghost use Rattle.objects.specs.Bounds.{markWords, maxPlaces, searchWords};
+ghost use Rattle.objects.specs.Bounds.{markWords, maxPlaces};
 ghost use Rattle.objects.specs.Table.{hasPackage};
-ghost use Rattle.objects.specs.Rows.{typeCount, packageMeant, bytesAt, tableOf};
+ghost use Rattle.objects.specs.Rows.{Words, typeCount, packageMeant, bytesAt, tableOf};
 ghost use Rattle.rules.specs.Library.{Library};
 ghost use Rattle.rules.specs.Question.{askS, askM, askN, askI, askC, askV};
 ghost use Rattle.rules.specs.Ways.{select};
 ghost use Rattle.selection.specs.Results.{Selects, nameMeant};
+ghost use Rattle.levels.specs.Hits.{Scratch};
 ghost use Rattle.reply.specs.Done.{Does, due};
 use lookup::lookup_field_or_method;
 use lookup::missing::missing_method;
+use multiples::EmbeddedType;
 use objects::TypeKey;
+use objects::rows::type_count;
 use reply::Done;
 use reply::one_line::say_counts;
 use reply::one_line::say_missing;
-use reply::one_line::say_selected;
 use reply::one_line::say_truth;
+use reply::selected::say_selected;
 use reply::set_lines::say_set;
 use selection::Name;
 use selection::Selection;
 use typ::comparable::comparable;
 use typ::identical::identical;
 
+// A search is lent two records for each type, of an array that is the shorter the fewer types there are: clearing it is much of the time of a question on a
+// small table.
+const RECORDS: usize = 512;
+
+const SOME_RECORDS: usize = 256;
+
+const FEW_RECORDS: usize = 64;
+
 // S, with the places behind two words that are left free.
 fn select_behind(
     text: &[u8],
     rows: &[u32],
-    marks: &mut [u32],
-    search: &mut [u32],
+    walk: &mut [EmbeddedType],
     numbers: &mut [u32],
     names: &[u8],
     q: Name,
@@ -38,18 +48,17 @@ fn select_behind(
     a: bool,
 ) -> Selection
     requires { ⌜ Library (now text) (now rows) ⌝ }
-    requires { ⌜ (t .0 < typeCount (now rows)) × (hasPackage (tableOf (now text) (now rows)) (packageMeant (q .pkg)) ≡ true) × (markWords ≤ length (now marks)) × (searchWords ≤ length (now search)) × (maxPlaces + 2 ≤ length (now numbers)) ⌝ }
-    requires { ⌜ now marks ≡ replicate (length (now marks)) 0 ⌝ }
+    requires { ⌜ (t .0 < typeCount (now rows)) × (hasPackage (tableOf (now text) (now rows)) (packageMeant (q .pkg)) ≡ true) × Scratch (now rows) (now walk) (drop 2 (now numbers)) ⌝ }
     ensures { λ r. ⌜ Selects (now (text .entry)) (now (rows .entry)) r (drop 2 (now (numbers .exit))) (select (tableOf (now (text .entry)) (now (rows .entry))) (nameMeant (now (text .entry)) (now (rows .entry)) (now (names .entry)) q) t a) ⌝ }
-    ensures { λ _. ⌜ now (marks .exit) ≡ now (marks .entry) ⌝ }
 {
-    lookup_field_or_method(text, rows, marks, search, &mut numbers[2..], names, q, t, a)
+    lookup_field_or_method(text, rows, walk, &mut numbers[2..], names, q, t, a)
 }
 
-pub fn ask_s(
+// S on lent records.
+fn ask_s_on(
     text: &[u8],
     rows: &[u32],
-    marks: &mut [u32],
+    walk: &mut [EmbeddedType],
     line: &[u8],
     answer: &mut [u8],
     q: Name,
@@ -57,15 +66,38 @@ pub fn ask_s(
     a: bool,
 ) -> Done
     requires { ⌜ Library (now text) (now rows) ⌝ }
-    requires { ⌜ (t .0 < typeCount (now rows)) × (hasPackage (tableOf (now text) (now rows)) (packageMeant (q .pkg)) ≡ true) × (markWords ≤ length (now marks)) ⌝ }
-    requires { ⌜ now marks ≡ replicate (length (now marks)) 0 ⌝ }
+    requires { ⌜ (t .0 < typeCount (now rows)) × (hasPackage (tableOf (now text) (now rows)) (packageMeant (q .pkg)) ≡ true) × ((places : Words) → 2 * maxPlaces ≤ length places → Scratch (now rows) (now walk) places) ⌝ }
     ensures { λ r. ⌜ Does (due (tableOf (now (text .entry)) (now (rows .entry))) (length (now (answer .entry))) (askS t a (packageMeant (q .pkg)) (bytesAt (now (line .entry)) (q .at) (q .len)))) r (now (answer .entry)) (now (answer .exit)) ⌝ }
-    ensures { λ _. ⌜ now (marks .exit) ≡ now (marks .entry) ⌝ }
 {
-    let mut search = [0u32; 1_792];
-    let mut numbers = [0u32; 258];
-    let s = select_behind(text, rows, marks, &mut search, &mut numbers, line, q, t, a);
+    let mut numbers = [0u32; 514];
+    let s = select_behind(text, rows, walk, &mut numbers, line, q, t, a);
     say_selected(answer, s, &mut numbers)
+}
+
+pub fn ask_s(
+    text: &[u8],
+    rows: &[u32],
+    line: &[u8],
+    answer: &mut [u8],
+    q: Name,
+    t: TypeKey,
+    a: bool,
+) -> Done
+    requires { ⌜ Library (now text) (now rows) ⌝ }
+    requires { ⌜ (t .0 < typeCount (now rows)) × (hasPackage (tableOf (now text) (now rows)) (packageMeant (q .pkg)) ≡ true) ⌝ }
+    ensures { λ r. ⌜ Does (due (tableOf (now (text .entry)) (now (rows .entry))) (length (now (answer .entry))) (askS t a (packageMeant (q .pkg)) (bytesAt (now (line .entry)) (q .at) (q .len)))) r (now (answer .entry)) (now (answer .exit)) ⌝ }
+{
+    let n = 2 * type_count(rows) as usize;
+    if n <= FEW_RECORDS {
+        let mut walk = [[0u32; 8]; FEW_RECORDS];
+        return ask_s_on(text, rows, &mut walk[..n], line, answer, q, t, a);
+    }
+    if n <= SOME_RECORDS {
+        let mut walk = [[0u32; 8]; SOME_RECORDS];
+        return ask_s_on(text, rows, &mut walk[..n], line, answer, q, t, a);
+    }
+    let mut walk = [[0u32; 8]; RECORDS];
+    ask_s_on(text, rows, &mut walk[..n], line, answer, q, t, a)
 }
 
 pub fn ask_m(text: &[u8], rows: &[u32], answer: &mut [u8], t: TypeKey) -> Done
@@ -78,6 +110,28 @@ pub fn ask_m(text: &[u8], rows: &[u32], answer: &mut [u8], t: TypeKey) -> Done
     let mut first = [0u32; 1_024];
     let n = method_set::new(text, rows, t, &mut given, &mut sels, &mut first);
     say_set(answer, &given, n, &sels, &first)
+}
+
+// N on lent records.
+fn ask_n_on(
+    text: &[u8],
+    rows: &[u32],
+    marks: &mut [u32],
+    walk: &mut [EmbeddedType],
+    answer: &mut [u8],
+    t: TypeKey,
+    i: TypeKey,
+    s: bool,
+) -> Done
+    requires { ⌜ Library (now text) (now rows) ⌝ }
+    requires { ⌜ (t .0 < typeCount (now rows)) × (i .0 < typeCount (now rows)) × (markWords ≤ length (now marks)) × ((places : Words) → 2 * maxPlaces ≤ length places → Scratch (now rows) (now walk) places) ⌝ }
+    requires { ⌜ now marks ≡ replicate (length (now marks)) 0 ⌝ }
+    ensures { λ r. ⌜ Does (due (tableOf (now (text .entry)) (now (rows .entry))) (length (now (answer .entry))) (askN t i s)) r (now (answer .entry)) (now (answer .exit)) ⌝ }
+    ensures { λ _. ⌜ now (marks .exit) ≡ now (marks .entry) ⌝ }
+{
+    let mut places = [0u32; 512];
+    let m = missing_method(text, rows, marks, walk, &mut places, t, i, s);
+    say_missing(answer, m)
 }
 
 pub fn ask_n(
@@ -95,10 +149,17 @@ pub fn ask_n(
     ensures { λ r. ⌜ Does (due (tableOf (now (text .entry)) (now (rows .entry))) (length (now (answer .entry))) (askN t i s)) r (now (answer .entry)) (now (answer .exit)) ⌝ }
     ensures { λ _. ⌜ now (marks .exit) ≡ now (marks .entry) ⌝ }
 {
-    let mut search = [0u32; 1_792];
-    let mut places = [0u32; 256];
-    let m = missing_method(text, rows, marks, &mut search, &mut places, t, i, s);
-    say_missing(answer, m)
+    let n = 2 * type_count(rows) as usize;
+    if n <= FEW_RECORDS {
+        let mut walk = [[0u32; 8]; FEW_RECORDS];
+        return ask_n_on(text, rows, marks, &mut walk[..n], answer, t, i, s);
+    }
+    if n <= SOME_RECORDS {
+        let mut walk = [[0u32; 8]; SOME_RECORDS];
+        return ask_n_on(text, rows, marks, &mut walk[..n], answer, t, i, s);
+    }
+    let mut walk = [[0u32; 8]; RECORDS];
+    ask_n_on(text, rows, marks, &mut walk[..n], answer, t, i, s)
 }
 
 pub fn ask_i(

@@ -41,7 +41,6 @@ pub fn answered(
         Ask::S(t, addressable, pkg, at, len) => ask_s(
             text,
             rows,
-            marks,
             line,
             answer,
             Name {

@@ -1,4 +1,4 @@
--- The turns of the lookup's while agree with the search level by level (`search-levels`), however many they are.
+-- The turns of the lookup's while give what the search level by level tells (`search-levels`), however many they are.
 use mathlib.Core.Path.{_≡_, refl, sym, ap, ap₂, _∙_}
 use mathlib.Core.Bool.{Bool, true, false, not, _||_}
 use mathlib.Core.List.{List, [], _∷_, _++_, map}
@@ -14,7 +14,6 @@ use Rattle.rules.specs.Members.{Identity}
 use Rattle.rules.specs.Sound.{Sound}
 use Rattle.rules.proofs.IdentityLaws.{identical-parts}
 use Rattle.rules.specs.Ways.{owned}
-use Rattle.ways.specs.Graph as over
 use Rattle.ways.specs.Levels.{EmbeddedType, at, merge, next, hit, unseen, search-levels}
 use Rattle.ways.specs.OfTable.{graph}
 use Rattle.ways.proofs.Merge.{Class, merge-keep}
@@ -22,10 +21,10 @@ use Rattle.ways.proofs.TableLaws.{lawful, keyed}
 use Rattle.ways.proofs.Extra.{Apart, merge-apart}
 use Rattle.goscript.specs.Consolidate.{consolidateMultiples}
 use Rattle.goscript.specs.Lookup.{LookupResult, NotFound, searchable, scanned, ended, turns}
-use Rattle.goscript.specs.Agrees.{Agrees, not-founds}
+use Rattle.goscript.specs.Agrees.{told}
 use Rattle.goscript.proofs.Consolidating.{consolidate-is}
 use Rattle.goscript.proofs.Scans.{skipped, sawNamed}
-use Rattle.goscript.proofs.ScanLevels.{live, kept, sawAll, liveNext, firstly, told-agrees, scan-none}
+use Rattle.goscript.proofs.ScanLevels.{live, kept, sawAll, liveNext, firstly, scan-none}
 
 -- ---- lists
 
@@ -167,17 +166,18 @@ module _ (T : Table) (sound : Sound T) where
       turns-step k seen L apart =
           turns-on k seen L ∙ scan-none T (lawful T sound) q real (keyed T sound q real) a (λ st. turns T q out a k (st .seen) (consolidateMultiples T (st .next))) L seen [] apart
 
-    -- THE TURNS AGREE WITH THE SEARCH BY WALKS
-    pub turns-agree : (k : ℕ) (seen : List TypeKey) (L : List EmbeddedType) (seen′ : List TypeKey) (M : List EmbeddedType) → Tied seen L seen′ M
-        → Agrees (turns T q NotFound a k seen L) (search-levels (graph T) (skipped T) q a k seen′ M)
-    turns-agree zero seen [] seen′ M tied = not-founds
-    turns-agree zero seen (r ∷ L) seen′ M tied = not-founds
-    turns-agree (suc k) seen L seen′ M tied =
-        rw (turns-step NotFound k seen L (tied .apart), same-hits seen L seen′ M tied q)
-        (go (keep (hit (graph T) q) (kept T seen′ M)) refl _ (turns-agree k _ _ _ _ (tied-on seen L seen′ M tied)))
+    -- THE TURNS GIVE WHAT THE SEARCH BY WALKS TELLS
+    pub turns-tell : (k : ℕ) (seen : List TypeKey) (L : List EmbeddedType) (seen′ : List TypeKey) (M : List EmbeddedType) → Tied seen L seen′ M
+        → turns T q NotFound a k seen L ≡ told a (search-levels (graph T) (skipped T) q k seen′ M)
+    turns-tell zero seen [] seen′ M tied = refl
+    turns-tell zero seen (r ∷ L) seen′ M tied = refl
+    turns-tell (suc k) seen L seen′ M tied =
+        turns-step NotFound k seen L (tied .apart)
+        ∙ ap₂ (firstly T q a) (same-hits seen L seen′ M tied q) (turns-tell k _ _ _ _ (tied-on seen L seen′ M tied))
+        ∙ go (keep (hit (graph T) q) (kept T seen′ M)) refl
       where
         go : (hs : List EmbeddedType) → keep (hit (graph T) q) (kept T seen′ M) ≡ hs
-            → (r : LookupResult) → Agrees r (search-levels (graph T) (skipped T) q a k (map at (kept T seen′ M) ++ seen′) (merge (graph T) (flat (next (graph T)) (kept T seen′ M))))
-            → Agrees (firstly T q a (keep (hit (graph T) q) (kept T seen′ M)) r) (search-levels (graph T) (skipped T) q a (suc k) seen′ M)
-        go [] e r on = rw (e, search-levels) on
-        go (h ∷ hs) e r on = rw (e, search-levels) (told-agrees T q a h hs)
+            → firstly T q a (keep (hit (graph T) q) (kept T seen′ M)) (told a (search-levels (graph T) (skipped T) q k (map at (kept T seen′ M) ++ seen′) (merge (graph T) (flat (next (graph T)) (kept T seen′ M)))))
+            ≡ told a (search-levels (graph T) (skipped T) q (suc k) seen′ M)
+        go [] e = rw (e, search-levels)
+        go (h ∷ hs) e = rw (e, search-levels)

@@ -47,7 +47,7 @@ module _ (T : Table) (sound : Sound T) where
       other notfound e = refl
       other badreceiver e = refl
       other (entry g flag places) e = clash e refl
-      other (ambiguous places) e = refl
+      other (ambiguous first second) e = refl
   result-is m bad-receivers = refl
   result-is m not-founds = refl
 

@@ -1,8 +1,7 @@
 -- One turn of the lookup's while, on a level without two identical types: what it gives is told by the types of the level that have the name.
 use mathlib.Core.Path.{_≡_, refl, sym, ap, _∙_}
-use mathlib.Core.Bool.{Bool, true, false, cond, not, _&&_, and-false}
+use mathlib.Core.Bool.{Bool, true, false, cond}
 use mathlib.Core.List.{List, [], _∷_, _++_, map, append-nil, append-assoc, foldl}
-use mathlib.Core.Logic.{inl}
 use mathlib.Core.Option.{none, some}
 use Prim.Native.Nat.{ℕ}
 use Rattle.objects.specs.Lists.{any, keep, flat}
@@ -10,17 +9,17 @@ use Rattle.objects.proofs.ListLaws.{cases, clash, map-map, none-In, keep-In-ext
 use Rattle.objects.proofs.KeyLaws.{same-key}
 use Rattle.text.specs.Bytes.{isBlank}
 use Rattle.objects.specs.declared.TypeKey.{TypeKey}
-use Rattle.objects.specs.Table.{Table, sameType, Entity, Field, Method, isMethod, isEmbedded, hasPtr, isNamed, kindAt, bare}
+use Rattle.objects.specs.Table.{Table, sameType, isEmbedded, isNamed, kindAt, bare}
 use Rattle.rules.specs.Members.{Identity}
-use Rattle.rules.specs.Ways.{Place, Way, placesOf, memberOf, badreceiver, entry, single, fieldPlaces, embedded}
+use Rattle.rules.specs.Ways.{Place, Way, placesOf, fieldPlaces, embedded}
 use Rattle.ways.specs.Graph as over
 use Rattle.ways.specs.Levels.{EmbeddedType, at, twin, next, hit, found, firstOf, verdict, unseen}
 use Rattle.ways.specs.OfTable.{graph, stepOf}
 use Rattle.ways.proofs.Merge.{Lawful}
 use Rattle.ways.proofs.Same.{Keyed}
 use Rattle.ways.proofs.Extra.{Apart}
-use Rattle.goscript.specs.Lookup.{LookupResult, Entry, Ambiguous, BadMethodReceiver, Scan, returned, going, onFound, searchable, embed, visit, potentialMatch, ended}
-use Rattle.goscript.specs.Agrees.{Agrees, entries, one-shown, bad-receivers}
+use Rattle.goscript.specs.Lookup.{LookupResult, Ambiguous, Scan, returned, going, onFound, searchable, embed, visit, potentialMatch, ended}
+use Rattle.goscript.specs.Agrees.{told}
 use Rattle.goscript.proofs.Scans.{gathers, skipped, sawNamed, visit-known, visit-miss, visit-hit}
 
 module _ (T : Table) where
@@ -61,38 +60,22 @@ module _ (T : Table) (law : Lawful (graph T)) where
   kept-on r seen L h =
       keep-In-ext _ _ L (λ x i. rw (unlike r x (isNamed (kindAt T (at r))) seen (none-In (twin (graph T) r) L x h i)))
 
--- the test of the receiver is the rules'
-match-agrees : (a : Bool) (w : Way) → Agrees (potentialMatch a w) (single a w)
-match-agrees a w = cases (hasPtr (memberOf w .entity)) (λ e. rw (has-method (memberOf w .entity) e, e) (received (w .walk .flag) a)) (λ e. rw (e, and-false) entries)
-  where
-    has-method : (x : Entity) → hasPtr x ≡ true → isMethod x ≡ true
-    has-method (Field emb tag) h = clash h refl
-    has-method (Method ptr) h = refl
-
-    received : (f b : Bool) → Agrees (cond (not f && not b) BadMethodReceiver (Entry (memberOf w) (placesOf w) f)) (cond (not f && not b) badreceiver (entry (memberOf w) f (placesOf w)))
-    received true b = entries
-    received false true = entries
-    received false false = bad-receivers
-
 module _ (T : Table) (q : Identity) (a : Bool) where
   -- what is given once w has been found, by the other types of the level that have the name
   abbrev afterOne : Way → List EmbeddedType → LookupResult
   afterOne w [] = potentialMatch a w
   afterOne w (s ∷ rest) = Ambiguous (placesOf (found (graph T) q s))
 
-  -- what is given by the types of the level that have the name, r the first of them
-  abbrev told : EmbeddedType → List EmbeddedType → LookupResult
-  told r rs = cond (r .multiples) (Ambiguous (placesOf (found (graph T) q r))) (afterOne (found (graph T) q r) rs)
+  -- what is told of a level by its types that have the name, r the first of them
+  told-first : (r : EmbeddedType) (rs : List EmbeddedType)
+      → told a (verdict (graph T) q (r ∷ rs)) ≡ cond (r .multiples) (Ambiguous (placesOf (found (graph T) q r))) (afterOne (found (graph T) q r) rs)
+  told-first r [] = cases (r .multiples) (λ e. rw e) (λ e. rw e)
+  told-first r (s ∷ rs) = cases (r .multiples) (λ e. rw e) (λ e. rw e)
 
-  -- or another, if none of its types has the name
+  -- what is told of a level, or another result if none of its types has the name
   abbrev pub firstly : List EmbeddedType → LookupResult → LookupResult
   firstly [] other = other
-  firstly (r ∷ rs) other = told r rs
-
-  -- IT AGREES WITH THE VERDICT ON THE LEVEL
-  pub told-agrees : (r : EmbeddedType) (rs : List EmbeddedType) → Agrees (told r rs) (verdict (graph T) q a (r ∷ rs))
-  told-agrees r [] = cases (r .multiples) (λ e. rw e (one-shown refl (inl refl))) (λ e. rw e (match-agrees a (found (graph T) q r)))
-  told-agrees r (s ∷ rs) = cases (r .multiples) (λ e. rw e (one-shown refl (inl refl))) (λ e. rw e (one-shown refl (inl refl)))
+  firstly (r ∷ rs) other = told a (verdict (graph T) q (r ∷ rs))
 
 module _ (T : Table) (law : Lawful (graph T)) (q : Identity) (real : isBlank (q .name) ≡ false) (kd : Keyed (graph T) q) (a : Bool) (on : Scan → LookupResult) where
   stays : (indices : List ℕ) (L : List EmbeddedType) → foldl (visit T q) (returned indices) L ≡ returned indices
@@ -114,11 +97,12 @@ module _ (T : Table) (law : Lawful (graph T)) (q : Identity) (real : isBlank (q 
 
   scan-found : (r : EmbeddedType) (L : List EmbeddedType) (s : List TypeKey) (n : List EmbeddedType) → Apart (graph T) (r ∷ L)
       → ended a on (foldl (visit T q) (onFound r (firstOf (over.matching (graph T) q (at r))) (record { seen = sawNamed T r s; target = none; next = n })) L)
-      ≡ told T q a r (keep (hit (graph T) q) (kept T s L))
+      ≡ told a (verdict (graph T) q (r ∷ keep (hit (graph T) q) (kept T s L)))
   scan-found r L s n apart =
-      cases (r .multiples)
+      rw (told-first T q a r (keep (hit (graph T) q) (kept T s L)))
+      (cases (r .multiples)
       (λ e. rw e (ap (ended a on) (stays (placesOf (found (graph T) q r)) L)))
-      (λ e. rw e (scan-some L (sawNamed T r s) (found (graph T) q r) n (apart .1) ∙ ap (λ K. afterOne T q a (found (graph T) q r) (keep (hit (graph T) q) K)) (kept-on T law r s L (apart .0))))
+      (λ e. rw e (scan-some L (sawNamed T r s) (found (graph T) q r) n (apart .1) ∙ ap (λ K. afterOne T q a (found (graph T) q r) (keep (hit (graph T) q) K)) (kept-on T law r s L (apart .0)))))
 
   -- A TURN GIVES what the types that have the name say, or gathers what the others embed.
   pub scan-none : (L : List EmbeddedType) (s : List TypeKey) (n : List EmbeddedType) → Apart (graph T) L

@@ -15,8 +15,8 @@ use Rattle.objects.proofs.KindLaws.{pointer-is, struct-is, iface-is, named-is, 
 use Rattle.text.specs.Bytes.{isBlank}
 use Rattle.rules.specs.Members.{Identity, identityFrom, identityOf, sameId}
 use Rattle.rules.specs.Sound.{Sound}
-use Rattle.rules.specs.Ways.{Place, placesFrom, Walk, Way, placesOf, Selected, notfound, isAmbiguous, received, single, owned, fieldPlaces}
-use Rattle.ways.specs.Graph.{Step, along, onward, walks, matching, ends, ways, judge, start, select}
+use Rattle.rules.specs.Ways.{Place, placesFrom, Walk, Way, placesOf, Selected, notfound, isAmbiguous, received, single, judged, owned, fieldPlaces}
+use Rattle.ways.specs.Graph.{Step, along, onward, walks, matching, ends, ways, start, select}
 use Rattle.ways.specs.OfTable.{graph, stepOf}
 use Rattle.ways.proofs.Order.{before-irrefl}
 use Rattle.ways.proofs.Least.{Least, least-or-none, select-least, select-none}
@@ -231,7 +231,7 @@ module _ (T : Table) (sound : Sound T) (name : Bytes) (pkg : Option PackageKey) 
       let s : Sorted Earlier (w ∷ v ∷ rest) = subst (Sorted Earlier) e (ways-ascend T sound (asked T name pkg) nb (start t o) d) in
       before-irrefl (placesOf v) (subst (λ (z : List ℕ). Rattle.ways.proofs.Order.Before z (placesOf v)) p (s .0 v (inl refl)))
 
-  least-is : (a : Bool) (d : ℕ) → Least (graph T) (asked T name pkg) (start t o) d → Sel a ≡ judge (graph T) a (here d)
+  least-is : (a : Bool) (d : ℕ) → Least (graph T) (asked T name pkg) (start t o) d → Sel a ≡ judged a (here d)
   least-is a d l = select-least (graph T) (lawful T sound) (closed T sound) t in0 o a (asked T name pkg) (keyed T sound (asked T name pkg) nb) d l
 
   pub finds : Found
@@ -246,14 +246,14 @@ module _ (T : Table) (sound : Sound T) (name : Bytes) (pkg : Option PackageKey) 
           let k = occurs-in d qs n c x in
           let z : k .0 ≡ w = either (subst (In (k .0)) e (k .1)) (λ y. y) (λ y. absurd y) in (
             sym (k .2 .places) ∙ ap placesOf z ∙ r .4 .places,
-            λ a. least-is a d l ∙ ap (judge (graph T) a) e ∙ ap (single a) (sym z) ∙ single-is a (k .0) qs n c (k .2),
+            λ a. least-is a d l ∙ ap (judged a) e ∙ ap (single a) (sym z) ∙ single-is a (k .0) qs n c (k .2),
           ))
       at d l (w ∷ v ∷ rest) e =
           let r = way-occurs T name pkg d (start t o) w (rw e (inl refl)) in
           let k = way-occurs T name pkg d (start t o) v (rw e (inr (inl refl))) in
           crowd d (r .0) (r .1) (r .2) (k .0) (k .1) (k .2) (r .3) (k .3) (λ z. apart d w v rest e (r .4 .places ∙ z ∙ sym (k .4 .places)))
           (λ j qs n c h. none-there j (l .none j h) qs n c)
-          (λ a. ap isAmbiguous (least-is a d l ∙ ap (judge (graph T) a) e))
+          (λ a. ap isAmbiguous (least-is a d l ∙ ap (judged a) e))
 
       go : ((d : ℕ) × Least (graph T) (asked T name pkg) (start t o) d) ⊎ ((j : ℕ) → here j ≡ []) → Found
       go (inl l) = at (l .0) (l .1) (here (l .0)) refl

@@ -54,7 +54,7 @@ module _ (T : Table) where
       cases (isMethod (found .entity))
       (λ h. record { found = found; flag = flag; places = places; is = refl; method = h; same-type = compared-none m found (rw h at e) })
       (λ h. clash refl (ap isNone (sym (rw h at e))))
-  by-none m (ambiguous places) e = clash refl (ap isNone (sym e))
+  by-none m (ambiguous first second) e = clash refl (ap isNone (sym e))
 
   none-by : (m : Member) (r : Selected) → Meets m r → unmetBy T m r ≡ none
   none-by m r h = rw (h .is, h .method) (none-compared m (h .found) (h .same-type))

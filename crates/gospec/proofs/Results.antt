@@ -84,7 +84,7 @@ abbrev methodIn : Selected → Bool
 methodIn notfound = false
 methodIn badreceiver = false
 methodIn (entry m flag places) = isMethod (m .entity)
-methodIn (ambiguous places) = false
+methodIn (ambiguous first second) = false
 
 module _ (T : Table) (sound : Sound T) (R : TypeKey → Type 0) (name : Bytes) (pkg : Option PackageKey) (nb : isBlank (asked T name pkg .name) ≡ false) where
   abbrev pub sel : TypeKey → Bool → Bool → Selected

@@ -1,11 +1,11 @@
 -- The graph of a library that grew has what the old one's had (`Grows` of proofs/GrowWays.antt), for every name.
-use mathlib.Core.Path.{_≡_, refl, sym, ap, ap₂, _∙_, subst}
+use mathlib.Core.Path.{_≡_, refl, sym, ap, ap₂, _∙_}
 use mathlib.Core.Bool.{Bool, false, not}
 use mathlib.Core.List.{List, [], _∷_, _++_, map, append-nil}
 use mathlib.Core.Logic.{inl, inr}
 use Prim.Native.Nat.{ℕ, suc, _<_}
 use Rattle.objects.specs.Lists.{any, keep, In}
-use Rattle.objects.proofs.ListLaws.{cases, keep-append, keep-map, map-append, map-map, map-In, In-keep, In-map, or-l, or-r}
+use Rattle.objects.proofs.ListLaws.{cases, keep-append, keep-map, map-append, map-map, map-In, In-keep, or-l, or-r}
 use Rattle.objects.specs.declared.TypeKey.{TypeKey}
 use Rattle.objects.specs.Table.{Table, size, Member, isEmbedded, fieldsOf, declaredOf, kindAt, under, allMethods}
 use Rattle.rules.specs.Members.{Identity, identityOf, sameId}
@@ -18,13 +18,12 @@ use Rattle.ways.proofs.TableLaws.{places-from}
 use Rattle.growth.specs.Grown.{Numbers, carryMember, isAdded, Added, Grown}
 use Rattle.growth.proofs.GrowWays.{carryStep, carryPlace, Grows}
 use Rattle.growth.proofs.GrowKinds.{fields-members, declared-members, methods-members, fields-grew, declared-grew, carried-old, under-kept, bare-kept, pointer-kept, methods-kept, identity-kept}
-use Rattle.growth.proofs.GrowIdentity.{Whole, type-whole, bare-whole, identity-stays}
 
 -- the members of a list that pass a test, at their places
 abbrev tested : (Member → Bool) → ℕ → List Member → List Place
 tested p i ms = keep (λ (x : Place). p (x .member)) (placesFrom i ms)
 
-module _ (n : Numbers) (A B : Table) (soundA : Sound A) (soundB : Sound B) (g : Grown n A B) where
+module _ (n : Numbers) (A B : Table) (soundA : Sound A) (g : Grown n A B) where
   abbrev isOld : Place → Bool
   isOld p = not (isAdded n A (p .member .key))
 
@@ -118,18 +117,6 @@ module _ (n : Numbers) (A B : Table) (soundA : Sound A) (soundB : Sound B) (g : 
         (ap (λ z. keep isOld (tested inB 0 z)) (methods-kept n A B soundA g t h ∙ sym (append-nil (map (carryMember n) (allMethods A t))))
         ∙ grown-places inA inB 0 (allMethods A t) [] (λ m i. hit-kept (under A t) m (method-in t m i)) refl)
 
-  -- ---- the types that fields embed
-
-  target-whole : (t : TypeKey) (s : Step) → In s (graph A .steps t) → Whole n A B soundA soundB g (s .target)
-  target-whole t s i =
-      let r = In-map (stepOf A) (embedded A t) s i in
-      subst (λ (z : Step). Whole n A B soundA soundB g (z .target)) (sym (r .2))
-      (bare-whole n A B soundA soundB g (r .0 .member .type) (type-whole n A B soundA soundB g (under A t) (r .0 .member) (field-in t (r .0) (r .1))))
-
   -- THE GRAPH GROWS WITH THE LIBRARY
   pub grows : (q : Identity) → Grows n (isAdded n A) (graph A) (graph B) q
-  grows q = record {
-    steps = steps-kept;
-    members = members-kept q;
-    same = λ t u r s ht hu i j. identity-stays n A B soundA soundB g (r .target) (s .target) (target-whole t r i) (target-whole u s j);
-  }
+  grows q = record { steps = steps-kept; members = members-kept q }

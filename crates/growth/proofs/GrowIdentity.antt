@@ -10,10 +10,10 @@ use borrow.Author.Tests.{eqb-true, eq-eqb}
 use Rattle.objects.specs.Lists.{In}
 use Rattle.objects.proofs.ListLaws.{cases, clash, either, In-append, In-map, map-In-to, map-append, map-map}
 use Rattle.objects.proofs.KeyLaws.{key-eq}
-use Rattle.objects.proofs.KindLaws.{named-is, pointer-is, bare-plain, bare-pointer}
+use Rattle.objects.proofs.KindLaws.{named-is}
 use Rattle.objects.proofs.PairLaws.{pairs-self}
 use Rattle.objects.specs.declared.TypeKey.{TypeKey}
-use Rattle.objects.specs.Table.{Table, size, Member, isEmbedded, tagOf, Kind, kindNumber, isNamed, isPointer, refs, membersOf, kindAt, bare}
+use Rattle.objects.specs.Table.{Table, size, Member, isEmbedded, tagOf, Kind, kindNumber, isNamed, refs, membersOf, kindAt}
 use Rattle.text.specs.Bytes.{sameBytes}
 use Rattle.rules.specs.Members.{Identity, sameId}
 use Rattle.rules.specs.Chains.{Chain, here, there}
@@ -88,7 +88,7 @@ module _ (n : Numbers) (A B : Table) (soundA : Sound A) (soundB : Sound B) (g : 
 
   -- ---- what old lines refer to
 
-  pub ref-whole : (x t : TypeKey) → isNamed (kindAt A x) ≡ false → In t (refs (kindAt A x)) → Whole t
+  ref-whole : (x t : TypeKey) → isNamed (kindAt A x) ≡ false → In t (refs (kindAt A x)) → Whole t
   ref-whole x t e i = record { known = soundA .refers x t i; closed = λ f. clash (f .unreferred x i) e }
 
   pub type-whole : (x : TypeKey) (m : Member) → MemberOf A x m → Whole (m .type)
@@ -102,14 +102,6 @@ module _ (n : Numbers) (A B : Table) (soundA : Sound A) (soundB : Sound B) (g : 
       (λ e. either (In-append (refs (kindAt A x)) (map (λ (m : Member). m .type) (membersOf (kindAt A x))) t (rw e at i))
       (λ j. ref-whole x t e j)
       (λ j. let r = In-map (λ (m : Member). m .type) (membersOf (kindAt A x)) t j in subst Whole (sym (r .2)) (type-whole x (r .0) (r .1))))
-
-  -- with one pointer removed
-  pub bare-whole : (t : TypeKey) → Whole t → Whole (bare A t)
-  bare-whole t w =
-      cases (isPointer (kindAt A t))
-      (λ e. let p = pointer-is (kindAt A t) e in
-      rw (bare-pointer A t (p .0) (p .1)) (ref-whole t (p .0) (ap isNamed (p .1)) (subst (λ k. In (p .0) (refs k)) (sym (p .1)) (inl refl))))
-      (λ e. rw (bare-plain A t e) w)
 
   -- ---- a mismatch
 

@@ -14,10 +14,10 @@ use Rattle.objects.specs.declared.TypeKey.{TypeKey}
 use Rattle.objects.specs.Table.{Table, size, isMethod, hasPtr, Member, fieldsOf, declaredOf, kindAt, under, ifaceUnder, namedPointer, allMethods}
 use Rattle.rules.specs.Members.{Identity, identityOf, sameId, sameMember}
 use Rattle.rules.specs.Ways as rules
-use Rattle.rules.specs.Ways.{Place, Walk, Way, memberOf, placesOf, placesFrom, fieldPlaces, Selected, notfound, badreceiver, entry, ambiguous, single, owned}
+use Rattle.rules.specs.Ways.{Place, Walk, Way, memberOf, placesOf, placesFrom, fieldPlaces, Selected, notfound, badreceiver, entry, ambiguous, single, judged, owned}
 use Rattle.rules.specs.Missing.{Lack, compared, unmetThere, unmetBy, unmet, firstUnmet, missing}
 use Rattle.rules.specs.Sound.{Sound, MemberOf}
-use Rattle.ways.specs.Graph.{Graph, walks, matching, ends, ways, judge, start, select}
+use Rattle.ways.specs.Graph.{walks, matching, ends, ways, start, select}
 use Rattle.ways.specs.OfTable.{graph}
 use Rattle.ways.proofs.TableLaws.{lawful, keyed, closed, places-from}
 use Rattle.ways.proofs.Least.{select-least, select-none, least-or-none}
@@ -34,7 +34,7 @@ abbrev isEntry : Selected → Bool
 isEntry notfound = false
 isEntry badreceiver = false
 isEntry (entry m f p) = true
-isEntry (ambiguous p) = false
+isEntry (ambiguous first second) = false
 
 no-entry : {C : Type 0} (r : Selected) (m : Member) (f : Bool) (p : List ℕ) → r ≡ entry m f p → r ≡ notfound → C
 no-entry r m f p e z = clash (ap isEntry e) (ap isEntry z)
@@ -43,7 +43,7 @@ abbrev entryOr : Member → Selected → Member
 entryOr d notfound = d
 entryOr d badreceiver = d
 entryOr d (entry m f p) = m
-entryOr d (ambiguous p) = d
+entryOr d (ambiguous first second) = d
 
 single-member : (a : Bool) (w : Way) (m : Member) (f : Bool) (p : List ℕ) → single a w ≡ entry m f p → memberOf w ≡ m
 single-member a w m f p = go (hasPtr (memberOf w .entity) && not (w .walk .flag) && not a)
@@ -52,16 +52,16 @@ single-member a w m f p = go (hasPtr (memberOf w .entity) && not (w .walk .flag)
     go true e = clash refl (ap isEntry (sym e))
     go false e = ap (entryOr m) e
 
-judge-member : (G : Graph) (a : Bool) (ws : List Way) (m : Member) (f : Bool) (p : List ℕ) → judge G a ws ≡ entry m f p → (w : Way) × In w ws × (memberOf w ≡ m)
-judge-member G a [] m f p e = clash refl (ap isEntry (sym e))
-judge-member G a (w ∷ []) m f p e = (w, inl refl, single-member a w m f p e)
-judge-member G a (w ∷ v ∷ rest) m f p e = clash refl (ap isEntry (sym e))
+judged-member : (a : Bool) (ws : List Way) (m : Member) (f : Bool) (p : List ℕ) → judged a ws ≡ entry m f p → (w : Way) × In w ws × (memberOf w ≡ m)
+judged-member a [] m f p e = clash refl (ap isEntry (sym e))
+judged-member a (w ∷ []) m f p e = (w, inl refl, single-member a w m f p e)
+judged-member a (w ∷ v ∷ rest) m f p e = clash refl (ap isEntry (sym e))
 
 post-entry : (b : Bool) (r : Selected) (m : Member) (f : Bool) (p : List ℕ) → post b r ≡ entry m f p → r ≡ entry m f p
 post-entry true notfound m f p e = e
 post-entry true badreceiver m f p e = e
 post-entry true (entry o g l) m f p e = cases (isMethod (o .entity)) (λ z. clash refl (ap isEntry (sym (rw z at e)))) (λ z. rw z at e)
-post-entry true (ambiguous l) m f p e = e
+post-entry true (ambiguous first second) m f p e = e
 post-entry false r m f p e = e
 
 module _ (T : Table) (sound : Sound T) where
@@ -94,7 +94,7 @@ module _ (T : Table) (sound : Sound T) where
       let e′ = post-entry (namedPointer T t) (select G q s g a) m f p (sym (select-open T q t a z) ∙ e) in
       either (least-or-none G (lawful T sound) (closed T sound) (start s g) inG q kd)
       (λ l.
-      let w = judge-member G a (ways G q (start s g) (l .0)) m f p (sym (select-least G (lawful T sound) (closed T sound) s inG g a q kd (l .0) (l .1)) ∙ e′) in
+      let w = judged-member a (ways G q (start s g) (l .0)) m f p (sym (select-least G (lawful T sound) (closed T sound) s inG g a q kd (l .0) (l .1)) ∙ e′) in
       let o = way-member q (start s g) (l .0) (w .0) (w .1) in
       (o .0, subst (MemberOf T (o .0)) (w .2) (o .1)))
       (λ none-there. no-entry (select G q s g a) m f p e′ (select-none G (lawful T sound) (closed T sound) s inG g a q kd none-there)))
@@ -114,7 +114,7 @@ met-entry : (T : Table) (m : Member) (r : Selected) → unmetBy T m r ≡ none �
 met-entry T m notfound e = some-not false e
 met-entry T m badreceiver e = some-not false e
 met-entry T m (entry found f p) e = refl
-met-entry T m (ambiguous p) e = some-not false e
+met-entry T m (ambiguous first second) e = some-not false e
 
 module _ (n : Numbers) (A B : Table) (soundA : Sound A) (soundB : Sound B) (g : Grown n A B) where
   abbrev Kept : Member → Type 0
@@ -127,7 +127,7 @@ module _ (n : Numbers) (A B : Table) (soundA : Sound A) (soundB : Sound B) (g : 
   by-kept m wm notfound h = refl
   by-kept m wm badreceiver h = refl
   by-kept m wm (entry o f p) h = ap (λ z. cond (isMethod (o .entity)) z (some false)) (compared-kept m o wm (h o f p refl))
-  by-kept m wm (ambiguous p) h = refl
+  by-kept m wm (ambiguous first second) h = refl
 
   there-kept : (s : Bool) (m : Member) → Kept m → (os : List Member) → ((o : Member) → In o os → Kept o) → unmetThere B s (carryMember n m) (map (carryMember n) os) ≡ unmetThere A s m os
   there-kept s m wm [] h = refl
@@ -140,7 +140,7 @@ module _ (n : Numbers) (A B : Table) (soundA : Sound A) (soundB : Sound B) (g : 
         ap (keep (sameMember B (carryMember n m))) (methods-kept n A B soundA g t ht)
         ∙ keep-map (sameMember B (carryMember n m)) (carryMember n) (allMethods A t)
         ∙ ap (map (carryMember n)) (keep-In-ext (λ o. sameMember B (carryMember n m) (carryMember n o)) (sameMember A m) (allMethods A t)
-        (λ o j. ap₂ sameId (identity-kept n A B soundA g x m i) (identity-kept n A B soundA g (under A t) o (method-in n A B soundA soundB g t o j))))
+        (λ o j. ap₂ sameId (identity-kept n A B soundA g x m i) (identity-kept n A B soundA g (under A t) o (method-in n A B soundA g t o j))))
 
     -- t with an interface under it: nothing changes
     unmet-face : (x : TypeKey) (m : Member) → MemberOf A x m → ifaceUnder A t ≡ true → unmet B (n .ty t) s (carryMember n m) ≡ unmet A t s m
@@ -149,7 +149,7 @@ module _ (n : Numbers) (A B : Table) (soundA : Sound A) (soundB : Sound B) (g : 
         let f : ifaceUnder B (n .ty t) ≡ true = iface-kept n A B soundA g t ht ∙ e in
         rw (e, f) (ap (unmetThere B s (carryMember n m)) (found-kept x m i)
         ∙ there-kept s m (type-whole n A B soundA soundB g x m i) (keep (sameMember A m) (allMethods A t))
-        (λ o j. type-whole n A B soundA soundB g (under A t) o (method-in n A B soundA soundB g t o (In-keep (sameMember A m) (allMethods A t) o j .0))))
+        (λ o j. type-whole n A B soundA soundB g (under A t) o (method-in n A B soundA g t o (In-keep (sameMember A m) (allMethods A t) o j .0))))
 
     -- any other t: as the answers of S
     unmet-other : (x : TypeKey) (m : Member) → MemberOf A x m → ifaceUnder A t ≡ false
@@ -175,7 +175,7 @@ module _ (n : Numbers) (A B : Table) (soundA : Sound A) (soundB : Sound B) (g : 
       still-met : (m : Member) → In m (allMethods A i) → unmet A t s m ≡ none → (unmet B (n .ty t) s (carryMember n m) ≡ none) ⊎ Disturbed n A B t i
       unfolding unmet identityOf
       still-met m k e =
-          let im = method-in n A B soundA soundB g i m k in
+          let im = method-in n A B soundA g i m k in
           cases (ifaceUnder A t)
           (λ f. inl (unmet-face (under A i) m im f ∙ e))
           (λ f.

@@ -17,7 +17,7 @@ use Rattle.text.specs.Bytes.{isBlank}
 use Rattle.rules.specs.Members.{Identity}
 use Rattle.rules.specs.Sound.{Sound}
 use Rattle.rules.specs.Ways as rules
-use Rattle.rules.specs.Ways.{Way, placesOf, Selected, notfound, badreceiver, entry, ambiguous, isAmbiguous, noMethod}
+use Rattle.rules.specs.Ways.{searchedAs, Way, placesOf, Selected, notfound, badreceiver, entry, ambiguous, isAmbiguous, noMethod}
 use Rattle.rules.proofs.SelectedLaws.{no-method-ambiguous}
 use Rattle.rules.proofs.RangeLaws.{under-in}
 use Rattle.ways.specs.Graph.{Graph, ways, start, select}
@@ -27,8 +27,8 @@ use Rattle.ways.proofs.Selects.{select-says}
 use Rattle.ways.proofs.TableLaws.{lawful, keyed, closed, bare-in}
 use Rattle.ways.proofs.Least.{Least, select-least, select-none, least-or-none}
 use Rattle.growth.specs.Grown.{Numbers, isAdded, Grown}
-use Rattle.growth.specs.Promise.{searchedAs, isShut, waysOf, Shortest, isNew, carrySelected, Gives, newWay, oldName, newName, PromiseS}
-use Rattle.growth.proofs.GrowWays.{carryWay, ways-same, judge-gives, way-long, kept, tied}
+use Rattle.growth.specs.Promise.{isShut, waysOf, Shortest, isNew, carrySelected, Gives, newWay, oldName, newName, PromiseS}
+use Rattle.growth.proofs.GrowWays.{carryWay, ways-same, judged-gives, way-long, kept, tied}
 use Rattle.growth.proofs.GrowKinds.{under-kept, bare-kept, pointer-kept, iface-kept, named-kept, name-kept}
 use Rattle.growth.proofs.GrowGraph.{grows}
 
@@ -42,14 +42,14 @@ post-gives : (b : Bool) (r : Selected) (p : List ℕ) → Gives (post b r) p →
 post-gives true notfound p h = h
 post-gives true badreceiver p h = h
 post-gives true (entry m f l) p h = cases (isMethod (m .entity)) (λ e. absurd (rw e at h)) (λ e. rw e at h)
-post-gives true (ambiguous l) p h = h
+post-gives true (ambiguous first second) p h = h
 post-gives false r p h = h
 
 post-carry : (n : Numbers) (b : Bool) (r : Selected) → post b (carrySelected n r) ≡ carrySelected n (post b r)
 post-carry n true notfound = refl
 post-carry n true badreceiver = refl
 post-carry n true (entry m f l) = cases (isMethod (m .entity)) (λ e. rw e) (λ e. rw e)
-post-carry n true (ambiguous l) = refl
+post-carry n true (ambiguous first second) = refl
 post-carry n false r = refl
 
 post-ambiguous : (b : Bool) (r : Selected) → isAmbiguous (post b r) ≡ isAmbiguous r
@@ -60,7 +60,7 @@ carry-ambiguous : (n : Numbers) (r : Selected) → isAmbiguous (carrySelected n 
 carry-ambiguous n notfound = refl
 carry-ambiguous n badreceiver = refl
 carry-ambiguous n (entry m f l) = refl
-carry-ambiguous n (ambiguous l) = refl
+carry-ambiguous n (ambiguous first second) = refl
 
 post-notfound : (b : Bool) → post b notfound ≡ notfound
 post-notfound true = refl
@@ -187,7 +187,7 @@ module _ (n : Numbers) (A B : Table) (soundA : Sound A) (soundB : Sound B) (g : 
       new-way j b z = sym (ap (any (isNew n A)) (ways-B j)) ∙ z
 
       carried : (j : ℕ) → newWay n A B r t j ≡ false → ways H q (start (n .ty s) f) j ≡ map (carryWay n) (ways G q (start s f) j)
-      carried j z = ways-same n (isAdded n A) G H q (closed A soundA) (grows n A B soundA soundB g q) s f inG j (new-way j false z)
+      carried j z = ways-same n (isAdded n A) G H q (closed A soundA) (grows n A B soundA g q) s f inG j (new-way j false z)
 
       open-found : (rules.select A q t a ≡ notfound → ⊥) → (d : ℕ) × Shortest A q t d
       open-found given =
@@ -197,7 +197,7 @@ module _ (n : Numbers) (A B : Table) (soundA : Sound A) (soundB : Sound B) (g : 
       open-same : (d : ℕ) → Shortest A q t d → ((j : ℕ) → j ≤ d → newWay n A B r t j ≡ false) → rules.select B r (n .ty t) a ≡ carrySelected n (rules.select A q t a)
       open-same d l none-new =
           answer-B
-          ∙ ap (post (namedPointer A t)) (kept n (isAdded n A) G H q (lawful A soundA) (lawful B soundB) (closed A soundA) (closed B soundB) (keyed A soundA q nb) (keyed B soundB q nb) (grows n A B soundA soundB g q) s inG inH f a d (least-A d l) (λ j k. new-way j false (none-new j k)))
+          ∙ ap (post (namedPointer A t)) (kept n (isAdded n A) G H q (lawful A soundA) (lawful B soundB) (closed A soundA) (closed B soundB) (keyed A soundA q nb) (keyed B soundB q nb) (grows n A B soundA g q) s inG inH f a d (least-A d l) (λ j k. new-way j false (none-new j k)))
           ∙ post-carry n (namedPointer A t) (select G q s f a)
           ∙ ap (carrySelected n) (sym answer-A)
 
@@ -207,7 +207,7 @@ module _ (n : Numbers) (A B : Table) (soundA : Sound A) (soundB : Sound B) (g : 
             some = λ z. clash (new-way d true is-new) (ap (any (isNew n A)) z);
             none = λ j k. carried j (none-new j k) ∙ ap (map (carryWay n)) (least-A d l .none j k);
           } in
-          let p = tied n (isAdded n A) G H q (lawful A soundA) (lawful B soundB) (closed A soundA) (closed B soundB) (keyed A soundA q nb) (keyed B soundB q nb) (grows n A B soundA soundB g q) s inG inH f a d (least-A d l) m (new-way d true is-new) in
+          let p = tied n (isAdded n A) G H q (lawful A soundA) (lawful B soundB) (closed A soundA) (closed B soundB) (keyed A soundA q nb) (keyed B soundB q nb) (grows n A B soundA g q) s inG inH f a d (least-A d l) m (new-way d true is-new) in
           ap isAmbiguous answer-B ∙ post-ambiguous (namedPointer A t) (select H q (n .ty s) f a) ∙ p
 
       -- what is given is a shortest way of the new table, so it is shorter than the old way
@@ -217,7 +217,7 @@ module _ (n : Numbers) (A B : Table) (soundA : Sound A) (soundB : Sound B) (g : 
           (λ m.
           let le : m .0 ≤ i = elim (decLt i (m .0)) [ yes c ↦ clash (new-way i true is-new) (ap (any (isNew n A)) (m .1 .none i c)) | no c ↦ omega arith ] in
           let gs = post-gives (namedPointer A t) (select H q (n .ty s) f a) (placesOf w) (subst (λ (y : Selected). Gives y (placesOf w)) answer-B given) in
-          let v = judge-gives H a (ways H q (start (n .ty s) f) (m .0)) (placesOf w) (subst (λ (y : Selected). Gives y (placesOf w)) (select-least H (lawful B soundB) (closed B soundB) (n .ty s) inH f a q (keyed B soundB q nb) (m .0) (m .1)) gs) in
+          let v = judged-gives a (ways H q (start (n .ty s) f) (m .0)) (placesOf w) (subst (λ (y : Selected). Gives y (placesOf w)) (select-least H (lawful B soundB) (closed B soundB) (n .ty s) inH f a q (keyed B soundB q nb) (m .0) (m .1)) gs) in
           let k0 = way-long G q s f d w (subst (In w) (ways-A d) k) in
           let k1 = way-long H q (n .ty s) f (m .0) (v .0) (v .1) in
           let y : length (placesOf w) ≡ length (placesOf (v .0)) = ap length (sym (v .2)) in

@@ -8,14 +8,13 @@ use Prim.Native.Nat.{ℕ, zero, suc, _≤_, _<_}
 use native.Mathlib.Omega.{arith}
 use lib.ListN.{length, length-append}
 use Rattle.objects.specs.Lists.{any, keep, flat, In}
-use Rattle.objects.proofs.ListLaws.{cases, clash, either, or-true, or-false, un-not, any-none, any-map, keep-append, keep-map, keep-ext, keep-flat, map-append, map-map, map-nil, In-map, In-flat, In-keep, map-In-to, remove-none, keep-none, any-In-ext}
+use Rattle.objects.proofs.ListLaws.{cases, clash, or-true, or-false, un-not, any-none, any-map, keep-append, keep-map, keep-ext, keep-flat, map-append, map-map, map-nil, In-map, In-flat, In-keep, map-In-to, remove-none, keep-none}
 use Rattle.objects.specs.declared.TypeKey.{TypeKey}
 use Rattle.objects.specs.declared.ObjKey.{ObjKey}
 use Rattle.objects.specs.Table.{hasPtr}
 use Rattle.rules.specs.Members.{Identity}
-use Rattle.rules.specs.Ways as rules
-use Rattle.rules.specs.Ways.{Place, Walk, Way, badreceiver, entry, isAmbiguous, single, placesOf, memberOf}
-use Rattle.ways.specs.Graph.{Graph, Step, along, onward, walks, matching, ends, ways, judge, start, select}
+use Rattle.rules.specs.Ways.{Place, Walk, Way, badreceiver, entry, isAmbiguous, single, judged, placesOf, memberOf}
+use Rattle.ways.specs.Graph.{Graph, Step, along, onward, walks, matching, ends, ways, start, select}
 use Rattle.ways.proofs.Order.{long}
 use Rattle.ways.proofs.Merge.{Lawful}
 use Rattle.ways.proofs.Same.{Keyed}
@@ -48,11 +47,10 @@ module _ (added : ObjKey → Bool) where
   usesNew w = added (memberOf w .key) || newWalk (w .walk)
 
 -- The new graph H has what the old one G had: of a carried type's embedded fields and of its members with the name, those that are not added are the
--- carried ones, at their old places. Types that a field embeds are identical in H where they were in G.
+-- carried ones, at their old places.
 pub record Grows (n : Numbers) (added : ObjKey → Bool) (G H : Graph) (q : Identity) : Type 0 where
   pub steps : (t : TypeKey) → t .0 < G .size → keep (λ s. not (added (s .key))) (H .steps (n .ty t)) ≡ map (carryStep n) (G .steps t)
   pub members : (t : TypeKey) → t .0 < G .size → keep (λ p. not (added (p .member .key))) (matching H q (n .ty t)) ≡ map (carryPlace n) (matching G q t)
-  pub same : (t u : TypeKey) (r s : Step) → t .0 < G .size → u .0 < G .size → In r (G .steps t) → In s (G .steps u) → H .same (n .ty (r .target)) (n .ty (s .target)) ≡ G .same (r .target) (s .target)
 
 module _ (n : Numbers) (added : ObjKey → Bool) (G H : Graph) (q : Identity) (cl : Closed G) (g : Grows n added G H q) where
   -- where the walk is old, a way or walk that goes on from it is as new as the member that it takes
@@ -165,14 +163,12 @@ single-gives a w p = go (hasPtr (memberOf w .entity) && not (w .walk .flag) && n
     go true h = absurd h
     go false h = only h
 
--- an answer's places are those of one of the ways that are judged
-pub judge-gives : (G : Graph) (a : Bool) (ws : List Way) (p : List ℕ) → Gives (judge G a ws) p → (w : Way) × In w ws × (placesOf w ≡ p)
-judge-gives G a [] p h = absurd h
-judge-gives G a (w ∷ []) p h = (w, inl refl, single-gives a w p h)
-judge-gives G a (w ∷ v ∷ rest) p h =
-    cases (any (λ x. G .same (w .walk .at) (x .walk .at)) (v ∷ rest))
-    (λ e. (w, inl refl, only (rw e at h)))
-    (λ e. (v, inr (inl refl), only (rw e at h)))
+-- what an answer shows are places of the ways that are judged
+pub judged-gives : (a : Bool) (ws : List Way) (p : List ℕ) → Gives (judged a ws) p → (w : Way) × In w ws × (placesOf w ≡ p)
+judged-gives a [] p h = absurd h
+judged-gives a (w ∷ []) p h = (w, inl refl, single-gives a w p h)
+judged-gives a (w ∷ v ∷ rest) p (inl e) = (w, inl refl, sym e)
+judged-gives a (w ∷ v ∷ rest) p (inr i) = (v, inr (inl refl), only i)
 
 pub way-long : (G : Graph) (q : Identity) (t : TypeKey) (f : Bool) (d : ℕ) (w : Way) → In w (ways G q (start t f) d) → length (placesOf w) ≡ suc d
 way-long G q t f d w i =
@@ -181,12 +177,6 @@ way-long G q t f d w i =
     let l = long G (start t f) d (v .0) (v .1) in
     rw (m .2, length-append (v .0 .places) (m .0 .place ∷ [])) (omega arith)
 
-ends-at : (G : Graph) (q : Identity) (r : Walk) (d : ℕ) (w : Way) → In w (ways G q r d) → In (w .walk) (walks G r d)
-ends-at G q r d w i =
-    let v = In-flat (ends G q) (walks G r d) w i in
-    let m = In-map (λ x. record { walk = v .0; last = x }) (matching G q (v .0 .at)) w (v .2) in
-    rw (m .2) (v .1)
-
 single-carry : (n : Numbers) (a : Bool) (w : Way) → single a (carryWay n w) ≡ carrySelected n (single a w)
 single-carry n a w = go (hasPtr (memberOf w .entity) && not (w .walk .flag) && not a)
   where
@@ -194,44 +184,28 @@ single-carry n a w = go (hasPtr (memberOf w .entity) && not (w .walk .flag) && n
     go true = refl
     go false = refl
 
-judge-carry : (n : Numbers) (G H : Graph) (a : Bool) (ws : List Way) → ((x y : Way) → In x ws → In y ws → H .same (n .ty (x .walk .at)) (n .ty (y .walk .at)) ≡ G .same (x .walk .at) (y .walk .at))
-    → judge H a (map (carryWay n) ws) ≡ carrySelected n (judge G a ws)
-judge-carry n G H a [] s = refl
-judge-carry n G H a (w ∷ []) s = single-carry n a w
-judge-carry n G H a (w ∷ v ∷ rest) s =
-    ap (λ b. rules.tied b w v)
-    (any-map (λ (x : Way). H .same (n .ty (w .walk .at)) (x .walk .at)) (carryWay n) (v ∷ rest) ∙ any-In-ext _ _ (v ∷ rest) (λ x i. s w x (inl refl) (inr i)))
+judged-carry : (n : Numbers) (a : Bool) (ws : List Way) → judged a (map (carryWay n) ws) ≡ carrySelected n (judged a ws)
+judged-carry n a [] = refl
+judged-carry n a (w ∷ []) = single-carry n a w
+judged-carry n a (w ∷ v ∷ rest) = refl
 
-judge-two : (G : Graph) (a : Bool) (p : Way → Bool) (ws : List Way) → any p ws ≡ true → any (λ w. not (p w)) ws ≡ true → isAmbiguous (judge G a ws) ≡ true
-judge-two G a p [] h k = clash h refl
-judge-two G a p (w ∷ []) h k = cases (p w) (λ e. clash k (rw e)) (λ e. clash h (rw e))
-judge-two G a p (w ∷ v ∷ rest) h k = refl
+judged-two : (a : Bool) (p : Way → Bool) (ws : List Way) → any p ws ≡ true → any (λ w. not (p w)) ws ≡ true → isAmbiguous (judged a ws) ≡ true
+judged-two a p [] h k = clash h refl
+judged-two a p (w ∷ []) h k = cases (p w) (λ e. clash k (rw e)) (λ e. clash h (rw e))
+judged-two a p (w ∷ v ∷ rest) h k = refl
 
 module _ (n : Numbers) (added : ObjKey → Bool) (G H : Graph) (q : Identity) (lawG : Lawful G) (lawH : Lawful H) (clG : Closed G) (clH : Closed H) (kdG : Keyed G q) (kdH : Keyed H q) (g : Grows n added G H q)
     (t : TypeKey) (in0 : t .0 < G .size) (inH : n .ty t .0 < H .size) (f a : Bool) where
-  same-ends : (d : ℕ) (x y : Way) → In x (ways G q (start t f) d) → In y (ways G q (start t f) d)
-      → H .same (n .ty (x .walk .at)) (n .ty (y .walk .at)) ≡ G .same (x .walk .at) (y .walk .at)
-  same-ends zero x y i j =
-      let e = ends-at G q (start t f) 0 x i in
-      let e′ = ends-at G q (start t f) 0 y j in
-      either e (λ p. either e′ (λ r. rw (p, r, lawH .self (n .ty t), lawG .self t)) (λ r. absurd r)) (λ p. absurd p)
-  same-ends (suc d) x y i j =
-      let v = In-flat (onward G) (walks G (start t f) d) (x .walk) (ends-at G q (start t f) (suc d) x i) in
-      let r = In-map (along G (v .0)) (G .steps (v .0 .at)) (x .walk) (v .2) in
-      let w = In-flat (onward G) (walks G (start t f) d) (y .walk) (ends-at G q (start t f) (suc d) y j) in
-      let s = In-map (along G (w .0)) (G .steps (w .0 .at)) (y .walk) (w .2) in
-      rw (r .2, s .2) (g .same (v .0 .at) (w .0 .at) (r .0) (s .0) (in-size G clG (start t f) in0 d (v .0) (v .1)) (in-size G clG (start t f) in0 d (w .0) (w .1)) (r .1) (s .1))
-
   -- NO NEW WAY IS AS SHORT AS THE OLD: THE SAME ANSWER.
   pub kept : (d : ℕ) → Least G q (start t f) d → ((j : ℕ) → j ≤ d → new n added G H q clG g t f in0 j ≡ false) → select H q (n .ty t) f a ≡ carrySelected n (select G q t f a)
   kept d l e =
       select-least H lawH clH (n .ty t) inH f a q kdH d (least-kept n added G H q clG g t f in0 d l e)
-      ∙ ap (judge H a) (ways-same n added G H q clG g t f in0 d (e d (omega arith)))
-      ∙ judge-carry n G H a (ways G q (start t f) d) (same-ends d)
+      ∙ ap (judged a) (ways-same n added G H q clG g t f in0 d (e d (omega arith)))
+      ∙ judged-carry n a (ways G q (start t f) d)
       ∙ ap (carrySelected n) (sym (select-least G lawG clG t in0 f a q kdG d l))
 
   -- A NEW WAY IS AS SHORT AS THE OLD, none shorter: ambiguous.
   pub tied : (d : ℕ) → Least G q (start t f) d → Least H q (start (n .ty t) f) d → new n added G H q clG g t f in0 d ≡ true → isAmbiguous (select H q (n .ty t) f a) ≡ true
   tied d l m e =
       ap isAmbiguous (select-least H lawH clH (n .ty t) inH f a q kdH d m)
-      ∙ judge-two H a (usesNew added) (ways H q (start (n .ty t) f) d) e (old-there n added G H q clG g t f in0 d l)
+      ∙ judged-two a (usesNew added) (ways H q (start (n .ty t) f) d) e (old-there n added G H q clG g t f in0 d l)

@@ -101,12 +101,12 @@ rows =
     ∷ again alone "S 5 1 0 BlockWriter" ("entry 1 0 0" ⏎ []) elsewhere "S 6 1 1 BlockWriter" ("entry 2 0 0" ⏎ [])
     ∷ again alone "S 5 0 0 Close" ("badreceiver" ⏎ []) elsewhere "S 6 0 1 Close" ("badreceiver" ⏎ [])
     -- the disk incident: a new way just as long
-    ∷ again alone "S 5 1 0 Close" ("entry 0 0 0 0" ⏎ []) both "S 7 1 0 Close" ("ambiguous 1 0" ⏎ [])
-    ∷ again alone "S 5 0 0 Close" ("badreceiver" ⏎ []) both "S 7 0 0 Close" ("ambiguous 1 0" ⏎ [])
+    ∷ again alone "S 5 1 0 Close" ("entry 0 0 0 0" ⏎ []) both "S 7 1 0 Close" ("ambiguous 0 0" ⏎ "and 1 0" ⏎ [])
+    ∷ again alone "S 5 0 0 Close" ("badreceiver" ⏎ []) both "S 7 0 0 Close" ("ambiguous 0 0" ⏎ "and 1 0" ⏎ [])
     -- a shorter new way: the old way is not given
     ∷ again alone "S 5 1 0 Close" ("entry 0 0 0 0" ⏎ []) own "S 5 1 0 Close" ("entry 2 0 0" ⏎ [])
     -- ambiguous stays
-    ∷ again both "S 7 1 0 Close" ("ambiguous 1 0" ⏎ []) three "S 7 1 0 Close" ("ambiguous 1 0" ⏎ [])
+    ∷ again both "S 7 1 0 Close" ("ambiguous 0 0" ⏎ "and 1 0" ⏎ []) three "S 7 1 0 Close" ("ambiguous 0 0" ⏎ "and 1 0" ⏎ [])
     -- not found stays; a new way may find it
     ∷ again alone "S 5 1 0 Open" ("notfound" ⏎ []) elsewhere "S 6 1 1 Open" ("notfound" ⏎ [])
     ∷ again alone "S 5 1 0 Flush" ("notfound" ⏎ []) elsewhere "S 6 1 1 Flush" ("entry 1 0 0 1" ⏎ [])

@@ -9,10 +9,10 @@ use Prim.Native.Nat.{ℕ, _≤_, _<_}
 use Rattle.objects.specs.Lists.{Bytes, any, In}
 use Rattle.objects.specs.declared.TypeKey.{TypeKey}
 use Rattle.objects.specs.declared.PackageKey.{PackageKey}
-use Rattle.objects.specs.Table.{Table, Member, under, bare, pointerAt, ifaceUnder, namedPointer, allMethods}
+use Rattle.objects.specs.Table.{Table, Member, bare, pointerAt, ifaceUnder, allMethods}
 use Rattle.text.specs.Bytes.{isBlank}
 use Rattle.rules.specs.Members.{Identity, identityFrom, identityOf}
-use Rattle.rules.specs.Ways.{Way, placesOf, memberOf, Selected, notfound, badreceiver, entry, ambiguous, isAmbiguous, given, ways, select}
+use Rattle.rules.specs.Ways.{Way, placesOf, memberOf, Selected, notfound, badreceiver, entry, ambiguous, isAmbiguous, given, searchedAs, ways, select}
 use Rattle.rules.specs.Missing.{missing}
 use Rattle.rules.specs.Question.{Question, askS, askM, askN, askI, askC, askV}
 use Rattle.growth.specs.Grown.{Numbers, carryPkg, carryMember, isAdded}
@@ -20,18 +20,14 @@ use Rattle.growth.specs.Grown.{Numbers, carryPkg, carryMember, isAdded}
 -- ---- the ways of a question
 
 module _ (T : Table) where
-  -- "A t that is itself a named type whose u is a pointer is searched as that pointer"
-  abbrev pub searchedAs : TypeKey → TypeKey
-  searchedAs t = cond (namedPointer T t) (under T t) t
-
   module _ (q : Identity) where
     -- "`_`, or a pointer to any type with an interface under it: `notfound`": nothing is looked for, so there is no way
     abbrev pub isShut : TypeKey → Bool
-    isShut t = isBlank (q .name) || (pointerAt T (searchedAs t) && ifaceUnder T (bare T (searchedAs t)))
+    isShut t = isBlank (q .name) || (pointerAt T (searchedAs T t) && ifaceUnder T (bare T (searchedAs T t)))
 
     -- the ways of d steps that S has for t and the name
     abbrev pub waysOf : TypeKey → ℕ → List Way
-    waysOf t d = cond (isShut t) [] (ways T q (searchedAs t) d)
+    waysOf t d = cond (isShut t) [] (ways T q (searchedAs T t) d)
 
     -- "the old way is the old shortest": d steps have a way, and no fewer have one
     pub record Shortest (t : TypeKey) (d : ℕ) : Type 0 where
@@ -45,14 +41,14 @@ module _ (n : Numbers) (A : Table) where
   abbrev pub isNew : Way → Bool
   isNew w = any (isAdded n A) (memberOf w .key ∷ w .walk .used)
 
--- "Same means word, flag, places and carried member"
+-- "Same means word, flag, places and carried member"; of `ambiguous`, both lists of places
 abbrev pub carrySelected : Numbers → Selected → Selected
 carrySelected n notfound = notfound
 carrySelected n badreceiver = badreceiver
 carrySelected n (entry m flag places) = entry (carryMember n m) flag places
-carrySelected n (ambiguous places) = ambiguous places
+carrySelected n (ambiguous first second) = ambiguous first second
 
--- the answer has these places; "not given, that the answer has other places or none"
+-- the answer shows a way of these places; "not given, that the answer has other places or none": of two ways, neither has them
 abbrev pub Gives : Selected → List ℕ → Type 0
 Gives s places = In places (given s)
 

@@ -1,3 +1,4 @@
+pub mod StageLaws
 pub mod HitLaws
 pub mod VerdictLaws
 pub mod SearchLaws

@@ -1,71 +1,92 @@
--- The rows of a level whose type has the name, and what the first of them gives.
+-- The rows of a level whose type has the name, the ways that they make, and what the first two of them give.
 use mathlib.Core.Path.{_≡_}
-use mathlib.Core.Bool.{Bool, true, cond}
-use mathlib.Core.List.{List, [], _∷_}
-use Prim.Native.Nat.{ℕ, suc, _-_, _≤_, _<_}
-use Rattle.objects.specs.Lists.{Bytes, keep}
+use mathlib.Core.Bool.{Bool, true, false}
+use mathlib.Core.List.{List, [], _∷_, map}
+use Prim.Native.Nat.{ℕ, suc, _*_, _-_, _≤_, _<_}
+use lib.ListN.{length}
+use Rattle.objects.specs.Bounds.{maxPlaces}
+use Rattle.objects.specs.Lists.{Bytes, flat}
 use Rattle.objects.specs.declared.ObjKey.{ObjKey}
 use Rattle.objects.specs.Table.{Table}
 use Rattle.objects.specs.Rows.{Words, memberAt, tableOf, typeCount}
 use Rattle.objects.specs.Types.{memberTypeRead}
+use Rattle.text.specs.Bytes.{isBlank}
 use Rattle.rules.specs.Members.{Identity}
-use Rattle.rules.specs.Ways.{Way, Selected, received, single, tied, hasOwn, matching}
-use Rattle.ways.specs.Levels.{firstOf}
-use Rattle.ways.specs.Search.{typ, range}
+use Rattle.rules.specs.Ways.{Way, Selected, received}
+use Rattle.ways.specs.Graph.{ends}
+use Rattle.ways.specs.OfTable.{graph}
 use Rattle.selection.specs.declared.LookupResult.{LookupResult}
 use Rattle.selection.specs.declared.Selection.{Selection}
-use Rattle.selection.specs.Results.{resultMeant, calledRight, Typed}
-use Rattle.level_rows.specs.Words.{rowOf}
-use Rattle.level_rows.specs.Places.{placesTo, flagTo}
+use Rattle.selection.specs.Results.{resultMeant, calledRight, Typed, Selects}
+use Rattle.multiples.specs.Records.{Record, maxRecords}
+use Rattle.walks.specs.Rows.{walkAt, range}
+use Rattle.walk_rows.specs.Records.{rowsOf, levelOf}
+use Rattle.walk_rows.specs.State.{Wide}
+use Rattle.levels.specs.declared.Found.{Found}
 use Rattle.levels.specs.declared.Hit.{Hit}
 
--- row i's type has a member of the name
-unfoldable pub hitRow : Table → Identity → Words → ℕ → Bool
-hitRow T q ws i = hasOwn T q (typ (rowOf ws i))
+-- What a search is lent: two records for each type of the table, and room for the places of two ways.
+pub record Scratch (rows : Words) (walk : List Record) (places : Words) : Type 0 where
+  pub room : 2 * typeCount rows ≤ length walk
+  pub most : length walk ≤ maxRecords
+  pub wide : Wide walk
+  pub long : 2 * maxPlaces ≤ length places
 
--- the rows from lo on, up to n, that have one
-unfoldable pub hitsIn : Table → Identity → Words → ℕ → ℕ → List ℕ
-hitsIn T q ws lo n = keep (hitRow T q ws) (range lo (n - lo))
+-- ---- ways
 
--- The member, at its place, is the first of the name that row i's type has itself.
-pub record OwnAt (text : Bytes) (rows : Words) (q : Identity) (ws : Words) (i place : ℕ) (m : ObjKey) : Type 0 where
-  pub own : firstOf (matching (tableOf text rows) q (typ (rowOf ws i))) ≡ record { place = place; member = memberAt text rows m }
-  pub typed : memberTypeRead rows m .0 < typeCount rows
+-- the ways that the rows from lo on, of the first n, make to the name
+unfoldable pub waysFrom : Table → Identity → List Record → ℕ → ℕ → List Way
+waysFrom T q walk n lo = flat (ends (graph T) q) (map (walkAt (rowsOf walk n)) (range lo (n - lo)))
 
--- Row i is the first that has one.
-pub record HitAt (text : Bytes) (rows : Words) (q : Identity) (ws : Words) (lo n i place : ℕ) (m : ObjKey) : Type 0 where
-  pub order : (lo ≤ i) × (i < n)
-  pub rest : hitsIn (tableOf text rows) q ws lo n ≡ i ∷ hitsIn (tableOf text rows) q ws (suc i) n
-  pub here : OwnAt text rows q ws i place m
+-- the way to a row and a member of its type
+unfoldable pub wayTo : Bytes → Words → List Record → ℕ → Found → Way
+wayTo text rows walk n w = record { walk = walkAt (rowsOf walk n) (w .row); last = record { place = w .place; member = memberAt text rows (w .member) } }
 
--- what a search for the next of them gives
-unfoldable pub Told : Bytes → Words → Identity → Words → ℕ → ℕ → Hit → Type 0
-Told text rows q ws lo n Hit.Nothing = hitsIn (tableOf text rows) q ws lo n ≡ []
-Told text rows q ws lo n (Hit.At i place m) = HitAt text rows q ws lo n i place m
+-- Of the rows from this one on, this one makes the first way. A type may have several blank fields, so the name is not blank.
+pub record OwnAt (text : Bytes) (rows : Words) (q : Identity) (walk : List Record) (n : ℕ) (w : Found) : Type 0 where
+  pub inside : w .row < n
+  pub typed : memberTypeRead rows (w .member) .0 < typeCount rows
+  pub ways : isBlank (q .name) ≡ false → waysFrom (tableOf text rows) q walk n (w .row) ≡ wayTo text rows walk n w ∷ waysFrom (tableOf text rows) q walk n (suc (w .row))
 
--- ---- what the first row with the name gives
+-- It is the first from lo on.
+pub record HitAt (text : Bytes) (rows : Words) (q : Identity) (walk : List Record) (n lo : ℕ) (w : Found) : Type 0 where
+  pub order : lo ≤ w .row
+  pub left : waysFrom (tableOf text rows) q walk n lo ≡ waysFrom (tableOf text rows) q walk n (w .row)
+  pub here : OwnAt text rows q walk n w
 
--- the way to row i and its first member of the name; which members it used is of no account here
-unfoldable pub wayTo : Table → Identity → Words → Bool → ℕ → ℕ → Way
-wayTo T q ws f d i = record {
-  walk = record { places = placesTo ws d i; used = []; at = typ (rowOf ws i); flag = flagTo ws f d i };
-  last = firstOf (matching T q (typ (rowOf ws i)));
-}
+-- what a look for the next of them gives
+unfoldable pub Tells : Bytes → Words → Identity → List Record → ℕ → ℕ → Hit → Type 0
+Tells text rows q walk n lo Hit.Nothing = waysFrom (tableOf text rows) q walk n lo ≡ []
+Tells text rows q walk n lo (Hit.At w) = HitAt text rows q walk n lo w
 
--- row i of level d is the first that has the name, `others` are those behind it
-unfoldable pub judgedRow : Table → Identity → Words → Bool → Bool → ℕ → ℕ → List ℕ → Selected
-judgedRow T q ws f a d i [] = cond (rowOf ws i .multiples) (tied true (wayTo T q ws f d i) (wayTo T q ws f d i)) (single a (wayTo T q ws f d i))
-judgedRow T q ws f a d i (j ∷ others) = tied (rowOf ws i .multiples) (wayTo T q ws f d i) (wayTo T q ws f d j)
+-- ---- the first two
 
--- "One shortest way": what the member m, the flag and the places give
-unfoldable pub alone : Bytes → Words → ObjKey → Bool → Bool → List ℕ → Selected
-alone text rows m flag a places = received a (memberAt text rows m) flag places
+-- the ways of the first row that has the name and of the next, if there is one
+unfoldable pub waysTold : Bytes → Words → List Record → ℕ → Found → Hit → List Way
+waysTold text rows walk n w Hit.Nothing = wayTo text rows walk n w ∷ []
+waysTold text rows walk n w (Hit.At v) = wayTo text rows walk n w ∷ wayTo text rows walk n v ∷ []
+
+-- the next is of the same level
+unfoldable pub Beside : List Record → Found → Hit → Type 0
+Beside walk w Hit.Nothing = Unit {0}
+Beside walk w (Hit.At v) = levelOf walk (v .row) ≡ levelOf walk (w .row)
+
+-- it is one of the first n rows
+unfoldable pub Inside : ℕ → Hit → Type 0
+Inside n Hit.Nothing = Unit {0}
+Inside n (Hit.At v) = v .row < n
+
+-- ---- results
 
 -- the result for one shortest way, whatever its places
 pub record Alone (text : Bytes) (rows : Words) (m : ObjKey) (flag a : Bool) (r : LookupResult) : Type 0 where
-  pub says : (places : List ℕ) → resultMeant text rows r places ≡ alone text rows m flag a places
+  pub says : (first second : List ℕ) → resultMeant text rows r first second ≡ received a (memberAt text rows m) flag first
   pub called : calledRight rows r ≡ true
   pub typed : memberTypeRead rows m .0 < typeCount rows → Typed rows r
+
+-- The selection is the one that is due, if the name is not blank.
+abbrev pub Answers : Bytes → Words → Identity → Selection → Words → Selected → Type 0
+Answers text rows q r places due = isBlank (q .name) ≡ false → Selects text rows r places due
 
 -- no level has the name
 abbrev pub nothingFound : Selection

@@ -1,12 +1,25 @@
-// The search of S level by level, as `lookup_field_or_method_impl` makes it: proved equal to the model of crate ways (specs/Search.antt there). Crate
-// level_rows has the rows of a level, in lent words.
+// The search of S level by level: the first level that has the name decides, and no level below it is made. Crate walk_rows has the rows of the levels.
 use objects::ObjKey;
+use objects::TypeKey;
 
 pub mod hits; // the rows of a level that have the name
 pub mod search; // the levels
 
-// The next row whose type has the name: its number, and its first member of the name with its place.
+// A row whose type has the name: its number, and the first member of the name with its place.
+pub struct Found {
+    pub row: u32,
+    pub place: u32,
+    pub member: ObjKey,
+}
+
 pub enum Hit {
     Nothing,
-    At(u32, u32, ObjKey),
+    At(Found),
+}
+
+// What is searched: a type, whether a pointer was removed to come to it, and whether the operand is addressable.
+pub struct Start {
+    pub typ: TypeKey,
+    pub flag: bool,
+    pub addressable: bool,
 }

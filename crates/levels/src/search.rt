@@ -1,33 +1,38 @@
 // The levels, one after the other, until one has the name or none is left.
 ghost use mathlib.Core.Path.{_≡_};
 ghost use mathlib.Core.Bool.{true, not, _&&_};
-ghost use Prim.Native.Nat.{suc, _<_, _≤_};
-ghost use lib.ListN.{length, replicate};
-ghost use Rattle.objects.specs.Bounds.{markWords, searchWords, maxPlaces};
+ghost use Prim.Native.Nat.{ℕ, _*_, _<_, _≤_};
+ghost use lib.ListN.{length};
+ghost use Rattle.objects.specs.Bounds.{maxPlaces};
 ghost use Rattle.objects.specs.Table.{hasPackage};
 ghost use Rattle.objects.specs.Rows.{packageMeant, tableOf, typeCount};
+ghost use Rattle.objects.specs.Types.{memberTypeRead};
 ghost use Rattle.rules.specs.Library.{Library};
+ghost use Rattle.rules.specs.Ways.{judged};
+ghost use Rattle.ways.specs.Graph.{select};
 ghost use Rattle.ways.specs.OfTable.{graph};
-ghost use Rattle.ways.specs.Search.{lookup-rows};
-ghost use Rattle.selection.specs.Results.{nameMeant, Selects};
-ghost use Rattle.level_rows.specs.State.{Rowed};
-ghost use Rattle.levels.specs.Hits.{OwnAt, Alone, judgedRow, hitsIn, nothingFound};
+ghost use Rattle.selection.specs.Results.{Selects, nameMeant};
+ghost use Rattle.walk_rows.specs.Records.{levelOf};
+ghost use Rattle.walk_rows.specs.State.{Rowed, Wide};
+ghost use Rattle.levels.specs.Hits.{Alone, Answers, Beside, Inside, Scratch, nothingFound, waysTold};
+use crate::Found;
 use crate::Hit;
+use crate::Start;
 use crate::hits::next_hit;
-use level_rows::lower::lower;
-use level_rows::places::write_places;
-use level_rows::words::ROW;
-use level_rows::words::put_root;
-use multiples::load;
+use multiples::EmbeddedType;
+use multiples::INDIRECT;
 use objects::ObjKey;
-use objects::TypeKey;
 use objects::rows::has_ptr;
 use objects::rows::is_method;
-use objects::rows::type_count;
 use selection::Entity;
 use selection::LookupResult;
+use selection::MAX_PLACES;
 use selection::Name;
 use selection::Selection;
+use walk_rows::lower::lower;
+use walk_rows::places::write_places;
+use walk_rows::records::put_root;
+use walk_rows::records::record_at;
 
 // "a method with pointer receiver, the flag is 0 and a is 0"
 fn bad_receiver(ptr: bool, flag: bool, a: bool) -> bool
@@ -56,48 +61,32 @@ fn alone(text: &[u8], rows: &[u32], m: ObjKey, flag: bool, a: bool) -> LookupRes
     LookupResult::Entry(Entity::Field(m), flag)
 }
 
-// Row i of level d is the first that has the name. "The first is given if another shortest ends in a type identical to the first's, otherwise the second."
+// The first row of a level that has the name, and the next one if there is one: the only way, or both.
 fn verdict(
     text: &[u8],
     rows: &[u32],
-    search: &[u32],
+    walk: &[EmbeddedType],
     places: &mut [u32],
-    names: &[u8],
-    q: Name,
-    f: bool,
+    w: Found,
+    next: Hit,
     a: bool,
-    d: usize,
-    n: usize,
-    i: u32,
-    place: u32,
-    m: ObjKey,
 ) -> Selection
-    requires { ⌜ Library (now text) (now rows) ⌝ }
-    requires { ⌜ (d < maxPlaces) × (maxPlaces ≤ length (now places)) × (i < n) × (hasPackage (tableOf (now text) (now rows)) (packageMeant (q .pkg)) ≡ true) ⌝ }
-    requires { ⌜ Rowed (typeCount (now rows)) (now search) n ⌝ }
-    requires { ⌜ OwnAt (now text) (now rows) (nameMeant (now text) (now rows) (now names) q) (now search) i place m ⌝ }
-    ensures { λ r. ⌜ Selects (now (text .entry)) (now (rows .entry)) r (now (places .exit)) (judgedRow (tableOf (now (text .entry)) (now (rows .entry))) (nameMeant (now (text .entry)) (now (rows .entry)) (now (names .entry)) q) (now (search .entry)) f a d i (hitsIn (tableOf (now (text .entry)) (now (rows .entry))) (nameMeant (now (text .entry)) (now (rows .entry)) (now (names .entry)) q) (now (search .entry)) (suc i) n)) ⌝ }
+    requires { ⌜ (levelOf (now walk) (w .row) < maxPlaces) × (2 * maxPlaces ≤ length (now places)) × Beside (now walk) w next × (memberTypeRead (now rows) (w .member) .0 < typeCount (now rows)) ⌝ }
+    ensures { λ r. ⌜ ((n : ℕ) → Rowed (now (walk .entry)) n → w .row < n → Inside n next → Selects (now (text .entry)) (now (rows .entry)) r (now (places .exit)) (judged a (waysTold (now (text .entry)) (now (rows .entry)) (now (walk .entry)) n w next))) ⌝ }
 {
-    let count = d + 1;
-    let e = load(search, ROW * (i as usize));
-    if e.multiples {
-        write_places(search, places, d, i, f, place);
-        return Selection {
-            result: LookupResult::Ambiguous,
-            count: count,
-        };
-    }
-    match next_hit(text, rows, search, names, q, i + 1, n) {
-        Hit::At(j, second, _) => {
-            write_places(search, places, d, j, f, second);
+    let i = w.row;
+    let count = write_places(walk, places, i, w.place);
+    match next {
+        Hit::At(v) => {
+            write_places(walk, &mut places[MAX_PLACES..], v.row, v.place);
             Selection {
                 result: LookupResult::Ambiguous,
                 count: count,
             }
         }
         Hit::Nothing => {
-            let flag = write_places(search, places, d, i, f, place);
-            let result = alone(text, rows, m, flag, a);
+            let e = record_at(walk, i as usize);
+            let result = alone(text, rows, w.member, e[INDIRECT] == 1, a);
             Selection {
                 result: result,
                 count: count,
@@ -115,60 +104,36 @@ fn not_found() -> Selection
     }
 }
 
-// The selection of the name in type t, f if a pointer was removed to come to t, by the levels of rows that the lent words hold.
+// The selection of the name, from where it starts.
 pub fn search(
     text: &[u8],
     rows: &[u32],
-    marks: &mut [u32],
-    search: &mut [u32],
+    walk: &mut [EmbeddedType],
     places: &mut [u32],
     names: &[u8],
     q: Name,
-    t: TypeKey,
-    f: bool,
-    a: bool,
+    s: Start,
 ) -> Selection
     requires { ⌜ Library (now text) (now rows) ⌝ }
-    requires { ⌜ (t .0 < typeCount (now rows)) × (hasPackage (tableOf (now text) (now rows)) (packageMeant (q .pkg)) ≡ true) ⌝ }
-    requires { ⌜ (markWords ≤ length (now marks)) × (searchWords ≤ length (now search)) × (maxPlaces ≤ length (now places)) ⌝ }
-    requires { ⌜ now marks ≡ replicate (length (now marks)) 0 ⌝ }
-    ensures { λ r. ⌜ Selects (now (text .entry)) (now (rows .entry)) r (now (places .exit)) (lookup-rows (graph (tableOf (now (text .entry)) (now (rows .entry)))) (nameMeant (now (text .entry)) (now (rows .entry)) (now (names .entry)) q) t f a) ⌝ }
-    ensures { λ _. ⌜ now (marks .exit) ≡ now (marks .entry) ⌝ }
+    requires { ⌜ (s .typ .0 < typeCount (now rows)) × (hasPackage (tableOf (now text) (now rows)) (packageMeant (q .pkg)) ≡ true) ⌝ }
+    requires { ⌜ Scratch (now rows) (now walk) (now places) ⌝ }
+    ensures { λ r. ⌜ Answers (now (text .entry)) (now (rows .entry)) (nameMeant (now (text .entry)) (now (rows .entry)) (now (names .entry)) q) r (now (places .exit)) (select (graph (tableOf (now (text .entry)) (now (rows .entry)))) (nameMeant (now (text .entry)) (now (rows .entry)) (now (names .entry)) q) (s .typ) (s .flag) (s .addressable)) ⌝ }
+    ensures { λ _. ⌜ Wide (now (walk .exit)) ⌝ }
 {
-    put_root(text, rows, search, t, f);
+    put_root(walk, s.typ, s.flag);
     let mut lo: u32 = 0;
     let mut n: usize = 1;
-    let mut d: usize = 0;
-    let mut left = type_count(rows);
-    while left > 0 {
-        match next_hit(text, rows, search, names, q, lo, n) {
-            Hit::At(i, place, m) => {
-                return verdict(
-                    text,
-                    rows,
-                    search,
-                    places,
-                    names,
-                    q,
-                    f,
-                    a,
-                    d,
-                    n,
-                    i,
-                    place,
-                    m,
-                );
+    while (lo as usize) < n {
+        match next_hit(text, rows, walk, names, q, lo, n) {
+            Hit::At(w) => {
+                let next = next_hit(text, rows, walk, names, q, w.row + 1, n);
+                return verdict(text, rows, walk, places, w, next, s.addressable);
             }
             Hit::Nothing => {}
         }
-        let end = lower(text, rows, marks, search, lo, n);
-        if end == n {
-            return not_found();
-        }
+        let end = lower(text, rows, walk, lo, n);
         lo = n as u32;
         n = end;
-        d += 1;
-        left -= 1;
     }
     not_found()
 }

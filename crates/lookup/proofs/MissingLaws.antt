@@ -38,6 +38,9 @@ use Rattle.selection.specs.Results.{first, nameMeant, ownMeant, keyOf, resultMe
 use Rattle.selection.specs.Finds.{firstFrom, orElse, firstPlain}
 use Rattle.selection.proofs.FindLaws.{members-left}
 use Rattle.selection.proofs.OwnLaws.{first-owned, members-row, list-packaged, list-fits, under-in}
+use Rattle.multiples.specs.Records.{Record}
+use Rattle.walk_rows.specs.State.{Wide}
+use Rattle.levels.specs.Hits.{Scratch}
 use Rattle.lookup.specs.Answers.{nameRead, InTable, lackOf}
 
 -- ---- marks that a callee leaves as they were
@@ -48,6 +51,10 @@ module _ {before after : Words} (e : after ≡ before) where
 
   pub long-still : (n : ℕ) → n ≤ length before → n ≤ length after
   long-still n h = rw e h
+
+-- what a search leaves of what it was lent serves the next
+pub scratch-still : {rows : Words} {walk after : List Record} {places written : Words} → Scratch rows walk places → length after ≡ length walk → length written ≡ length places → Wide after → Scratch rows after written
+scratch-still lent a b wide = record { room = rw a (lent .room); most = rw a (lent .most); wide = wide; long = rw b (lent .long) }
 
 -- ---- the first of an interface's list
 
@@ -171,18 +178,18 @@ module _ (text : Bytes) (rows : Words) (lib : Library text rows) (t : TypeKey) (
 
 -- ---- other t
 
-module _ (text : Bytes) (rows : Words) (m : ObjKey) (places : Words) where
+module _ (text : Bytes) (rows : Words) (m : ObjKey) (first second : List ℕ) where
   module _ {result : LookupResult} {entity : Entity} {flag : Bool} (p : result ≡ LookupResult.Entry entity flag) {found : ObjKey} where
     pub by-method : entity ≡ Entity.Method found → calledRight rows result ≡ true → (r : Missing)
         → missingMeant text rows r ≡ lackOf (memberAt text rows m) (compared (tableOf text rows) (memberAt text rows m) (memberAt text rows found))
-        → missingMeant text rows r ≡ lackOf (memberAt text rows m) (unmetBy (tableOf text rows) (memberAt text rows m) (resultMeant text rows result places))
+        → missingMeant text rows r ≡ lackOf (memberAt text rows m) (unmetBy (tableOf text rows) (memberAt text rows m) (resultMeant text rows result first second))
     unfolding calledRight resultMeant keyOf
     by-method e c r d =
         let k : methodRead rows found ≡ true = rw (p, e) at c in
         d ∙ sym (rw (p, e, method-meant text rows found, k))
 
     pub by-field : entity ≡ Entity.Field found → calledRight rows result ≡ true
-        → missingMeant text rows (Missing.Lacks m false) ≡ lackOf (memberAt text rows m) (unmetBy (tableOf text rows) (memberAt text rows m) (resultMeant text rows result places))
+        → missingMeant text rows (Missing.Lacks m false) ≡ lackOf (memberAt text rows m) (unmetBy (tableOf text rows) (memberAt text rows m) (resultMeant text rows result first second))
     unfolding calledRight resultMeant keyOf missingMeant lackOf
     by-field e c =
         let k : not (methodRead rows found) ≡ true = rw (p, e) at c in
@@ -190,17 +197,17 @@ module _ (text : Bytes) (rows : Words) (m : ObjKey) (places : Words) where
 
   module _ {result : LookupResult} where
     pub by-ambiguous : result ≡ LookupResult.Ambiguous
-        → missingMeant text rows (Missing.Lacks m false) ≡ lackOf (memberAt text rows m) (unmetBy (tableOf text rows) (memberAt text rows m) (resultMeant text rows result places))
+        → missingMeant text rows (Missing.Lacks m false) ≡ lackOf (memberAt text rows m) (unmetBy (tableOf text rows) (memberAt text rows m) (resultMeant text rows result first second))
     unfolding resultMeant missingMeant lackOf
     by-ambiguous p = rw p
 
     pub by-receiver : result ≡ LookupResult.BadMethodReceiver
-        → missingMeant text rows (Missing.Lacks m false) ≡ lackOf (memberAt text rows m) (unmetBy (tableOf text rows) (memberAt text rows m) (resultMeant text rows result places))
+        → missingMeant text rows (Missing.Lacks m false) ≡ lackOf (memberAt text rows m) (unmetBy (tableOf text rows) (memberAt text rows m) (resultMeant text rows result first second))
     unfolding resultMeant missingMeant lackOf
     by-receiver p = rw p
 
     pub by-nothing : result ≡ LookupResult.NotFound
-        → missingMeant text rows (Missing.Lacks m false) ≡ lackOf (memberAt text rows m) (unmetBy (tableOf text rows) (memberAt text rows m) (resultMeant text rows result places))
+        → missingMeant text rows (Missing.Lacks m false) ≡ lackOf (memberAt text rows m) (unmetBy (tableOf text rows) (memberAt text rows m) (resultMeant text rows result first second))
     unfolding resultMeant missingMeant lackOf
     by-nothing p = rw p
 
@@ -212,11 +219,11 @@ by-typed rows p e h = rw (p, e) at h
 module _ (text : Bytes) (rows : Words) (lib : Library text rows) (t : TypeKey) (h : t .0 < typeCount rows) {b : Bool} (pb : b ≡ ifaceRead rows t) (m : ObjKey) where
   pub selected-unmet : b ≡ false → {q : Name} → q ≡ nameRead rows m → (found : Selection) (places : Words)
       → Selects text rows found places (select (tableOf text rows) (nameMeant text rows text q) t false) → (s : Bool) (r : Missing)
-      → ((at : Words) → missingMeant text rows r ≡ lackOf (memberAt text rows m) (unmetBy (tableOf text rows) (memberAt text rows m) (resultMeant text rows (found .result) at)))
+      → ((first second : List ℕ) → missingMeant text rows r ≡ lackOf (memberAt text rows m) (unmetBy (tableOf text rows) (memberAt text rows m) (resultMeant text rows (found .result) first second)))
       → missingMeant text rows r ≡ lackOf (memberAt text rows m) (unmet (tableOf text rows) t s (memberAt text rows m))
   unfolding unmet
   selected-unmet e pq found places f s r d =
-      d _ ∙ ap (λ z. lackOf (memberAt text rows m) (unmetBy (tableOf text rows) (memberAt text rows m) z)) (f .says)
+      d _ _ ∙ ap (λ z. lackOf (memberAt text rows m) (unmetBy (tableOf text rows) (memberAt text rows m) z)) (f .says)
       ∙ rw (own-name text rows m pq, iface-is-read text rows lib t h, sym pb ∙ e)
 
 -- ---- one method after another

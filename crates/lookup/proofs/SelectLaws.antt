@@ -1,6 +1,6 @@
--- Selection around the search by levels: the blank name, pointers to interfaces, named pointer types; and the rows of the search as the rules' ways.
+-- Selection around the search by levels: the blank name, pointers to interfaces, named pointer types; and the ways of the table's graph as the rules'.
 use mathlib.Core.Path.{_≡_, refl, sym, ap, _∙_, subst}
-use mathlib.Core.Bool.{Bool, true, false, cond, not, _&&_}
+use mathlib.Core.Bool.{Bool, true, false, cond, _&&_}
 use Prim.Native.Nat.{ℕ, _<_}
 use native.Mathlib.Omega.{arith}
 use lib.ListN.{take, drop}
@@ -19,18 +19,18 @@ use Rattle.rules.specs.Sound.{Sound}
 use Rattle.rules.specs.Ways.{Selected, notfound, noMethod, searched, select}
 use Rattle.rules.proofs.Sounds.{library-sound}
 use Rattle.obj.specs.Ids.{askedId}
+use Rattle.ways.specs.Graph as over
 use Rattle.ways.specs.OfTable.{graph}
-use Rattle.ways.specs.Search.{lookup-rows}
-use Rattle.ways.proofs.SearchRows.{rows-are-select}
 use Rattle.ways.proofs.Selects.{select-says}
-use Rattle.ways.proofs.TableLaws.{lawful, keyed, bare-in}
+use Rattle.ways.proofs.TableLaws.{bare-in}
 use Rattle.selection.specs.declared.Name.{Name}
 use Rattle.selection.specs.declared.Entity.{Entity}
 use Rattle.selection.specs.declared.LookupResult.{LookupResult}
 use Rattle.selection.specs.declared.Selection.{Selection}
 use Rattle.selection.specs.Results.{nameMeant, keyOf, resultMeant, calledRight, Typed, Selects}
 use Rattle.selection.proofs.OwnLaws.{under-in}
-use Rattle.lookup.specs.Answers.{nothing, leftOf, withoutMethod}
+use Rattle.levels.specs.Hits.{Answers, nothingFound}
+use Rattle.lookup.specs.Answers.{leftOf, withoutMethod}
 
 -- ---- what is not searched
 
@@ -49,7 +49,7 @@ module _ (rows : Words) (t : TypeKey) {b : Bool} (pb : b ≡ pointerRead rows t)
 -- ---- selections
 
 module _ (text : Bytes) (rows : Words) (places : Words) where
-  pub selects-nothing : (due : Selected) → due ≡ notfound → Selects text rows nothing places due
+  pub selects-nothing : (due : Selected) → due ≡ notfound → Selects text rows nothingFound places due
   unfolding resultMeant calledRight Typed
   selects-nothing due e = record { says = sym e; fits = omega arith; called = refl; typed = tt }
 
@@ -76,30 +76,28 @@ module _ (text : Bytes) (rows : Words) (lib : Library text rows) (t : TypeKey) (
       rw (pointer-read text rows t h, bare-read text rows t h, iface-read text rows (bareRead rows t) l (under-in text rows lib (bareRead rows t) l refl))
 
   module _ (q : Identity) (a : Bool) {b : Bool} (pb : b ≡ isBlank (q .name)) (places : Words) where
-    pub blank-nothing : b ≡ true → Selects text rows nothing places (cond (isBlank (q .name)) notfound (searched (tableOf text rows) q t a))
+    pub blank-nothing : b ≡ true → Selects text rows nothingFound places (cond (isBlank (q .name)) notfound (searched (tableOf text rows) q t a))
     blank-nothing e = selects-nothing text rows places _ (rw (sym pb ∙ e))
 
     module _ (nb : b ≡ false) {i : Bool} (pi : i ≡ pointerRead rows t && ifaceRead rows (bareRead rows t)) where
-      pub interface-nothing : i ≡ true → Selects text rows nothing places (cond (isBlank (q .name)) notfound (searched (tableOf text rows) q t a))
+      pub interface-nothing : i ≡ true → Selects text rows nothingFound places (cond (isBlank (q .name)) notfound (searched (tableOf text rows) q t a))
       unfolding searched
       interface-nothing e = selects-nothing text rows places _ (rw (sym pb ∙ nb, to-interface, sym pi ∙ e))
 
       -- the search from t, one pointer removed
       pub search-selects : i ≡ false → {u : TypeKey} → u ≡ bareRead rows t → {f : Bool} → f ≡ pointerRead rows t → (r : Selection)
-          → Selects text rows r places (lookup-rows (graph (tableOf text rows)) q u f a)
+          → Answers text rows q r places (over.select (graph (tableOf text rows)) q u f a)
           → Selects text rows r places (cond (isBlank (q .name)) notfound (searched (tableOf text rows) q t a))
-      search-selects e {u = u} pu {f = f} pf r s = selects-as text rows places r _ _ due s
+      search-selects e {u = u} pu {f = f} pf r s = selects-as text rows places r _ _ due (s (sym pb ∙ nb))
         where
-          due : lookup-rows (graph (tableOf text rows)) q u f a ≡ cond (isBlank (q .name)) notfound (searched (tableOf text rows) q t a)
-          due =
-              rows-are-select (graph (tableOf text rows)) (lawful (tableOf text rows) sound) q (keyed (tableOf text rows) sound q (sym pb ∙ nb)) u f a
-              ∙ sym (rw (sym pb ∙ nb) (select-says (tableOf text rows) q t a ∙ rw (to-interface, sym pi ∙ e, bare-read text rows t h, pointer-read text rows t h, ← pu, ← pf)))
+          due : over.select (graph (tableOf text rows)) q u f a ≡ cond (isBlank (q .name)) notfound (searched (tableOf text rows) q t a)
+          due = sym (rw (sym pb ∙ nb) (select-says (tableOf text rows) q t a ∙ rw (to-interface, sym pi ∙ e, bare-read text rows t h, pointer-read text rows t h, ← pu, ← pf)))
 
 -- ---- named pointer types
 
 module _ (s : Selection) where
   module _ {entity : Entity} {flag : Bool} (p : s .result ≡ LookupResult.Entry entity flag) {m : ObjKey} where
-    pub without-entry : entity ≡ Entity.Method m → nothing ≡ withoutMethod s
+    pub without-entry : entity ≡ Entity.Method m → nothingFound ≡ withoutMethod s
     unfolding withoutMethod leftOf
     without-entry e = rw (p, e)
 

@@ -13,14 +13,11 @@ use Rattle.selection.specs.declared.Name.{Name}
 use Rattle.selection.specs.declared.Entity.{Entity}
 use Rattle.selection.specs.declared.LookupResult.{LookupResult}
 use Rattle.selection.specs.declared.Selection.{Selection}
-
--- nothing, at no places
-abbrev pub nothing : Selection
-nothing = record { result = LookupResult.NotFound; count = 0 }
+use Rattle.levels.specs.Hits.{nothingFound}
 
 -- "an `entry` that is a method becomes `notfound`": what is left of a result with so many places
 unfoldable pub leftOf : LookupResult → Selection → Selection
-leftOf (LookupResult.Entry (Entity.Method m) flag) s = nothing
+leftOf (LookupResult.Entry (Entity.Method m) flag) s = nothingFound
 leftOf (LookupResult.Entry (Entity.Field m) flag) s = s
 leftOf LookupResult.Ambiguous s = s
 leftOf LookupResult.BadMethodReceiver s = s

@@ -4,9 +4,7 @@ pub mod missing;
 
 ghost use mathlib.Core.Path.{_≡_};
 ghost use mathlib.Core.Bool.{true, cond, _&&_};
-ghost use Prim.Native.Nat.{_<_, _≤_};
-ghost use lib.ListN.{length, replicate};
-ghost use Rattle.objects.specs.Bounds.{markWords, searchWords, maxPlaces};
+ghost use Prim.Native.Nat.{_<_};
 ghost use Rattle.objects.specs.Table.{hasPackage};
 ghost use Rattle.objects.specs.Rows.{typeCount, packageMeant, tableOf};
 ghost use Rattle.objects.specs.Types.{pointerRead, bareRead, ifaceRead};
@@ -14,7 +12,12 @@ ghost use Rattle.text.specs.Bytes.{isBlank};
 ghost use Rattle.rules.specs.Library.{Library};
 ghost use Rattle.rules.specs.Ways.{notfound, searched, select};
 ghost use Rattle.selection.specs.Results.{nameMeant, Selects};
+ghost use Rattle.walk_rows.specs.State.{Wide};
+ghost use Rattle.levels.specs.Hits.{Scratch};
 ghost use Rattle.lookup.specs.Answers.{withoutMethod};
+use levels::Start;
+use levels::search::search;
+use multiples::EmbeddedType;
 use objects::TypeKey;
 use objects::rows::bare;
 use objects::rows::iface_under;
@@ -72,8 +75,7 @@ fn without_method(s: Selection) -> Selection
 pub fn lookup_field_or_method_impl(
     text: &[u8],
     rows: &[u32],
-    marks: &mut [u32],
-    search: &mut [u32],
+    walk: &mut [EmbeddedType],
     places: &mut [u32],
     names: &[u8],
     q: Name,
@@ -82,10 +84,9 @@ pub fn lookup_field_or_method_impl(
 ) -> Selection
     requires { ⌜ Library (now text) (now rows) ⌝ }
     requires { ⌜ (t .0 < typeCount (now rows)) × (hasPackage (tableOf (now text) (now rows)) (packageMeant (q .pkg)) ≡ true) ⌝ }
-    requires { ⌜ (markWords ≤ length (now marks)) × (searchWords ≤ length (now search)) × (maxPlaces ≤ length (now places)) ⌝ }
-    requires { ⌜ now marks ≡ replicate (length (now marks)) 0 ⌝ }
+    requires { ⌜ Scratch (now rows) (now walk) (now places) ⌝ }
     ensures { λ r. ⌜ Selects (now (text .entry)) (now (rows .entry)) r (now (places .exit)) (cond (isBlank (nameMeant (now (text .entry)) (now (rows .entry)) (now (names .entry)) q .name)) notfound (searched (tableOf (now (text .entry)) (now (rows .entry))) (nameMeant (now (text .entry)) (now (rows .entry)) (now (names .entry)) q) t a)) ⌝ }
-    ensures { λ _. ⌜ now (marks .exit) ≡ now (marks .entry) ⌝ }
+    ensures { λ _. ⌜ Wide (now (walk .exit)) ⌝ }
 {
     if blank_name(text, rows, names, q) {
         return Selection {
@@ -101,15 +102,19 @@ pub fn lookup_field_or_method_impl(
     }
     let u = bare(rows, t);
     let f = pointer_at(rows, t);
-    levels::search::search(text, rows, marks, search, places, names, q, u, f, a)
+    let s = Start {
+        typ: u,
+        flag: f,
+        addressable: a,
+    };
+    search(text, rows, walk, places, names, q, s)
 }
 
 // S. "A t that is itself a named type whose u is a pointer is searched as that pointer."
 pub fn lookup_field_or_method(
     text: &[u8],
     rows: &[u32],
-    marks: &mut [u32],
-    search: &mut [u32],
+    walk: &mut [EmbeddedType],
     places: &mut [u32],
     names: &[u8],
     q: Name,
@@ -118,16 +123,15 @@ pub fn lookup_field_or_method(
 ) -> Selection
     requires { ⌜ Library (now text) (now rows) ⌝ }
     requires { ⌜ (t .0 < typeCount (now rows)) × (hasPackage (tableOf (now text) (now rows)) (packageMeant (q .pkg)) ≡ true) ⌝ }
-    requires { ⌜ (markWords ≤ length (now marks)) × (searchWords ≤ length (now search)) × (maxPlaces ≤ length (now places)) ⌝ }
-    requires { ⌜ now marks ≡ replicate (length (now marks)) 0 ⌝ }
+    requires { ⌜ Scratch (now rows) (now walk) (now places) ⌝ }
     ensures { λ r. ⌜ Selects (now (text .entry)) (now (rows .entry)) r (now (places .exit)) (select (tableOf (now (text .entry)) (now (rows .entry))) (nameMeant (now (text .entry)) (now (rows .entry)) (now (names .entry)) q) t a) ⌝ }
-    ensures { λ _. ⌜ now (marks .exit) ≡ now (marks .entry) ⌝ }
+    ensures { λ _. ⌜ Wide (now (walk .exit)) ⌝ }
 {
     if named_pointer(rows, t) {
         let u = under(rows, t);
-        let s = lookup_field_or_method_impl(text, rows, marks, search, places, names, q, u, a);
+        let s = lookup_field_or_method_impl(text, rows, walk, places, names, q, u, a);
         without_method(s)
     } else {
-        lookup_field_or_method_impl(text, rows, marks, search, places, names, q, t, a)
+        lookup_field_or_method_impl(text, rows, walk, places, names, q, t, a)
     }
 }

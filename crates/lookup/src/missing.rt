@@ -1,17 +1,21 @@
 // N: the first method of an interface that a type does not meet, as goscript's `missing_method`.
 ghost use mathlib.Core.Path.{_≡_};
 ghost use mathlib.Core.Bool.{true};
+ghost use mathlib.Core.List.{List};
 ghost use Prim.Native.Nat.{ℕ, _+_, _<_, _≤_};
 ghost use lib.ListN.{length, replicate};
-ghost use Rattle.objects.specs.Bounds.{markWords, searchWords, maxPlaces, maxElements};
+ghost use Rattle.objects.specs.Bounds.{markWords, maxElements};
 ghost use Rattle.objects.specs.Table.{objKey};
-ghost use Rattle.objects.specs.Rows.{Words, typeCount, memberAt, membersFrom, tableOf};
+ghost use Rattle.objects.specs.Rows.{typeCount, memberAt, membersFrom, tableOf};
 ghost use Rattle.objects.specs.Types.{ifaceRead, memberTypeRead};
 ghost use Rattle.rules.specs.Library.{Library};
 ghost use Rattle.rules.specs.Missing.{compared, unmetBy, unmet, firstUnmet, missing};
 ghost use Rattle.selection.specs.Results.{resultMeant, calledRight, Typed, missingMeant};
+ghost use Rattle.walk_rows.specs.State.{Wide};
+ghost use Rattle.levels.specs.Hits.{Scratch};
 ghost use Rattle.lookup.specs.Answers.{nameRead, InTable, lackOf};
 use crate::lookup_field_or_method;
+use multiples::EmbeddedType;
 use objects::ObjKey;
 use objects::TypeKey;
 use objects::rows::first_member;
@@ -103,7 +107,7 @@ fn unmet_by(
     requires { ⌜ Library (now text) (now rows) ⌝ }
     requires { ⌜ (memberTypeRead (now rows) m .0 < typeCount (now rows)) × Typed (now rows) result × (calledRight (now rows) result ≡ true) × (markWords ≤ length (now marks)) ⌝ }
     requires { ⌜ now marks ≡ replicate (length (now marks)) 0 ⌝ }
-    ensures { λ r. ⌜ ((places : Words) → missingMeant (now (text .entry)) (now (rows .entry)) r ≡ lackOf (memberAt (now (text .entry)) (now (rows .entry)) m) (unmetBy (tableOf (now (text .entry)) (now (rows .entry))) (memberAt (now (text .entry)) (now (rows .entry)) m) (resultMeant (now (text .entry)) (now (rows .entry)) result places))) ⌝ }
+    ensures { λ r. ⌜ ((first second : List ℕ) → missingMeant (now (text .entry)) (now (rows .entry)) r ≡ lackOf (memberAt (now (text .entry)) (now (rows .entry)) m) (unmetBy (tableOf (now (text .entry)) (now (rows .entry))) (memberAt (now (text .entry)) (now (rows .entry)) m) (resultMeant (now (text .entry)) (now (rows .entry)) result first second))) ⌝ }
     ensures { λ _. ⌜ now (marks .exit) ≡ now (marks .entry) ⌝ }
 {
     match result {
@@ -122,7 +126,7 @@ fn unmet(
     text: &[u8],
     rows: &[u32],
     marks: &mut [u32],
-    search: &mut [u32],
+    walk: &mut [EmbeddedType],
     places: &mut [u32],
     t: TypeKey,
     m: ObjKey,
@@ -130,16 +134,17 @@ fn unmet(
 ) -> Missing
     requires { ⌜ Library (now text) (now rows) ⌝ }
     requires { ⌜ (t .0 < typeCount (now rows)) × InTable (now text) (now rows) m ⌝ }
-    requires { ⌜ (markWords ≤ length (now marks)) × (searchWords ≤ length (now search)) × (maxPlaces ≤ length (now places)) ⌝ }
+    requires { ⌜ (markWords ≤ length (now marks)) × Scratch (now rows) (now walk) (now places) ⌝ }
     requires { ⌜ now marks ≡ replicate (length (now marks)) 0 ⌝ }
     ensures { λ r. ⌜ missingMeant (now (text .entry)) (now (rows .entry)) r ≡ lackOf (memberAt (now (text .entry)) (now (rows .entry)) m) (unmet (tableOf (now (text .entry)) (now (rows .entry))) t s (memberAt (now (text .entry)) (now (rows .entry)) m)) ⌝ }
     ensures { λ _. ⌜ now (marks .exit) ≡ now (marks .entry) ⌝ }
+    ensures { λ _. ⌜ Wide (now (walk .exit)) ⌝ }
 {
     if iface_under(rows, t) {
         return unmet_there(text, rows, marks, t, m, s);
     }
     let q = name_of(rows, m);
-    let found = lookup_field_or_method(text, rows, marks, search, places, text, q, t, false);
+    let found = lookup_field_or_method(text, rows, walk, places, text, q, t, false);
     let result = found.result;
     unmet_by(text, rows, marks, m, result)
 }
@@ -151,7 +156,7 @@ fn first_unmet(
     text: &[u8],
     rows: &[u32],
     marks: &mut [u32],
-    search: &mut [u32],
+    walk: &mut [EmbeddedType],
     places: &mut [u32],
     t: TypeKey,
     first: u32,
@@ -160,14 +165,14 @@ fn first_unmet(
 ) -> Missing
     requires { ⌜ Library (now text) (now rows) ⌝ }
     requires { ⌜ (t .0 < typeCount (now rows)) × ((i : ℕ) → i < n → InTable (now text) (now rows) (objKey (first + i))) × (first + n ≤ maxElements) ⌝ }
-    requires { ⌜ (markWords ≤ length (now marks)) × (searchWords ≤ length (now search)) × (maxPlaces ≤ length (now places)) ⌝ }
+    requires { ⌜ (markWords ≤ length (now marks)) × Scratch (now rows) (now walk) (now places) ⌝ }
     requires { ⌜ now marks ≡ replicate (length (now marks)) 0 ⌝ }
     ensures { λ r. ⌜ missingMeant (now (text .entry)) (now (rows .entry)) r ≡ firstUnmet (tableOf (now (text .entry)) (now (rows .entry))) t s (membersFrom (now (text .entry)) (now (rows .entry)) first n) ⌝ }
     ensures { λ _. ⌜ now (marks .exit) ≡ now (marks .entry) ⌝ }
 {
     let mut i = 0;
     while i < n {
-        match unmet(text, rows, marks, search, places, t, ObjKey(first + i), s) {
+        match unmet(text, rows, marks, walk, places, t, ObjKey(first + i), s) {
             Missing::Satisfied => {
                 i += 1;
             }
@@ -184,7 +189,7 @@ pub fn missing_method(
     text: &[u8],
     rows: &[u32],
     marks: &mut [u32],
-    search: &mut [u32],
+    walk: &mut [EmbeddedType],
     places: &mut [u32],
     t: TypeKey,
     i: TypeKey,
@@ -192,7 +197,7 @@ pub fn missing_method(
 ) -> Missing
     requires { ⌜ Library (now text) (now rows) ⌝ }
     requires { ⌜ (t .0 < typeCount (now rows)) × (i .0 < typeCount (now rows)) ⌝ }
-    requires { ⌜ (markWords ≤ length (now marks)) × (searchWords ≤ length (now search)) × (maxPlaces ≤ length (now places)) ⌝ }
+    requires { ⌜ (markWords ≤ length (now marks)) × Scratch (now rows) (now walk) (now places) ⌝ }
     requires { ⌜ now marks ≡ replicate (length (now marks)) 0 ⌝ }
     ensures { λ r. ⌜ missingMeant (now (text .entry)) (now (rows .entry)) r ≡ missing (tableOf (now (text .entry)) (now (rows .entry))) t i s ⌝ }
     ensures { λ _. ⌜ now (marks .exit) ≡ now (marks .entry) ⌝ }
@@ -201,7 +206,7 @@ pub fn missing_method(
         let u = under(rows, i);
         let first = first_member(rows, u);
         let n = member_total(rows, u);
-        first_unmet(text, rows, marks, search, places, t, first, n, s)
+        first_unmet(text, rows, marks, walk, places, t, first, n, s)
     } else {
         Missing::Satisfied
     }

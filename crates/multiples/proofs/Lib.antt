@@ -1,3 +1,1 @@
-pub mod Room
-pub mod LendArray
-pub mod WordLaws
+pub mod MarkLaws

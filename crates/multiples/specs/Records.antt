@@ -1,39 +1,63 @@
--- Records of the embedded types that a level reaches: the mark of one, a record of a row, and a record in five words.
-use mathlib.Core.Bool.{true, false}
+-- Level records: their words, and a level once the first record of a type is marked.
+use mathlib.Core.Bool.{cond}
 use mathlib.Core.List.{List, [], _∷_}
-use Prim.Native.Nat.{ℕ, _+_}
+use Prim.Native.Nat.{ℕ, _*_}
 use lib.Dec.{eqb}
-use lib.ListN.{getD}
-use Rattle.objects.specs.Table.{typeKey, bit}
+use lib.ListN.{set}
+use Rattle.objects.specs.Bounds.{maxTypes}
+use Rattle.objects.specs.declared.TypeKey.{TypeKey}
 use Rattle.objects.specs.Rows.{Words, wordAt}
-use Rattle.multiples.specs.declared.EmbeddedType.{EmbeddedType}
 
--- the record of a type that is reached again: nothing else of it changes
-abbrev pub marked : EmbeddedType → EmbeddedType
-marked e = record { typ = e .typ; parent = e .parent; place = e .place; indirect = e .indirect; multiples = true }
+-- two for each type
+abbrev pub maxRecords : ℕ
+maxRecords = 2 * maxTypes
 
--- ---- in a row
+-- ---- the words of a record
 
-abbrev pub zeroRec : EmbeddedType
-zeroRec = record { typ = typeKey 0; parent = 0; place = 0; indirect = false; multiples = false }
-
-abbrev pub recAt : List EmbeddedType → ℕ → EmbeddedType
-recAt l i = getD l i zeroRec
-
--- ---- in words
+abbrev pub Record : Type 0
+Record = Words
 
 abbrev pub recordWords : ℕ
-recordWords = 5
+recordWords = 8
 
-abbrev pub wordsOf : EmbeddedType → Words
-wordsOf e = e .typ .0 ∷ e .parent ∷ e .place ∷ bit (e .indirect) ∷ bit (e .multiples) ∷ []
+-- the type
+abbrev pub typColumn : ℕ
+typColumn = 0
 
--- the record in the five words from a place on; a word that is not there reads as 0
-unfoldable pub recOf : Words → ℕ → EmbeddedType
-recOf ws at = record {
-  typ = typeKey (wordAt ws at);
-  parent = wordAt ws (at + 1);
-  place = wordAt ws (at + 2);
-  indirect = eqb (wordAt ws (at + 3)) 1;
-  multiples = eqb (wordAt ws (at + 4)) 1;
-}
+-- the record that it was reached from
+abbrev pub parentColumn : ℕ
+parentColumn = 1
+
+-- the place of the embedded field there
+abbrev pub placeColumn : ℕ
+placeColumn = 2
+
+-- 1 if a pointer was removed on the way
+abbrev pub indirectColumn : ℕ
+indirectColumn = 3
+
+-- 1 if the level has another record of the type, further on
+abbrev pub multiplesColumn : ℕ
+multiplesColumn = 4
+
+-- the member that the embedded field is
+abbrev pub keyColumn : ℕ
+keyColumn = 5
+
+-- how many steps lead to it
+abbrev pub levelColumn : ℕ
+levelColumn = 6
+
+-- of record k: the number of type k's first record and one, 0 for none
+abbrev pub firstColumn : ℕ
+firstColumn = 7
+
+-- ---- the mark
+
+abbrev pub marked : Record → Record
+marked r = set r multiplesColumn 1
+
+-- the first record of the type is marked
+abbrev pub consolidated : List Record → TypeKey → List Record
+consolidated [] t = []
+consolidated (r ∷ rs) t = cond (eqb (wordAt r typColumn) (t .0)) (marked r ∷ rs) (r ∷ consolidated rs t)

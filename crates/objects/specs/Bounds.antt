@@ -63,14 +63,6 @@ markWords = 4_096
 abbrev pub workWords : ℕ
 workWords = markWords
 
--- selection: a row of six words for each type that a search reaches, then a word of two halves for each type that there may be: the lower half of word k
--- says which row type k has, the upper is the sign of row k's type
-abbrev pub searchRow : ℕ
-searchRow = 6
-
-abbrev pub searchWords : ℕ
-searchWords = 1_792
-
 -- method sets: a row of six words for each name, and a row of four for each type that says how it was first reached
 abbrev pub selRow : ℕ
 selRow = 6

@@ -29,9 +29,9 @@ pub entry-line : (m : Member) (flag : Bool) (places : List ℕ)
 unfolding numberLine
 entry-line m flag places = refl
 
-pub ambiguous-line : (places : List ℕ) → selectedBytes (ambiguous places) ≡ numberLine (ascii "ambiguous") places
+pub ambiguous-lines : (first second : List ℕ) → selectedBytes (ambiguous first second) ≡ numberLine (ascii "ambiguous") first ++ numberLine (ascii "and") second
 unfolding numberLine
-ambiguous-line places = refl
+ambiguous-lines first second = refl
 
 pub sel-line : (s : Sel) → selBytes s ≡ numberLine (ascii "sel") (s .member .key .0 ∷ bit (s .flag) ∷ s .places)
 unfolding numberLine

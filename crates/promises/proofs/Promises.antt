@@ -2,10 +2,10 @@
 -- (crate yifgrun, src/lib.rt) says that number, answer buffer and work area are those of `asked`, for every table, question, buffer and work area.
 use mathlib.Core.Path.{_≡_, ap, _∙_}
 use mathlib.Core.Bool.{Bool, true}
-use mathlib.Core.List.{map}
+use mathlib.Core.List.{List, map}
 use mathlib.Core.Logic.{_↔_}
 use mathlib.Core.Option.{Option, none}
-use Prim.Native.Nat.{_<_}
+use Prim.Native.Nat.{ℕ, _<_}
 use lib.ListN.{length}
 use borrow.Author.Tests.{ltb-true, lt-ltb, le-ltb, not-false}
 use Rattle.objects.specs.Bounds.{workWords}
@@ -16,8 +16,9 @@ use Rattle.objects.specs.Table.{Table, size, hasType, hasPackage, isIface, isNa
 use Rattle.objects.proofs.ListLaws.{and-l}
 use Rattle.objects.proofs.KindLaws.{iface-is, under-plain}
 use Rattle.rules.specs.Members.{identityFrom}
+use Rattle.rules.specs.Load.{load, loaded}
 use Rattle.rules.specs.Question.{Question, askS, askN, askI, askC, inTable}
-use Rattle.rules.specs.Ways.{Selected, select}
+use Rattle.rules.specs.Ways.{Selected, searchedAs, shortest, select}
 use Rattle.rules.specs.Identity.{identical}
 use Rattle.rules.specs.Comparable.{comparable}
 use Rattle.rules.specs.Missing.{Lack, missing}
@@ -28,7 +29,11 @@ use Rattle.rules.specs.Worked.{worked}
 use Rattle.rules.proofs.Computed as computed
 use Rattle.rules.proofs.Numbers.{outcome-bound, answered-fits}
 use Rattle.rules.proofs.Sounds.{loads-sound}
+use Rattle.walks.proofs.Loaded as walks
+use Rattle.goscript.specs.Lookup.{Ambiguous}
+use Rattle.goscript.specs.Agrees.{WhichWay}
 use Rattle.goscript.specs.Answer.{Unended, goscriptAnswer, Answers}
+use Rattle.goscript.specs.Answer as returns
 use Rattle.goscript.proofs.AnswersAre as goscript
 use Rattle.gospec.specs.Go.{Identical, Comparable}
 use Rattle.gospec.specs.GoSelectors.{OneStar}
@@ -37,7 +42,7 @@ use Rattle.gospec.proofs.Loaded as go
 use Rattle.growth.specs.Grown.{GrownTexts}
 use Rattle.growth.specs.Calls.{Lent, called, PutAgain, Said}
 use Rattle.growth.proofs.Promised.{asked-in, outcome-says, call-says, grown-calls}
-use Rattle.promises.specs.Demands.{CallGives, Answered, CallSays, GoSelects}
+use Rattle.promises.specs.Demands.{CallGives, Answered, CallSays, GoSelects, KeptWalks}
 
 -- ---- DEMAND 1: what every call gives
 
@@ -103,3 +108,18 @@ growth-promise = grown-calls
 
 pub worked-answers : map rows.called worked ≡ map rows.owed worked
 worked-answers = computed.worked-answers
+
+-- ---- document 02, point 1: both ways shown
+
+-- goscript's own way is one of the two: the first if another shortest way ends in a type identical to the first's, else the second
+pub which-way : (text : Bytes) (c : Lent) (T : Table) (t : TypeKey) (a : Bool) (pkg : Option PackageKey) (name : Bytes) → Answered text c T (askS t a pkg name)
+    → (out : Unended) (indices : List ℕ) → goscriptAnswer out T (askS t a pkg name) ≡ returns.selected (Ambiguous indices)
+    → (r : Selected) × CallSays text c (selected r) × WhichWay T (shortest T (identityFrom T pkg name) (searchedAs T t)) indices r
+unfolding answer
+which-way text c T t a pkg name h out indices e =
+    let q = askS t a pkg name in
+    (select T (identityFrom T pkg name) t a, call-answers text c T q h, goscript.which-way T (loads-sound text T (h .loads)) t a pkg name (in-table text c T q h) out indices e)
+
+-- S reads the kept walks, at most two to each type, and no others
+pub kept-walks : (text : Bytes) (T : Table) → load text ≡ loaded T → (t : TypeKey) → t .0 < size T → KeptWalks T t
+kept-walks text T h t in0 = record { twoEach = walks.two-each text T h t in0; few = walks.rows-few text T h t in0; read = walks.searched-kept text T h t in0 }

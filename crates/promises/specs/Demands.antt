@@ -1,19 +1,25 @@
 -- The words that the promises are said in: what a call gives, and when it answers a question.
 use mathlib.Core.Path.{_≡_}
-use mathlib.Core.Bool.{Bool, false}
+use mathlib.Core.Bool.{Bool, false, cond, _&&_}
+use mathlib.Core.List.{List, map}
 use mathlib.Core.Option.{Option, some}
-use Prim.Native.Nat.{ℕ, _≤_, _<_}
+use Prim.Native.Nat.{ℕ, _*_, _≤_, _<_}
 use lib.ListN.{length, replicate}
 use Rattle.objects.specs.Bounds.{workWords, refusalUnit}
 use Rattle.objects.specs.Lists.{Bytes}
 use Rattle.objects.specs.declared.TypeKey.{TypeKey}
 use Rattle.objects.specs.declared.PackageKey.{PackageKey}
-use Rattle.objects.specs.Table.{Table}
+use Rattle.objects.specs.Table.{Table, size, bare, pointerAt, ifaceUnder}
+use Rattle.rules.specs.Members.{Identity}
 use Rattle.rules.specs.Load.{load, loaded}
 use Rattle.rules.specs.Question.{Question, questionOf}
-use Rattle.rules.specs.Ways.{Selected}
+use Rattle.rules.specs.Ways.{Selected, notfound, judged, searched}
 use Rattle.rules.specs.Answer.{Answer, answer, answerBytes}
 use Rattle.rules.specs.Asked.{outcome, refuse, say, refusal, wrongSecond}
+use Rattle.ways.specs.OfTable.{graph}
+use Rattle.walks.specs.Kept.{count}
+use Rattle.walks.specs.Rows.{Row, keptRows}
+use Rattle.walks.specs.Reads.{keptWays}
 use Rattle.gospec.specs.GoSelectors.{OneStar}
 use Rattle.gospec.specs.Says.{Says, Alike}
 use Rattle.growth.specs.Calls.{Lent, called, answersWith}
@@ -50,3 +56,16 @@ CallSays text c r = called text c ≡ answersWith (answerBytes r) c
 pub record GoSelects (T : Table) (t : TypeKey) (a : Bool) (pkg : Option PackageKey) (name : Bytes) (r : Selected) : Type 0 where
   pub gives : Says T (OneStar T) name pkg t a r
   pub alone : (s : Selected) → Says T (OneStar T) name pkg t a s → Alike s r
+
+-- ---- document 02, point 1
+
+-- the rows of the kept walks from t on, one pointer removed, whatever name is asked for
+abbrev pub rowsFrom : Table → TypeKey → List Row
+rowsFrom T t = keptRows (graph T) (bare T t) (pointerAt T t)
+
+-- No type has three of them, so that they are at most twice as many as types, and S reads them alone (`searched`: what S asks of t, or of the pointer type that
+-- t names).
+pub record KeptWalks (T : Table) (t : TypeKey) : Type 0 where
+  pub twoEach : (u : TypeKey) → count u (map (λ r. r .type) (rowsFrom T t)) ≤ 2
+  pub few : length (rowsFrom T t) ≤ 2 * size T
+  pub read : (q : Identity) (a : Bool) → searched T q t a ≡ cond (pointerAt T t && ifaceUnder T (bare T t)) notfound (judged a (keptWays T q t))

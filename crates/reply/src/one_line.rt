@@ -1,16 +1,15 @@
 // Answers of one line: a word and numbers, refused by 13 if the buffer is too short.
 ghost use mathlib.Core.Path.{_≡_};
 ghost use mathlib.Core.List.{[]};
-ghost use Prim.Native.Nat.{_+_, _≤_};
-ghost use lib.ListN.{length, take, drop};
-ghost use Rattle.objects.specs.Bounds.{maxPlaces};
+ghost use Prim.Native.Nat.{_≤_};
+ghost use lib.ListN.{length, take};
 ghost use Rattle.objects.specs.Lists.{Bytes};
 ghost use Rattle.objects.specs.Rows.{Words, packageCount, typeCount, memberCountOf};
 ghost use Rattle.objects.specs.Table.{bit};
 ghost use Rattle.print.specs.Written.{maxWord, maxFields, numberLine};
-ghost use Rattle.rules.specs.Answer.{selected, lackAnswer, says, counts, answerBytes};
+ghost use Rattle.rules.specs.Answer.{lackAnswer, says, counts, answerBytes};
 ghost use Rattle.rules.specs.Asked.{fitted};
-ghost use Rattle.selection.specs.Results.{keyOf, resultMeant, missingMeant};
+ghost use Rattle.selection.specs.Results.{missingMeant};
 ghost use Rattle.reply.specs.Done.{Does};
 use crate::Done;
 use objects::rows::member_count;
@@ -18,10 +17,7 @@ use objects::rows::package_count;
 use objects::rows::type_count;
 use print::line_length;
 use print::put_line;
-use selection::Entity;
-use selection::LookupResult;
 use selection::Missing;
-use selection::Selection;
 
 // The word and the first n numbers.
 pub fn say(answer: &mut [u8], word: &[u8], ns: &[u32], n: usize) -> Done
@@ -37,7 +33,7 @@ pub fn say(answer: &mut [u8], word: &[u8], ns: &[u32], n: usize) -> Done
 }
 
 // The word alone.
-fn say_word(answer: &mut [u8], word: &[u8]) -> Done
+pub fn say_word(answer: &mut [u8], word: &[u8]) -> Done
     requires { ⌜ length (now word) ≤ maxWord ⌝ }
     ensures { λ r. ⌜ Does (fitted (length (now (answer .entry))) (numberLine (now (word .entry)) [])) r (now (answer .entry)) (now (answer .exit)) ⌝ }
 {
@@ -66,39 +62,10 @@ pub fn say_counts(answer: &mut [u8], rows: &[u32]) -> Done
     say(answer, b"ok", &numbers, 3)
 }
 
-// The number of a member, whatever it is.
-fn number_of(e: Entity) -> u32
-    ensures { λ r. ⌜ r ≡ keyOf e .0 ⌝ }
-{
-    match e {
-        Entity::Method(m) => m.0,
-        Entity::Field(m) => m.0,
-    }
-}
-
-fn flag_number(b: bool) -> u32
+pub fn flag_number(b: bool) -> u32
     ensures { λ r. ⌜ r ≡ bit b ⌝ }
 {
     if b { 1 } else { 0 }
-}
-
-// S. The places stand behind two words that are free for the member and the flag.
-pub fn say_selected(answer: &mut [u8], s: Selection, numbers: &mut [u32]) -> Done
-    requires { ⌜ (s .count ≤ maxPlaces) × (maxPlaces + 2 ≤ length (now numbers)) ⌝ }
-    ensures { λ r. ⌜ ((text : Bytes) (rows : Words) → Does (fitted (length (now (answer .entry))) (answerBytes (selected (resultMeant text rows (s .result) (take (s .count) (drop 2 (now (numbers .entry)))))))) r (now (answer .entry)) (now (answer .exit))) ⌝ }
-{
-    let count = s.count;
-    let result = s.result;
-    match result {
-        LookupResult::Entry(e, flag) => {
-            numbers[0] = number_of(e);
-            numbers[1] = flag_number(flag);
-            say(answer, b"entry", numbers, count + 2)
-        }
-        LookupResult::Ambiguous => say(answer, b"ambiguous", &numbers[2..], count),
-        LookupResult::BadMethodReceiver => say_word(answer, b"badreceiver"),
-        LookupResult::NotFound => say_word(answer, b"notfound"),
-    }
 }
 
 // N.

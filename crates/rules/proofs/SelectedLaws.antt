@@ -8,4 +8,4 @@ pub no-method-ambiguous : (s : Selected) → isAmbiguous (noMethod s) ≡ isAmbi
 no-method-ambiguous notfound = refl
 no-method-ambiguous badreceiver = refl
 no-method-ambiguous (entry m flag places) = cases (isMethod (m .entity)) (λ e. rw e) (λ e. rw e)
-no-method-ambiguous (ambiguous places) = refl
+no-method-ambiguous (ambiguous first second) = refl

@@ -64,7 +64,7 @@ abbrev pub selectedBytes : Selected → Bytes
 selectedBytes notfound = lineBytes (ascii "notfound") []
 selectedBytes badreceiver = lineBytes (ascii "badreceiver") []
 selectedBytes (entry m flag places) = lineBytes (ascii "entry") (memberBytes m ∷ flagBytes flag ∷ map decimal places)
-selectedBytes (ambiguous places) = lineBytes (ascii "ambiguous") (map decimal places)
+selectedBytes (ambiguous first second) = lineBytes (ascii "ambiguous") (map decimal first) ++ lineBytes (ascii "and") (map decimal second)
 
 abbrev pub selBytes : Sel → Bytes
 selBytes s = lineBytes (ascii "sel") (memberBytes (s .member) ∷ flagBytes (s .flag) ∷ map decimal (s .places))

@@ -29,7 +29,7 @@ module _ (T : Table) where
   unmetBy m notfound = some false
   unmetBy m badreceiver = some false
   unmetBy m (entry found flag places) = cond (isMethod (found .entity)) (compared m found) (some false)
-  unmetBy m (ambiguous places) = some false
+  unmetBy m (ambiguous first second) = some false
 
   -- none: t meets the method m; some w: it does not. "Other t: S with a 0 and the method's own package"
   unfoldable pub unmet : TypeKey → Bool → Member → Option Bool

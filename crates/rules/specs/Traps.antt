@@ -33,11 +33,11 @@ hidden =
 abbrev pub traps : List Run
 traps =
     -- "taking the first of two equal-length ways"
-    run eachOwns ("S 6 0 - X" ⏎ []) ("ambiguous 1 0" ⏎ [])
+    run eachOwns ("S 6 0 - X" ⏎ []) ("ambiguous 0 0" ⏎ "and 1 0" ⏎ [])
     -- "not passing "reached twice" down to embedded types": D reaches C twice, and G, which has Run, lies below C
-    ∷ run methods ("S 10 0 - Run" ⏎ "M 10" ⏎ "S 6 0 - Run" ⏎ []) ("ambiguous 0 0 0 0" ⏎ "set 0" ⏎ "entry 0 0 0 0 0" ⏎ [])
+    ∷ run methods ("S 10 0 - Run" ⏎ "M 10" ⏎ "S 6 0 - Run" ⏎ []) ("ambiguous 0 0 0 0" ⏎ "and 1 0 0 0" ⏎ "set 0" ⏎ "entry 0 0 0 0 0" ⏎ [])
     -- "marking a type as seen before all ways to it on its level are counted"
-    ∷ run diamond ("S 8 0 - X" ⏎ []) ("ambiguous 0 0 0" ⏎ [])
+    ∷ run diamond ("S 8 0 - X" ⏎ []) ("ambiguous 0 0 0" ⏎ "and 1 0 0" ⏎ [])
     -- "counting the found field's own pointer in the flag": In is a pointer, found at once; x lies behind it
     ∷ run hidden ("S 5 0 0 In" ⏎ "S 5 0 0 x" ⏎ []) ("entry 2 0 0" ⏎ "entry 0 1 0 0" ⏎ [])
     -- "giving an unexported name of another package"
@@ -95,10 +95,10 @@ readings =
     -- the form of S: no package, or one of the table, also for an exported name; `_` has the form of a name; 64 bytes at most, no digit first, not empty
     ∷ run office ("S 7 0 - Close" ⏎ "S 7 0 1 Close" ⏎ "S 7 0 0 _" ⏎ "S 7 0 0 1x" ⏎ "S 7 0 0 " ⏎ []) ("entry 0 1 0 0" ⏎ "refused 11 0" ⏎ "notfound" ⏎ "refused 11 0" ⏎ "refused 11 0" ⏎ [])
     ∷ run office (spaced "S 7 0 0 " ++ replicate 64 120 ++ "" ⏎ spaced "S 7 0 0 " ++ replicate 65 120 ++ "" ⏎ []) ("notfound" ⏎ "refused 11 0" ⏎ [])
-    -- "ends in a type identical to the first's": two names of one struct are not identical
-    ∷ run ("typetable 1" ⏎ "T basic 2" ⏎ "T struct" ⏎ "F X - 0 0" ⏎ "T named 1" ⏎ "T named 1" ⏎ "T struct" ⏎ "F A - 2 1" ⏎ "F B - 3 1" ⏎ []) ("S 4 0 - X" ⏎ []) ("ambiguous 1 0" ⏎ [])
-    -- "another shortest": the third ends in a type identical to the first's, the second does not
-    ∷ run ends ("S 4 0 - X" ⏎ "I 1 3" ⏎ "I 1 2" ⏎ []) ("ambiguous 0 0" ⏎ "yes" ⏎ "no" ⏎ [])
+    -- both ways are shown, whether their ends are identical or not: two names of one struct are not
+    ∷ run ("typetable 1" ⏎ "T basic 2" ⏎ "T struct" ⏎ "F X - 0 0" ⏎ "T named 1" ⏎ "T named 1" ⏎ "T struct" ⏎ "F A - 2 1" ⏎ "F B - 3 1" ⏎ []) ("S 4 0 - X" ⏎ "I 2 3" ⏎ []) ("ambiguous 0 0" ⏎ "and 1 0" ⏎ "no" ⏎ [])
+    -- "the next one in the order of places": the second, and not the third, which ends in a type identical to the first's
+    ∷ run ends ("S 4 0 - X" ⏎ "I 1 3" ⏎ "I 1 2" ⏎ []) ("ambiguous 0 0" ⏎ "and 1 0" ⏎ "yes" ⏎ "no" ⏎ [])
     -- M: one field at a level neither gives nor hides; 7 has the field X itself, and embeds K
     ∷ run (levels ("T struct" ⏎ "F X - 0 0" ⏎ "F K - 5 1" ⏎ "T named 6" ⏎ [])) ("M 7" ⏎ []) ("set 1" ⏎ "sel 1 0 1 0" ⏎ [])
     -- .. two fields hide for good: 8 has two ways to s, and one to K a level below

@@ -9,7 +9,6 @@ use Rattle.objects.specs.declared.ObjKey.{ObjKey}
 use Rattle.objects.specs.Table.{Table, sameType, size, isMethod, isEmbedded, hasPtr, Member, fieldsOf, declaredOf, kindAt, under, bare, pointerAt, ifaceUnder, namedPointer, allMethods}
 use Rattle.rules.specs.Members.{Identity, identityOf, sameId}
 use Rattle.rules.specs.Chains.{once}
-use Rattle.rules.specs.Identity.{identical}
 
 -- a member at its place in the list that it stands in
 pub record Place : Type 0 where
@@ -41,21 +40,21 @@ memberOf w = w .last .member
 pub data Selected : Type 0 where
   notfound badreceiver : Selected
   entry : Member → (flag : Bool) (places : List ℕ) → Selected
-  ambiguous : (places : List ℕ) → Selected
+  ambiguous : (first second : List ℕ) → Selected
 
 -- the answer is `ambiguous`, whatever ways it shows
 abbrev pub isAmbiguous : Selected → Bool
 isAmbiguous notfound = false
 isAmbiguous badreceiver = false
 isAmbiguous (entry m flag places) = false
-isAmbiguous (ambiguous places) = true
+isAmbiguous (ambiguous first second) = true
 
 -- the places of each way that the answer shows
 abbrev pub given : Selected → List (List ℕ)
 given notfound = []
 given badreceiver = []
 given (entry m flag places) = places ∷ []
-given (ambiguous places) = places ∷ []
+given (ambiguous first second) = first ∷ second ∷ []
 
 -- "`entry`, member, flag, places. But `badreceiver` if it is a method with pointer receiver, the flag is 0 and a is 0."
 abbrev pub received : (a : Bool) → Member → (flag : Bool) (places : List ℕ) → Selected
@@ -65,22 +64,19 @@ received a m flag places = cond (hasPtr (m .entity) && not flag && not a) badrec
 abbrev pub single : Bool → Way → Selected
 single a w = received a (memberOf w) (w .walk .flag) (placesOf w)
 
--- "Two or more shortest: `ambiguous` and places .. The first is given if another shortest ends in a type identical to the first's, otherwise the second."
-abbrev pub tied : (twin : Bool) (first second : Way) → Selected
-tied twin w v = ambiguous (cond twin (placesOf w) (placesOf v))
-
--- what the shortest ways give, in the order of their places; `same` tells which types are identical
-abbrev pub judgedBy : (TypeKey → TypeKey → Bool) → Bool → List Way → Selected
-judgedBy same a [] = notfound
-judgedBy same a (w ∷ []) = single a w
-judgedBy same a (w ∷ v ∷ rest) = tied (any (λ x. same (w .walk .at) (x .walk .at)) (v ∷ rest)) w v
+-- What the shortest ways give, in the order of their places. Document 02, point 1: "An `ambiguous` answer now carries the first shortest way, and a second
+-- line, `and`, carries the next one in the order of places." Which types are identical plays no part.
+abbrev pub judged : Bool → List Way → Selected
+judged a [] = notfound
+judged a (w ∷ []) = single a w
+judged a (w ∷ v ∷ rest) = ambiguous (placesOf w) (placesOf v)
 
 -- "an `entry` that is a method becomes `notfound`"
 abbrev pub noMethod : Selected → Selected
 noMethod notfound = notfound
 noMethod badreceiver = badreceiver
 noMethod (entry m flag places) = cond (isMethod (m .entity)) notfound (entry m flag places)
-noMethod (ambiguous places) = ambiguous places
+noMethod (ambiguous first second) = ambiguous first second
 
 module _ (T : Table) where
   -- the fields of the struct that t is or names: "A named type stands also for its u."
@@ -115,12 +111,13 @@ module _ (T : Table) where
   walks t zero = start t ∷ []
   walks t (suc d) = flat onward (walks t d)
 
+  -- "A t that is itself a named type whose u is a pointer is searched as that pointer"
+  abbrev pub searchedAs : TypeKey → TypeKey
+  searchedAs t = cond (namedPointer T t) (under T t) t
+
   -- the types that one step from a type leads to
   abbrev pub targets : TypeKey → List TypeKey
   targets t = map (λ p. bare T (p .member .type)) (embedded t)
-
-  unfoldable pub judged : Bool → List Way → Selected
-  judged a ws = judgedBy (identical T) a ws
 
   module _ (asked : Identity) where
     abbrev pub matching : TypeKey → List Place
@@ -152,7 +149,7 @@ module _ (T : Table) where
     unfoldable pub searched : TypeKey → Bool → Selected
     searched t a = cond (pointerAt T t && ifaceUnder T (bare T t)) notfound (judged a (shortest t))
 
-    -- S: "`_` ..: `notfound`"; "A t that is itself a named type whose u is a pointer is searched as that pointer"
+    -- S: "`_` ..: `notfound`"; a named pointer type is searched as that pointer, and gives no method
     unfoldable pub select : TypeKey → Bool → Selected
     select t a =
         cond (isBlank (asked .name)) notfound

@@ -1,4 +1,4 @@
--- The worked answers of document 01, as rows of one table.
+-- The worked answers of document 01, as rows of one table; its two ambiguous ones with both ways, as document 02, point 1, has them.
 use mathlib.Core.List.{List, [], _∷_}
 use Rattle.objects.specs.Lists.{Bytes}
 use Rattle.rules.specs.Rows.{Case, case, _⏎_}
@@ -54,7 +54,7 @@ worked =
     ∷ case office "M 5" ("set 1" ⏎ "sel 0 1 0" ⏎ [])
     ∷ case office "M 7" ("set 1" ⏎ "sel 0 1 0 0" ⏎ [])
     ∷ case office "C 2" ("no" ⏎ [])
-    ∷ case diamond "S 8 0 - X" ("ambiguous 0 0 0" ⏎ [])
-    ∷ case eachOwns "S 6 0 - X" ("ambiguous 1 0" ⏎ [])
+    ∷ case diamond "S 8 0 - X" ("ambiguous 0 0 0" ⏎ "and 1 0 0" ⏎ [])
+    ∷ case eachOwns "S 6 0 - X" ("ambiguous 0 0" ⏎ "and 1 0" ⏎ [])
     ∷ case basics "I 0 1" ("yes" ⏎ [])
     ∷ []

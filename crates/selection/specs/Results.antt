@@ -4,7 +4,7 @@ use mathlib.Core.Bool.{Bool, true, not}
 use mathlib.Core.List.{List, [], _∷_}
 use mathlib.Core.Option.{Option, none, some}
 use Prim.Native.Nat.{ℕ, _≤_, _<_}
-use lib.ListN.{take}
+use lib.ListN.{take, drop}
 use Rattle.objects.specs.Bounds.{maxPlaces}
 use Rattle.objects.specs.Lists.{Bytes}
 use Rattle.objects.specs.declared.ObjKey.{ObjKey}
@@ -42,12 +42,12 @@ unfoldable pub keyOf : Entity → ObjKey
 keyOf (Entity.Method m) = m
 keyOf (Entity.Field m) = m
 
--- the selection of the rules, with the places given
-unfoldable pub resultMeant : Bytes → Words → LookupResult → List ℕ → Selected
-resultMeant text rows (LookupResult.Entry e flag) places = entry (memberAt text rows (keyOf e)) flag places
-resultMeant text rows LookupResult.Ambiguous places = ambiguous places
-resultMeant text rows LookupResult.BadMethodReceiver places = badreceiver
-resultMeant text rows LookupResult.NotFound places = notfound
+-- the selection of the rules, with the places of the first way and, where there are two, of the second
+unfoldable pub resultMeant : Bytes → Words → LookupResult → (first second : List ℕ) → Selected
+resultMeant text rows (LookupResult.Entry e flag) first second = entry (memberAt text rows (keyOf e)) flag first
+resultMeant text rows LookupResult.Ambiguous first second = ambiguous first second
+resultMeant text rows LookupResult.BadMethodReceiver first second = badreceiver
+resultMeant text rows LookupResult.NotFound first second = notfound
 
 -- an entry is called a method exactly if its line is an M line
 unfoldable pub calledRight : Words → LookupResult → Bool
@@ -64,9 +64,13 @@ Typed rows LookupResult.Ambiguous = Unit {0}
 Typed rows LookupResult.BadMethodReceiver = Unit {0}
 Typed rows LookupResult.NotFound = Unit {0}
 
--- the selection r, with its places in front of a lent row, is the one that is due
+-- the second way's places, as many as the first's, stand behind the room for the first's
+abbrev pub secondOf : Words → Words
+secondOf places = drop maxPlaces places
+
+-- the selection r, with the places of its ways in a lent row, is the one that is due
 pub record Selects (text : Bytes) (rows : Words) (r : Selection) (places : Words) (due : Selected) : Type 0 where
-  pub says : resultMeant text rows (r .result) (take (r .count) places) ≡ due
+  pub says : resultMeant text rows (r .result) (take (r .count) places) (take (r .count) (secondOf places)) ≡ due
   pub fits : r .count ≤ maxPlaces
   pub called : calledRight rows (r .result) ≡ true
   pub typed : Typed rows (r .result)

@@ -41,11 +41,14 @@ pub enum LookupResult {
     NotFound,
 }
 
-// The result, and how many places of a lent row are the way's.
+// The result, and how many places a way has: those of the first stand in front of a lent row, those of the second, which has as many, MAX_PLACES further on.
 pub struct Selection {
     pub result: LookupResult,
     pub count: usize,
 }
+
+// "256 places in a way": the room for the first way's places
+pub const MAX_PLACES: usize = 256;
 
 // A member of a type itself, at its place in the list that it stands in.
 pub enum Own {

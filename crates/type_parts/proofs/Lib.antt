@@ -4,4 +4,3 @@ pub mod StepAt
 pub mod MemberRead
 pub mod Rank
 pub mod KinLaws
-pub mod SignLaws

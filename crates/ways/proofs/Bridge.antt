@@ -1,7 +1,5 @@
--- The rules' walks, ways and selection are those of the table's graph.
+-- The rules' walks and ways are those of the table's graph.
 use mathlib.Core.Path.{_≡_, refl, sym, ap, _∙_}
-use mathlib.Core.Bool.{Bool}
-use mathlib.Core.List.{List}
 use Prim.Native.Nat.{ℕ, zero, suc}
 use Rattle.objects.specs.Lists.{flat}
 use Rattle.objects.proofs.ListLaws.{map-map, flat-In-ext}
@@ -9,7 +7,7 @@ use Rattle.objects.specs.declared.TypeKey.{TypeKey}
 use Rattle.objects.specs.Table.{Table}
 use Rattle.rules.specs.Members.{Identity}
 use Rattle.rules.specs.Ways as rules
-use Rattle.rules.specs.Ways.{Walk, Way, onward, walks, ways, judged}
+use Rattle.rules.specs.Ways.{Walk, onward, walks, ways}
 use Rattle.ways.specs.Graph as over
 use Rattle.ways.specs.OfTable.{graph, stepOf}
 
@@ -28,7 +26,3 @@ module _ (T : Table) where
   pub ways-are : (q : Identity) (t : TypeKey) (d : ℕ) → ways T q t d ≡ over.ways (graph T) q (rules.start T t) d
   unfolding ways
   ways-are q t d = ap (flat (over.ends (graph T) q)) (walks-are t d)
-
-  pub judged-is : (a : Bool) (ws : List Way) → judged T a ws ≡ over.judge (graph T) a ws
-  unfolding judged
-  judged-is a ws = refl

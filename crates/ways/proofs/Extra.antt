@@ -1,18 +1,16 @@
 -- Further readings of the walks and of the levels, for the code's loops.
-use mathlib.Core.Path.{_≡_, refl, sym, ap, ap₂, _∙_, subst}
-use mathlib.Core.Bool.{Bool, true, false, cond, not, _&&_, _||_}
-use mathlib.Core.List.{List, [], _∷_, _++_, map, append-nil, append-assoc}
-use mathlib.Core.Logic.{_⊎_, inl, inr}
-use Prim.Native.Nat.{ℕ, zero, suc, _+_, _≤_, _<_}
-use native.Mathlib.Omega.{arith}
+use mathlib.Core.Path.{_≡_, refl, sym, ap, ap₂, _∙_}
+use mathlib.Core.Bool.{Bool, true, false, cond, not, _||_}
+use mathlib.Core.List.{List, [], _∷_, _++_, map, append-nil}
+use mathlib.Core.Logic.{inl, inr}
+use Prim.Native.Nat.{ℕ, zero, suc, _+_}
 use Rattle.objects.specs.Lists.{any, keep, flat, In}
-use Rattle.objects.proofs.ListLaws.{cases, clash, or-false, or-true, any-In, any-none, none-In, remove-none, keep-none, In-keep, any-yes, flat-append, map-In, any-ext, keep-keep, keep-ext, any-In-ext, or-l, or-r}
+use Rattle.objects.proofs.ListLaws.{cases, clash, or-false, any-none, none-In, keep-none, In-keep, flat-append, any-ext, any-In-ext, or-l, or-r}
 use Rattle.objects.specs.declared.TypeKey.{TypeKey}
-use Rattle.rules.specs.Members.{Identity}
-use Rattle.rules.specs.Ways.{Walk, Way, notfound, Selected}
-use Rattle.ways.specs.Graph.{Graph, Step, along, onward, walks}
-use Rattle.ways.specs.Levels.{EmbeddedType, at, mark, raw, twin, merge, next, search-levels, unseen}
-use Rattle.ways.proofs.Merge.{Lawful, Class, join, merge-append, merge-keep, any-merge, merge-next}
+use Rattle.rules.specs.Ways.{Walk}
+use Rattle.ways.specs.Graph.{Graph, Step, onward, walks}
+use Rattle.ways.specs.Levels.{EmbeddedType, at, mark, twin, merge}
+use Rattle.ways.proofs.Merge.{Lawful, merge-append, merge-keep, any-merge}
 
 -- ---- the first step first: the other way to list walks
 
@@ -72,18 +70,6 @@ alike-pairs same cg u [] [] p = refl
 alike-pairs same cg u [] (t ∷ ts) p = absurd p
 alike-pairs same cg u (s ∷ ss) [] p = absurd p
 alike-pairs same cg u (s ∷ ss) (t ∷ ts) p = ap₂ (λ a b. a || b) (cg u (s .target) (t .target) (p .0)) (alike-pairs same cg u ss ts (p .1))
-
--- ---- an empty level is the end
-
-pub level-empty : (G : Graph) (skip : List TypeKey → TypeKey → Bool) (key : Identity) (a : Bool) (k : ℕ) (seen : List TypeKey) → search-levels G skip key a k seen [] ≡ notfound
-level-empty G skip key a zero seen = refl
-level-empty G skip key a (suc k) seen = level-empty G skip key a k seen
-
--- ---- for M: walks that leave out what q leaves out may be merged at every level
-
-pub merge-level : (G : Graph) → Lawful G → (q : TypeKey → Bool) → Class G q → (P : List EmbeddedType)
-    → merge G (flat (next G) (keep (λ r. q (at r)) (merge G P))) ≡ merge G (flat (next G) (keep (λ r. q (at r)) P))
-merge-level G law q c P = rw (← merge-keep G law q c P) (merge-next G law (keep (λ r. q (at r)) P))
 
 -- ---- marking the first identical one only, as the code does
 

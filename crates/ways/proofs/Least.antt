@@ -1,17 +1,16 @@
 -- `select` without its bound: what it gives is told by the least length that has a way, among all lengths.
-use mathlib.Core.Path.{_≡_, refl, sym, ap, ap₂, _∙_, subst}
-use mathlib.Core.Bool.{Bool, true, false}
-use mathlib.Core.List.{List, [], _∷_, _++_, map, cons≢nil}
+use mathlib.Core.Path.{_≡_, refl, sym, ap, _∙_}
+use mathlib.Core.Bool.{Bool}
+use mathlib.Core.List.{List, [], _∷_, cons≢nil}
 use mathlib.Core.Logic.{_⊎_, inl, inr}
 use Prim.Native.Nat.{ℕ, zero, suc, _+_, _≤_, _<_}
 use native.Mathlib.Omega.{arith}
 use native.Mathlib.Decide.{decLt}
-use Rattle.objects.specs.Lists.{In}
 use Rattle.objects.proofs.ListLaws.{cases, clash, In-keep}
 use Rattle.objects.specs.declared.TypeKey.{TypeKey}
 use Rattle.rules.specs.Members.{Identity}
-use Rattle.rules.specs.Ways.{Walk, Way, notfound, Selected}
-use Rattle.ways.specs.Graph.{Graph, walks, ways, shortest, judge, start, select}
+use Rattle.rules.specs.Ways.{Walk, Way, notfound, judged}
+use Rattle.ways.specs.Graph.{Graph, walks, ways, shortest, start, select}
 use Rattle.ways.specs.Levels.{raw}
 use Rattle.ways.proofs.Merge.{Lawful}
 use Rattle.ways.proofs.Same.{Keyed, reached, hits, later, hit-fresh, has, NoneYet, good}
@@ -87,8 +86,8 @@ module _ (G : Graph) (law : Lawful G) (cl : Closed G) (r0 : Walk) (in0 : r0 .at 
 
 -- WHAT SELECT GIVES, over all lengths
 module _ (G : Graph) (law : Lawful G) (cl : Closed G) (t : TypeKey) (in0 : t .0 < G .size) (f a : Bool) (key : Identity) (kd : Keyed G key) where
-  pub select-least : (d : ℕ) → Least G key (start t f) d → select G key t f a ≡ judge G a (ways G key (start t f) d)
-  select-least d l = ap (judge G a) (shortest-least G law cl (start t f) in0 key kd d l)
+  pub select-least : (d : ℕ) → Least G key (start t f) d → select G key t f a ≡ judged a (ways G key (start t f) d)
+  select-least d l = ap (judged a) (shortest-least G law cl (start t f) in0 key kd d l)
 
   pub select-none : ((j : ℕ) → ways G key (start t f) j ≡ []) → select G key t f a ≡ notfound
-  select-none h = ap (judge G a) (shortest-nothing G law cl (start t f) in0 key kd h)
+  select-none h = ap (judged a) (shortest-nothing G law cl (start t f) in0 key kd h)

@@ -7,9 +7,6 @@ pub mod Extra
 pub mod Bridge
 pub mod LevelTest
 pub mod AllWays
-pub mod Early
-pub mod SearchRows
-pub mod Room
 pub mod TableLaws
 pub mod Selects
 pub mod Loaded

@@ -1,18 +1,17 @@
--- The search level by level gives what the ways say.
+-- The search level by level tells what is told of the shortest ways (`folded`).
 use mathlib.Core.Path.{_≡_, refl, sym, ap, ap₂, _∙_}
-use mathlib.Core.Bool.{Bool, true, false, cond, not, _&&_, _||_}
-use mathlib.Core.List.{List, [], _∷_, _++_, map, append-assoc}
-use mathlib.Core.Logic.{_⊎_, inl, inr}
+use mathlib.Core.Bool.{Bool, true, false, not, _&&_, _||_}
+use mathlib.Core.List.{List, [], _∷_, _++_, map}
 use Prim.Native.Nat.{ℕ, zero, suc}
 use Rattle.objects.specs.Table.{sameType}
 use Rattle.objects.proofs.KeyLaws.{same-key}
 use Rattle.objects.specs.Lists.{any, keep, flat, In}
-use Rattle.objects.proofs.ListLaws.{cases, clash, or-assoc, or-false, or-true, not-or, any-append, keep-append, keep-keep, keep-swap, keep-weaker, any-keep, keep-none, remove-none, any-ext, keep-ext, any-map, keep-map, any-flat, keep-flat, map-append, any-In, any-none, none-In, some-In, map-In, map-map, keep-yes, un-not, any-yes, or-l, or-r, any-sub}
+use Rattle.objects.proofs.ListLaws.{cases, clash, or-true, any-append, keep-weaker, any-ext, any-map, keep-map, any-flat, keep-flat, map-append, any-In, any-none, none-In, some-In, map-map, un-not, any-yes, or-l, any-sub}
 use Rattle.objects.specs.declared.TypeKey.{TypeKey}
 use Rattle.rules.specs.Members.{Identity}
-use Rattle.rules.specs.Ways.{Place, Walk, Way, notfound, ambiguous, single, placesOf, Selected}
-use Rattle.ways.specs.Graph.{Graph, Step, along, onward, walks, matching, ends, ways, shortest, judge, start, select}
-use Rattle.ways.specs.Levels.{EmbeddedType, at, mark, raw, twin, merge, next, hit, found, verdict, unseen, search-levels, lookup, firstOf}
+use Rattle.rules.specs.Ways.{Place, Walk, Way}
+use Rattle.ways.specs.Graph.{Graph, Step, along, onward, walks, matching, ends, ways, shortest}
+use Rattle.ways.specs.Levels.{EmbeddedType, at, mark, raw, twin, merge, next, hit, found, verdict, unseen, search-levels, tied, folded}
 use Rattle.ways.proofs.Merge.{Lawful, Class, any-merge, merge-keep, merge-next}
 
 abbrev pub One : List Place → Type 0
@@ -31,12 +30,12 @@ has G key t = any (G .hit key) (G .members t)
 
 -- ---- the verdict on a merged level
 
-module _ (G : Graph) (key : Identity) (a : Bool) where
-  verdict-many : (r : EmbeddedType) (X : List EmbeddedType) → r .multiples ≡ true → verdict G key a (r ∷ X) ≡ ambiguous (placesOf (found G key r))
+module _ (G : Graph) (key : Identity) where
+  verdict-many : (r : EmbeddedType) (X : List EmbeddedType) → r .multiples ≡ true → verdict G key (r ∷ X) ≡ tied (found G key r)
   verdict-many r [] e = rw e
   verdict-many r (s ∷ X) e = rw e
 
-  pub verdict-merge : (W : List Walk) → verdict G key a (merge G (map raw W)) ≡ judge G a (map (λ w. found G key (raw w)) W)
+  pub verdict-merge : (W : List Walk) → verdict G key (merge G (map raw W)) ≡ folded G (map (λ w. found G key (raw w)) W)
   verdict-merge [] = refl
   verdict-merge (w ∷ []) = refl
   verdict-merge (w ∷ v ∷ vs) =
@@ -205,20 +204,17 @@ module _ (G : Graph) (law : Lawful G) (skip : List TypeKey → TypeKey → Bool)
       ∙ sym (merge-keep G law (has G key) (kd .alike) (keep (fresh G r0 d) (all G r0 d)))
       ∙ ap (merge G) (keep-weaker (hit G key) (fresh G r0 d) (hit-fresh G law r0 key (kd .alike) d ny) (all G r0 d) ∙ keep-map (hit G key) raw (walks G r0 d))
 
-  pub search-is : (a : Bool) (k d : ℕ) (seen : List TypeKey) (L : List EmbeddedType) → Level G law r0 d seen L → NoneYet G r0 key d → search-levels G skip key a k seen L ≡ judge G a (shortest G key r0 d k)
-  search-is a zero d seen L lv ny = refl
-  search-is a (suc k) d seen L lv ny =
-      go (good G r0 key d) refl (λ ny′. search-is a k (suc d) _ _ (onto G law r0 skip sk d seen L lv) ny′)
+  -- THE LEVELS TELL WHAT IS TOLD OF THE WAYS.
+  pub search-is : (k d : ℕ) (seen : List TypeKey) (L : List EmbeddedType) → Level G law r0 d seen L → NoneYet G r0 key d → search-levels G skip key k seen L ≡ folded G (shortest G key r0 d k)
+  search-is zero d seen L lv ny = refl
+  search-is (suc k) d seen L lv ny =
+      go (good G r0 key d) refl (λ ny′. search-is k (suc d) _ _ (onto G law r0 skip sk d seen L lv) ny′)
     where
       go : (W : List Walk) → good G r0 key d ≡ W
-          → (NoneYet G r0 key (suc d) → search-levels G skip key a k (map at (keep (unseen skip seen) L) ++ seen) (merge G (flat (next G) (keep (unseen skip seen) L))) ≡ judge G a (shortest G key r0 (suc d) k))
-          → search-levels G skip key a (suc k) seen L ≡ judge G a (shortest G key r0 d (suc k))
+          → (NoneYet G r0 key (suc d) → search-levels G skip key k (map at (keep (unseen skip seen) L) ++ seen) (merge G (flat (next G) (keep (unseen skip seen) L))) ≡ folded G (shortest G key r0 (suc d) k))
+          → search-levels G skip key (suc k) seen L ≡ folded G (shortest G key r0 d (suc k))
       go [] e ih = rw (hits-level d seen L lv ny, search-levels, hits G key (walks G r0 d) kd, shortest, e) (ih (later G law r0 key (kd .alike) d ny e))
-      go (w ∷ ws) e ih = rw (hits-level d seen L lv ny, search-levels, hits G key (walks G r0 d) kd, shortest, e) (verdict-merge G key a (w ∷ ws))
-
--- THE LEVELS GIVE WHAT THE WAYS SAY.
-pub lookup-is-select : (G : Graph) → Lawful G → (skip : List TypeKey → TypeKey → Bool) → Skips G skip → (key : Identity) → Keyed G key → (t : TypeKey) (f a : Bool) → lookup G skip key t f a ≡ select G key t f a
-lookup-is-select G law skip sk key kd t f a = search-is G law skip sk (start t f) key kd a (G .size) 0 [] (raw (start t f) ∷ []) (begin G law (start t f)) (λ u h. clash h refl)
+      go (w ∷ ws) e ih = rw (hits-level d seen L lv ny, search-levels, hits G key (walks G r0 d) kd, shortest, e) (verdict-merge G key (w ∷ ws))
 
 -- goscript's rule: a named type whose number was seen
 pub named-skips : (G : Graph) → Lawful G → (named : TypeKey → Bool) → Skips G (λ seen u. named u && any (λ v. sameType v u) seen)

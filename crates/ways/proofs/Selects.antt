@@ -5,8 +5,7 @@ use mathlib.Core.List.{[]}
 use mathlib.Core.Logic.{_⊎_, inl, inr}
 use Prim.Native.Nat.{ℕ, _<_}
 use Rattle.objects.specs.declared.TypeKey.{TypeKey}
-use Rattle.objects.specs.Lists.{any}
-use Rattle.objects.specs.Table.{Table, size, sameType, isNamed, kindAt, bare, pointerAt, ifaceUnder}
+use Rattle.objects.specs.Table.{Table, size, bare, pointerAt, ifaceUnder}
 use Rattle.objects.proofs.ListLaws.{either}
 use Rattle.text.specs.Bytes.{isBlank}
 use Rattle.rules.specs.Members.{Identity}
@@ -14,10 +13,8 @@ use Rattle.rules.specs.Sound.{Sound}
 use Rattle.rules.specs.Ways.{notfound, judged, ways, shortest, searched, start}
 use Rattle.ways.specs.Graph as over
 use Rattle.ways.specs.OfTable.{graph}
-use Rattle.ways.specs.Levels.{lookup}
-use Rattle.ways.proofs.Same.{lookup-is-select, named-skips}
 use Rattle.ways.proofs.Least.{least-or-none, shortest-least, shortest-nothing}
-use Rattle.ways.proofs.Bridge.{ways-are, judged-is}
+use Rattle.ways.proofs.Bridge.{ways-are}
 use Rattle.ways.proofs.LevelTest.{shortest-are}
 use Rattle.ways.proofs.TableLaws.{lawful, keyed, closed, bare-in}
 
@@ -25,7 +22,7 @@ use Rattle.ways.proofs.TableLaws.{lawful, keyed, closed, bare-in}
 pub select-says : (T : Table) (q : Identity) (t : TypeKey) (a : Bool)
     → searched T q t a ≡ cond (pointerAt T t && ifaceUnder T (bare T t)) notfound (over.select (graph T) q (bare T t) (pointerAt T t) a)
 unfolding searched
-select-says T q t a = ap (λ r. cond (pointerAt T t && ifaceUnder T (bare T t)) notfound r) (judged-is T a (shortest T q t) ∙ ap (over.judge (graph T) a) (shortest-are T t q))
+select-says T q t a = ap (λ r. cond (pointerAt T t && ifaceUnder T (bare T t)) notfound r) (ap (judged a) (shortest-are T t q))
 
 -- d steps have a way, and no fewer have one: the rules' own ways
 pub record LeastLength (T : Table) (q : Identity) (t : TypeKey) (d : ℕ) : Type 0 where
@@ -51,20 +48,14 @@ module _ (T : Table) (sound : Sound T) (q : Identity) (nb : isBlank (q .name) �
   shortest-are-none n = shortest-are T t q ∙ shortest-nothing (graph T) (lawful T sound) (closed T sound) (start T t) (bare-in T sound t in0) q (keyed T sound q nb) (λ j. sym (ways-are T q t j) ∙ n j)
 
   -- "a pointer to any type with an interface under it: `notfound`"; else what the ways of the least length give
-  pub searched-least : (a : Bool) (d : ℕ) → LeastLength T q t d → searched T q t a ≡ cond (pointerAt T t && ifaceUnder T (bare T t)) notfound (judged T a (ways T q t d))
+  pub searched-least : (a : Bool) (d : ℕ) → LeastLength T q t d → searched T q t a ≡ cond (pointerAt T t && ifaceUnder T (bare T t)) notfound (judged a (ways T q t d))
   unfolding searched
-  searched-least a d l = ap (λ ws. cond (pointerAt T t && ifaceUnder T (bare T t)) notfound (judged T a ws)) (shortest-are-least d l)
+  searched-least a d l = ap (λ ws. cond (pointerAt T t && ifaceUnder T (bare T t)) notfound (judged a ws)) (shortest-are-least d l)
 
   pub searched-none : (a : Bool) → ((j : ℕ) → ways T q t j ≡ []) → searched T q t a ≡ notfound
-  unfolding searched judged
-  searched-none a n = ap (λ ws. cond (pointerAt T t && ifaceUnder T (bare T t)) notfound (judged T a ws)) (shortest-are-none n) ∙ either-way (pointerAt T t && ifaceUnder T (bare T t))
+  unfolding searched
+  searched-none a n = ap (λ ws. cond (pointerAt T t && ifaceUnder T (bare T t)) notfound (judged a ws)) (shortest-are-none n) ∙ either-way (pointerAt T t && ifaceUnder T (bare T t))
     where
-      either-way : (b : Bool) → cond b notfound (judged T a []) ≡ notfound
+      either-way : (b : Bool) → cond b notfound (judged a []) ≡ notfound
       either-way true = refl
       either-way false = refl
-
--- the search level by level, that leaves out a named type once it was seen, gives what the ways say
-pub levels-are-ways : (T : Table) → Sound T → (q : Identity) → isBlank (q .name) ≡ false → (t : TypeKey) (f a : Bool)
-    → lookup (graph T) (λ seen u. isNamed (kindAt T u) && any (λ v. sameType v u) seen) q t f a ≡ over.select (graph T) q t f a
-levels-are-ways T sound q nb t f a =
-    lookup-is-select (graph T) (lawful T sound) (λ seen u. isNamed (kindAt T u) && any (λ v. sameType v u) seen) (named-skips (graph T) (lawful T sound) (λ u. isNamed (kindAt T u))) q (keyed T sound q nb) t f a

@@ -6,7 +6,7 @@ use Rattle.objects.specs.Lists.{keep, flat}
 use Rattle.objects.specs.declared.TypeKey.{TypeKey}
 use Rattle.objects.specs.declared.ObjKey.{ObjKey}
 use Rattle.rules.specs.Members.{Identity}
-use Rattle.rules.specs.Ways.{Place, Walk, Way, Selected, judgedBy}
+use Rattle.rules.specs.Ways.{Place, Walk, Way, Selected, judged}
 
 -- An embedded field: its place, its member's key, the type that it leads to once one pointer is removed, and whether there was a pointer.
 pub record Step : Type 0 where
@@ -52,13 +52,9 @@ module _ (G : Graph) where
   shortest q r d zero = []
   shortest q r d (suc k) = elim (ways q r d) [ [] ↦ shortest q r (suc d) k | w ∷ ws ↦ w ∷ ws ]
 
--- what the shortest ways give, as the rules say
-abbrev pub judge : Graph → Bool → List Way → Selected
-judge G = judgedBy (G .same)
-
 abbrev pub start : TypeKey → Bool → Walk
 start t f = record { places = []; used = []; at = t; flag = f }
 
 -- The selection of a name in type t, f true if a pointer was removed to come to t.
 abbrev pub select : Graph → Identity → TypeKey → Bool → Bool → Selected
-select G q t f a = judge G a (shortest G q (start t f) 0 (G .size))
+select G q t f a = judged a (shortest G q (start t f) 0 (G .size))

@@ -1,5 +1,6 @@
--- The search level by level, as `lookup_field_or_method_impl` makes it.
-use mathlib.Core.Bool.{Bool, true, false, cond, not, _||_}
+-- The search level by level, as goscript's `lookup_field_or_method_impl` makes it: identical types of a level are folded into the first of them, and of several
+-- shortest ways one is told.
+use mathlib.Core.Bool.{Bool, false, cond, not, _||_}
 use mathlib.Core.List.{List, [], _∷_, _++_, map}
 use Prim.Native.Nat.{ℕ, zero, suc}
 use mathlib.Core.Option.{none}
@@ -7,8 +8,8 @@ use Rattle.objects.specs.Table.{Method, typeKey, objKey}
 use Rattle.objects.specs.Lists.{any, keep, flat}
 use Rattle.objects.specs.declared.TypeKey.{TypeKey}
 use Rattle.rules.specs.Members.{Identity}
-use Rattle.rules.specs.Ways.{Place, Walk, Way, notfound, tied, single, Selected}
-use Rattle.ways.specs.Graph.{Graph, along, matching, start}
+use Rattle.rules.specs.Ways.{Place, Walk, Way}
+use Rattle.ways.specs.Graph.{Graph, along, matching}
 
 -- A type reached at a level: the first walk to it, and whether there is more than one.
 pub record EmbeddedType : Type 0 where
@@ -29,7 +30,18 @@ abbrev pub firstOf : List Place → Place
 firstOf [] = record { place = 0; member = record { key = objKey 0; name = []; pkg = none; type = typeKey 0; entity = Method false } }
 firstOf (m ∷ ms) = m
 
+-- no way, one shortest way, or several of which this one is told
+pub data Verdict : Type 0 where
+  nothing : Verdict
+  alone tied : Way → Verdict
+
 module _ (G : Graph) where
+  -- what is told of the shortest ways: of several the first, if another ends in a type identical to the first's, otherwise the second
+  abbrev pub folded : List Way → Verdict
+  folded [] = nothing
+  folded (w ∷ []) = alone w
+  folded (w ∷ v ∷ rest) = tied (cond (any (λ x. G .same (w .walk .at) (x .walk .at)) (v ∷ rest)) w v)
+
   abbrev pub twin : EmbeddedType → EmbeddedType → Bool
   twin r s = G .same (at r) (at s)
 
@@ -49,10 +61,10 @@ module _ (G : Graph) where
   found key r = record { walk = r .walk; last = firstOf (matching G key (at r)) }
 
   -- the records of a level that have the key
-  abbrev pub verdict : Identity → Bool → List EmbeddedType → Selected
-  verdict key a [] = notfound
-  verdict key a (r ∷ []) = cond (r .multiples) (tied true (found key r) (found key r)) (single a (found key r))
-  verdict key a (r ∷ s ∷ rest) = tied (r .multiples) (found key r) (found key s)
+  abbrev pub verdict : Identity → List EmbeddedType → Verdict
+  verdict key [] = nothing
+  verdict key (r ∷ []) = cond (r .multiples) (tied (found key r)) (alone (found key r))
+  verdict key (r ∷ s ∷ rest) = tied (cond (r .multiples) (found key r) (found key s))
 
 -- A level leaves out what `skip` says was seen. goscript's: a named type, by its number. Any rule will do that skips only what is identical to a type seen.
 abbrev pub unseen : (List TypeKey → TypeKey → Bool) → List TypeKey → EmbeddedType → Bool
@@ -60,13 +72,10 @@ unseen skip seen r = not (skip seen (at r))
 
 module _ (G : Graph) (skip : List TypeKey → TypeKey → Bool) where
   -- k levels more, from the level L; seen are the types of the levels before
-  abbrev pub search-levels : Identity → Bool → ℕ → List TypeKey → List EmbeddedType → Selected
-  search-levels key a zero seen L = notfound
-  search-levels key a (suc k) seen L =
+  abbrev pub search-levels : Identity → ℕ → List TypeKey → List EmbeddedType → Verdict
+  search-levels key zero seen L = nothing
+  search-levels key (suc k) seen L =
       elim (keep (hit G key) (keep (unseen skip seen) L)) [
-        | [] ↦ search-levels key a k (map at (keep (unseen skip seen) L) ++ seen) (merge G (flat (next G) (keep (unseen skip seen) L)))
-        | r ∷ rs ↦ verdict G key a (r ∷ rs)
+        | [] ↦ search-levels key k (map at (keep (unseen skip seen) L) ++ seen) (merge G (flat (next G) (keep (unseen skip seen) L)))
+        | r ∷ rs ↦ verdict G key (r ∷ rs)
       ]
-
-  abbrev pub lookup : Identity → TypeKey → Bool → Bool → Selected
-  lookup key t f a = search-levels key a (G .size) [] (raw (start t f) ∷ [])

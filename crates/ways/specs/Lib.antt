@@ -2,4 +2,3 @@ pub mod Graph
 pub mod Levels
 pub mod OfTable
 pub mod IsWay
-pub mod Search

@@ -5,6 +5,7 @@
 #[path = "../../tests/archive/lent.rs"]
 mod lent;
 
+use crate::agreement::{agrees, is_ambiguous, Agreed};
 use crate::damage::{self, damage, misdirect};
 use crate::engine::{self, Engine};
 use crate::prng::Prng;
@@ -100,7 +101,7 @@ type Outcome = Result<String, (u8, usize)>;
 pub struct Counts {
     pub answered: u64,
     /// Answers, and refusals 13, that were held against goscript's answer, or the counts for V.
-    pub compared: u64,
+    pub agreed: Agreed,
     pub refused: [u64; 14],
 }
 
@@ -131,17 +132,33 @@ impl Hammer {
         }
         match self.due(call) {
             Ok(None) => assert!(matches!(given, Ok(_) | Err((13, 0))), "{given:?}"),
-            Ok(Some(answer)) => {
+            Ok(Some(theirs)) => {
+                let answer = self.whole(call, &theirs);
                 let fits = answer.len() <= call.room;
                 let due = if fits { Ok(answer) } else { Err((13, 0)) };
                 assert_eq!(given, due, "the second is due");
-                self.counts.compared += 1;
             }
             Err(refused) => assert_eq!(given, Err(refused), "the second is due"),
         }
     }
 
-    /// The answer or refusal that is due; no answer if there is nothing to compare it with.
+    /// The answer that is due, in a buffer with room for it, where goscript gives this one, and counts how the two agree.
+    /// Of an ambiguous name goscript shows one way, so that the two that are due are the library's own.
+    fn whole(&mut self, call: &Call, theirs: &str) -> String {
+        let whole = if is_ambiguous(theirs) {
+            let answer = yifgrun::answer(&call.table, &call.question);
+            let answer = answer.unwrap_or_else(|refusal| panic!("{refusal}, not {theirs}"));
+            String::from_utf8(answer).expect("an answer is text")
+        } else {
+            theirs.to_owned()
+        };
+        let how = agrees(theirs, &whole);
+        let how = how.unwrap_or_else(|| panic!("goscript: {theirs:?}, the library: {whole:?}"));
+        self.counts.agreed.count(how);
+        whole
+    }
+
+    /// goscript's answer or the refusal that is due; no answer if there is nothing to compare with.
     fn due(&mut self, call: &Call) -> Result<Option<String>, (u8, usize)> {
         if call.words < WORK_WORDS {
             return Err((1, 0));
@@ -152,10 +169,12 @@ impl Hammer {
         Ok(self.answer(call, &table))
     }
 
-    /// What `typeask` prints for the call's table and question; nothing if that is not known.
+    /// What `typeask` prints for the call's table and question, known without the library; nothing if that is not
+    /// known, as where goscript shows one way of two.
     pub fn printed(&mut self, call: &Call) -> Option<String> {
+        let known = |answer: &String| answer.len() <= ANSWER_BYTES && !is_ambiguous(answer);
         Some(match self.due(call) {
-            Ok(answer) => answer.filter(|answer| answer.len() <= ANSWER_BYTES)?,
+            Ok(answer) => answer.filter(known)?,
             Err((number, line)) => format!("refused\t{number}\t{line}\n"),
         })
     }

@@ -1,5 +1,6 @@
 //! goscript's own functions over type tables, and the answers of the proved library held against them.
 
+pub mod agreement;
 pub mod damage;
 pub mod engine;
 #[cfg(feature = "library")]

@@ -1,24 +1,29 @@
-//! Two engines on the same questions.
+//! goscript and the library on the same questions.
 
+use crate::agreement::{agrees, Agreed};
 use crate::engine::Engine;
 
-/// Nothing if both give the same answer to every question; otherwise the table, the question and both answers.
+/// Counts how the answers of goscript and the library agree; where two do not, gives the table, the question and both.
 pub fn hold(
-    (one, other): (&mut (dyn Engine + 'static), &mut (dyn Engine + 'static)),
+    (goscript, library): (&mut (dyn Engine + 'static), &mut (dyn Engine + 'static)),
     table: &str,
     questions: &[String],
+    agreed: &mut Agreed,
 ) -> Result<(), String> {
-    for engine in [&mut *one, &mut *other] {
+    for engine in [&mut *goscript, &mut *library] {
         if engine.load(table).is_none() {
             return Err(format!("{table}\n{} does not load it", engine.name()));
         }
     }
     for question in questions {
-        let (a, b) = (one.ask(question), other.ask(question));
-        if a.is_none() || a != b {
-            let (one, other) = (one.name(), other.name());
-            return Err(format!("{table}\n{question}\n{one}: {a:?}\n{other}: {b:?}"));
-        }
+        let (theirs, ours) = (goscript.ask(question), library.ask(question));
+        let how = theirs.as_ref().zip(ours.as_ref());
+        let Some(how) = how.and_then(|(theirs, ours)| agrees(theirs, ours)) else {
+            let (one, other) = (goscript.name(), library.name());
+            let answers = format!("{one}: {theirs:?}\n{other}: {ours:?}");
+            return Err(format!("{table}\n{question}\n{answers}"));
+        };
+        agreed.count(how);
     }
     Ok(())
 }

@@ -43,6 +43,7 @@ pub fn cases() -> Vec<Case> {
     cases.extend(chain());
     cases.extend(lattice());
     cases.extend(wide());
+    cases.push(wide_diamond());
     cases.push(one_receiver());
     cases.push(wide_methods());
     cases.push(deep_methods());
@@ -246,6 +247,23 @@ fn wide() -> [Case; 2] {
         ),
         Case::new("255 embedded fields, M", &table, vec![format!("M\t{top}")]),
     ]
+}
+
+/// One struct that embeds two, each of which embeds the same 120 types: a member of the last of these is ambiguous.
+fn wide_diamond() -> Case {
+    let mut table = Table::default();
+    let int = table.put(Kind::Basic(2), []);
+    let types: Vec<usize> = (0..120)
+        .map(|k| table.put_struct([field(format!("F{k}"), int, false)]))
+        .collect();
+    let mut side = || {
+        let embedded = types.iter().map(|&t| field(format!("E{t}"), t, true));
+        table.put_struct(embedded)
+    };
+    let (one, other) = (side(), side());
+    let top = table.put_struct([field("L", one, true), field("R", other, true)]);
+    let question = format!("S\t{top}\t0\t-\tF119");
+    Case::new("wide diamond over 120 types, S", &table, vec![question])
 }
 
 /// 900 selections from one receiver that embeds four structs of 224 fields.

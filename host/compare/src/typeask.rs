@@ -2,20 +2,33 @@
 
 use crate::engine::Engine;
 
+/// The bytes that the program reads, table and questions together.
+pub const INPUT_BYTES: usize = 32_768;
+
 /// The bytes that an answer of the program may have.
 pub const ANSWER_BYTES: usize = 16_384;
+
+/// The table text and the questions of an input: what stands before the first line `Q`, and the lines behind it;
+/// without one, everything and a V.
+pub fn parted(input: &[u8]) -> (&[u8], Vec<&[u8]>) {
+    let starts = |at: usize| at == 0 || input[at - 1] == b'\n';
+    let q = (0..input.len()).find(|&at| starts(at) && input[at..].starts_with(b"Q\n"));
+    let Some(q) = q else {
+        return (input, vec![b"V"]);
+    };
+    let questions = input[q + 2..].split_inclusive(|&b| b == b'\n');
+    let line = |line| <[u8]>::strip_suffix(line, b"\n").unwrap_or(line);
+    (&input[..q], questions.map(line).collect())
+}
 
 /// What `typeask` prints for an input whose table loads and whose questions have the right form, with
 /// the answers of this engine; nothing if a line can't be read.
 pub fn print(engine: &mut dyn Engine, input: &str) -> Option<String> {
-    let (table, questions) = match input.split_once("\nQ\n") {
-        Some((table, questions)) => (format!("{table}\n"), questions),
-        None => (input.to_owned(), "V"),
-    };
-    engine.load(&table)?;
+    let (table, questions) = parted(input.as_bytes());
+    engine.load(str::from_utf8(table).ok()?)?;
     let mut printed = String::new();
-    for question in questions.lines() {
-        let answer = engine.ask(question)?;
+    for question in questions {
+        let answer = engine.ask(str::from_utf8(question).ok()?)?;
         printed += if answer.len() > ANSWER_BYTES {
             "refused\t13\t0\n"
         } else {
@@ -23,4 +36,17 @@ pub fn print(engine: &mut dyn Engine, input: &str) -> Option<String> {
         };
     }
     Some(printed)
+}
+
+/// What was printed, answer by answer: the lines `sel` belong to the line `set` before them, and the line `and` to the
+/// line `ambiguous`.
+pub fn answers(printed: &str) -> Vec<String> {
+    let mut all: Vec<String> = Vec::new();
+    for line in printed.split_inclusive('\n') {
+        match all.last_mut() {
+            Some(last) if line.starts_with("sel\t") || line.starts_with("and\t") => *last += line,
+            _ => all.push(line.to_owned()),
+        }
+    }
+    all
 }

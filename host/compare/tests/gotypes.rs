@@ -1,11 +1,15 @@
 //! Go's own checker, package go/types of 1.19, on the same tables: every difference is one that docs/DIFFERENCES.md explains.
 
 mod batches;
+mod said;
 
+use compare::agreement::{agrees, Agreement};
 use compare::engine::{self, Engine};
 use compare::prng::Prng;
 use compare::random::{self, Shape};
 use compare::table::{Kind, Table};
+use compare::{refusals, typeask};
+use said::say;
 use std::io::Write;
 use std::path::{Path, PathBuf};
 use std::process::{Command, Stdio};
@@ -67,28 +71,16 @@ fn go_answers(program: &Path, cases: &[Case]) -> Vec<Vec<String>> {
     writer.join().expect("written").expect("written");
     let output = String::from_utf8(output.stdout).expect("text");
     let cases = output.split_terminator("---\n");
-    cases.map(answers).collect()
-}
-
-/// Answers one by one: the lines `sel` belong to the line `set` before them.
-fn answers(printed: &str) -> Vec<String> {
-    let mut all: Vec<String> = Vec::new();
-    for line in printed.lines() {
-        if line.starts_with("sel\t") {
-            let last = all.last_mut().expect("a line set");
-            *last += line;
-            last.push('\n');
-        } else {
-            all.push(format!("{line}\n"));
-        }
-    }
-    all
+    cases.map(typeask::answers).collect()
 }
 
 /// How often go/types agrees, and how often each explained difference is met.
 #[derive(Debug, Default)]
 struct Count {
-    same: usize,
+    equal: usize,
+    /// `ambiguous`, and go/types' way is the first of the two, or the second.
+    first_way: usize,
+    second_way: usize,
     pointer_to_named_interface: usize,
     method_below_a_field: usize,
     pointer_receiver_only: usize,
@@ -101,12 +93,24 @@ fn hold(engine: &mut dyn Engine, (table, questions): &Case, theirs: &[String], c
     let parsed = Table::parse(table).expect("a table");
     for (question, theirs) in questions.iter().zip(theirs) {
         let ours = engine.ask(question).expect("an answer");
-        if question == "V" || ours == *theirs {
-            count.same += 1;
-        } else if !explained(engine, &parsed, question, &ours, theirs, count) {
-            panic!("{table}\n{question}\nours: {ours}go: {theirs}");
+        match agreement(engine, &ours, theirs) {
+            Some(Agreement::Equal) => count.equal += 1,
+            Some(Agreement::First) => count.first_way += 1,
+            Some(Agreement::Second) => count.second_way += 1,
+            None => assert!(
+                explained(engine, &parsed, question, &ours, theirs, count),
+                "{table}\n{question}\nours: {ours}go: {theirs}"
+            ),
         }
     }
+}
+
+/// How go/types' answer agrees with ours. goscript shows one way of an ambiguous name, and it must be go/types'.
+fn agreement(engine: &dyn Engine, ours: &str, theirs: &str) -> Option<Agreement> {
+    if engine.name() == "goscript" {
+        return (ours == theirs).then_some(Agreement::Equal);
+    }
+    agrees(theirs, ours)
 }
 
 fn explained(
@@ -185,7 +189,9 @@ fn ours() -> Option<Box<dyn Engine>> {
 
 fn compare_all(cases: &[Case], what: &str) {
     let (Some(program), Some(mut engine)) = (program(), ours()) else {
-        println!("{what}: Go 1.19 or the answers to compare are not at hand: nothing compared");
+        say(&format!(
+            "{what}: Go 1.19 or the answers to compare are not at hand: nothing compared"
+        ));
         return;
     };
     let theirs = go_answers(program, cases);
@@ -194,35 +200,43 @@ fn compare_all(cases: &[Case], what: &str) {
     for (case, theirs) in cases.iter().zip(&theirs) {
         hold(engine.as_mut(), case, theirs, &mut count);
     }
-    println!(
-        "{what}, {} tables, {}: {count:?}",
-        cases.len(),
-        engine.name()
-    );
+    let (tables, name) = (cases.len(), engine.name());
+    say(&format!(
+        "go/types, {what}, {tables} tables, {name}: {count:?}"
+    ));
+    let both_met = count.first_way > 0 && count.second_way > 0;
+    assert!(both_met || name == "goscript", "{count:?}");
+}
+
+/// The table of an input and the questions that go/types takes, if the table loads.
+fn asked(input: &[u8]) -> Option<Case> {
+    let (text, questions) = typeask::parted(input);
+    let table = refusals::table(text).ok()?;
+    let taken = |q: &&[u8]| *q != b"V" && refusals::question(&table, q).is_ok();
+    let taken = questions.into_iter().filter(taken);
+    let line = |q: &[u8]| String::from_utf8(q.to_vec()).expect("its form is right");
+    Some((table.to_string(), taken.map(line).collect()))
 }
 
 #[test]
 fn stored_tables() {
-    let sample = Path::new(env!("CARGO_MANIFEST_DIR")).join("testdata");
-    let stored = match batches::vectors() {
-        Some(folder) => [
-            batches::cases(&folder, "small"),
-            batches::cases(&folder, "mixed"),
-        ]
-        .concat(),
-        None => batches::cases(&sample, "sample"),
-    };
-    let mut cases = Vec::new();
-    for (input, _) in stored {
-        let input = String::from_utf8(input).expect("text");
-        let Some((table, questions)) = input.split_once("\nQ\n") else {
-            continue;
-        };
-        cases.push((
-            format!("{table}\n"),
-            questions.lines().map(str::to_owned).collect(),
-        ));
+    let mut stored = batches::cases(&batches::sample(), "sample");
+    if let Some(folder) = batches::vectors() {
+        stored.extend(
+            ["small", "mixed"]
+                .iter()
+                .flat_map(|name| batches::cases(&folder, name)),
+        );
     }
+    if let Some(folder) = batches::vectors_02() {
+        stored.extend(batches::cases(&folder, "1"));
+    }
+    stored.sort();
+    stored.dedup();
+    let cases: Vec<Case> = stored
+        .iter()
+        .filter_map(|(input, _)| asked(input))
+        .collect();
     compare_all(&cases, "stored");
 }
 

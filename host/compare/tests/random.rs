@@ -1,11 +1,14 @@
 //! Random tables load, are read as they are written, and give answers of every form.
 
+mod said;
+
 use compare::engine;
 use compare::prng::Prng;
 use compare::random::{self, Shape};
 use compare::refusals;
 use compare::table::Table;
 use compare::tables::cases;
+use said::say;
 use std::collections::BTreeMap;
 
 fn any_shape(prng: &mut Prng) -> Shape {
@@ -60,7 +63,7 @@ fn form(question: &str, answer: &str) -> String {
 #[test]
 fn random_questions_have_answers_of_every_form() {
     let Some(mut goscript) = engine::goscript() else {
-        println!("{}", engine::NOT_AT_HAND);
+        say(engine::NOT_AT_HAND);
         return;
     };
     let mut forms: BTreeMap<String, usize> = BTreeMap::new();
@@ -74,6 +77,6 @@ fn random_questions_have_answers_of_every_form() {
             *forms.entry(form(&question, &answer)).or_default() += 1;
         }
     }
-    println!("{forms:?}");
+    say(&format!("goscript's answers: {forms:?}"));
     assert!(forms.keys().eq(FORMS.iter()), "not the forms expected");
 }

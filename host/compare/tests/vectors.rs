@@ -1,35 +1,93 @@
 //! goscript's answers against stored ones: the vectors where they are at hand, and the sample in `testdata`.
 
 mod batches;
+mod said;
 
-use compare::{engine, typeask};
+use compare::agreement::{agrees, Agreed};
+use compare::engine::{self, Engine};
+use compare::refusals;
+use compare::typeask::{self, ANSWER_BYTES, INPUT_BYTES};
+use said::say;
 use std::path::Path;
 
-/// Every case of a pair of files must agree.
-fn agree(folder: &Path, name: &str) {
-    let Some(mut goscript) = engine::goscript() else {
-        println!("{}", engine::NOT_AT_HAND);
+/// goscript prints every case of a pair of files of the base to the byte: one way of an ambiguous name, its own.
+#[test]
+fn the_bases_vectors_are_goscripts() {
+    let Some(folder) = batches::vectors() else {
         return;
     };
-    let cases = batches::cases(folder, name);
-    for (n, (input, output)) in cases.iter().enumerate() {
-        let printed = typeask::print(goscript.as_mut(), str::from_utf8(input).expect("text"));
-        assert_eq!(printed.as_ref(), Some(output), "case {n} of {name}");
+    for name in ["small", "mixed"] {
+        let Some(mut goscript) = engine::goscript() else {
+            say(engine::NOT_AT_HAND);
+            return;
+        };
+        let cases = batches::cases(&folder, name);
+        for (n, (input, output)) in cases.iter().enumerate() {
+            let printed = typeask::print(goscript.as_mut(), str::from_utf8(input).expect("text"));
+            assert_eq!(printed.as_ref(), Some(output), "case {n} of {name}");
+        }
+        say(&format!("{name}: goscript prints {} cases", cases.len()));
     }
-    println!("{name}: {} cases agree", cases.len());
 }
 
 #[test]
-fn the_vectors_agree() {
-    for name in ["small", "mixed"] {
-        if let Some(folder) = batches::vectors() {
-            agree(&folder, name);
-        }
+fn the_vectors_of_point_1_agree() {
+    if let Some(folder) = batches::vectors_02() {
+        agree(&folder, "1");
     }
 }
 
 #[test]
 fn the_stored_sample_agrees() {
-    let folder = Path::new(env!("CARGO_MANIFEST_DIR")).join("testdata");
-    agree(&folder, "sample");
+    agree(&batches::sample(), "sample");
+}
+
+/// Every answer of a pair of files must agree with goscript's. Both forms of agreement in an ambiguous name are met.
+fn agree(folder: &Path, name: &str) {
+    let Some(mut goscript) = engine::goscript() else {
+        say(engine::NOT_AT_HAND);
+        return;
+    };
+    let mut agreed = Agreed::default();
+    let cases = batches::cases(folder, name);
+    for (n, (input, output)) in cases.iter().enumerate() {
+        if let Err(difference) = case(goscript.as_mut(), input, output, &mut agreed) {
+            panic!("case {n} of {name}: {difference}");
+        }
+    }
+    say(&format!("{name}, {} cases: {agreed}", cases.len()));
+    assert!(agreed.equal > 0 && agreed.first > 0 && agreed.second > 0);
+}
+
+/// Counts how the stored answers to an input agree with goscript's, and shows one that does not. What is refused is
+/// passed over: goscript refuses nothing.
+fn case(
+    goscript: &mut dyn Engine,
+    input: &[u8],
+    output: &str,
+    agreed: &mut Agreed,
+) -> Result<(), String> {
+    let (text, questions) = typeask::parted(input);
+    let Ok(table) = refusals::table(text) else {
+        return Ok(());
+    };
+    if input.len() > INPUT_BYTES {
+        return Ok(());
+    }
+    goscript.load(&table.to_string()).expect("it loads");
+    let stored = typeask::answers(output);
+    assert_eq!(stored.len(), questions.len(), "an answer to each question");
+    for (question, stored) in questions.into_iter().zip(stored) {
+        if refusals::question(&table, question).is_err() {
+            continue;
+        }
+        let question = str::from_utf8(question).expect("the question has a right form");
+        let theirs = goscript.ask(question).expect("it can be read");
+        let how = match theirs.len() {
+            0..=ANSWER_BYTES => agrees(&theirs, &stored),
+            _ => agrees("refused\t13\t0\n", &stored),
+        };
+        agreed.count(how.ok_or(format!("{question}: {theirs:?}, stored: {stored:?}"))?);
+    }
+    Ok(())
 }

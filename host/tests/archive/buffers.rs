@@ -6,12 +6,13 @@ use yifgrun::{ask, Answers, WORK_WORDS};
 
 const TABLE: &str = "typetable\t1\nP\toffice/cat\nT\tbasic\t2\nT\ttuple\nT\tfunc\t0\t1\t1\nT\tnamed\t4\n\
     M\tClose\t0\t2\t1\nT\tstruct\nF\tLen\t0\t0\t0\nT\tpointer\t3\nT\tstruct\nF\tBlock\t0\t5\t1\nT\tnamed\t6\n\
-    T\tiface\nM\tClose\t0\t2\t0\nM\tOpen\t0\t2\t0\n";
+    T\tiface\nM\tClose\t0\t2\t0\nM\tOpen\t0\t2\t0\nT\tstruct\nF\tA\t0\t3\t1\nF\tB\t0\t5\t1\n";
 
 /// A question of each letter and form with its answer.
-const ANSWERS: [(&str, &str); 13] = [
+const ANSWERS: [(&str, &str); 14] = [
     ("S\t7\t0\t0\tClose", "entry\t0\t1\t0\t0\n"),
     ("S\t3\t0\t0\tClose", "badreceiver\n"),
+    ("S\t9\t0\t0\tLen", "ambiguous\t0\t0\nand\t1\t0\n"),
     ("S\t7\t0\t0\tOpen", "notfound\n"),
     ("M\t3", "set\t0\n"),
     ("M\t7", "set\t1\nsel\t0\t1\t0\t0\n"),
@@ -22,7 +23,7 @@ const ANSWERS: [(&str, &str); 13] = [
     ("I\t3\t7", "no\n"),
     ("C\t2", "no\n"),
     ("C\t7", "yes\n"),
-    ("V", "ok\t1\t9\t5\n"),
+    ("V", "ok\t1\t10\t7\n"),
 ];
 
 #[test]

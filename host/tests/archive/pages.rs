@@ -84,10 +84,12 @@ fn stored_questions_touch_only_what_is_lent() {
 
 const TABLE: &str =
     "typetable\t1\nP\ta\nT\tbasic\t2\nT\ttuple\nT\tfunc\t0\t1\t1\nT\tiface\nM\tRead\t0\t2\t0\n\
-    T\tstruct\nF\tLen\t0\t0\t0\nT\tnamed\t4\nM\tRead\t0\t2\t1\nT\tpointer\t5\n";
+    T\tstruct\nF\tLen\t0\t0\t0\nT\tnamed\t4\nM\tRead\t0\t2\t1\nT\tpointer\t5\n\
+    T\tstruct\nF\tA\t0\t5\t1\nF\tB\t0\t6\t1\n";
 
-const QUESTIONS: [&str; 9] = [
+const QUESTIONS: [&str; 10] = [
     "S\t6\t0\t0\tLen",
+    "S\t7\t0\t0\tLen",
     "M\t6",
     "N\t5\t3\t1",
     "N\t6\t4\t1",
@@ -141,7 +143,7 @@ fn longest_tables_and_questions() {
         for bytes in 32_760..32_776 {
             let result = pages.ask([side; 4], (&filled(bytes), b"V"), (40, WORK_WORDS));
             let due = match bytes {
-                ..=32_768 => Ok(b"ok\t1\t8\t3\n".to_vec()),
+                ..=32_768 => Ok(b"ok\t1\t9\t5\n".to_vec()),
                 _ => Err(2),
             };
             assert_eq!(result.map_err(|refusal| refusal.number), due, "{bytes}");

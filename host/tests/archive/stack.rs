@@ -155,8 +155,9 @@ fn towers() -> [Deep; 2] {
     ]
 }
 
-/// 254 types, each a struct embedded in the next, or an array of the one below; the way to the first has 254 places.
-fn chain() -> [Deep; 4] {
+/// Structs, each embedded in the next and in one table twice in the last, so that the way to the first has 253 places; or
+/// arrays, each of the one below.
+fn chain() -> [Deep; 5] {
     let mut table = "typetable\t1\nT\tbasic\t2\nT\ttuple\nT\tfunc\t0\t1\t1\n".to_owned();
     let mut arrays = "typetable\t1\nT\tbasic\t2\n".to_owned();
     table += "T\tstruct\nF\tX\t-\t0\t0\n";
@@ -173,8 +174,13 @@ fn chain() -> [Deep; 4] {
         due: due.to_owned(),
     };
     let entry = format!("entry\t0\t0{}\n", "\t0".repeat(253));
+    let twice = format!("{table}F\tD\t-\t254\t1\n");
+    let rest = "\t0".repeat(252);
+    let both = format!("ambiguous\t0{rest}\nand\t1{rest}\n");
+    let s = "S\t255\t0\t-\tX";
     [
-        deep("a way of 253 places, S", &table, "S\t255\t0\t-\tX", &entry),
+        deep("a way of 253 places, S", &table, s, &entry),
+        deep("two ways of 253 places, S", &twice, s, &both),
         deep("254 levels, M", &table, "M\t255", "set\t0\n"),
         deep("255 levels of structs, C", &table, "C\t255", "yes\n"),
         deep("255 levels of arrays, C", &arrays, "C\t255", "yes\n"),

@@ -1,5 +1,5 @@
-//! Stored inputs of the program `typeask` with what it prints, and stored calls: the vectors where they are at
-//! hand, else the sample in `testdata`.
+//! Stored inputs of the program `typeask` with what it prints, and stored calls: the sample in `testdata`, which
+//! tools/host_sample.py makes, and the vectors where they are at hand.
 
 use std::io::{self, Write};
 use std::path::{Path, PathBuf};
@@ -12,12 +12,25 @@ pub struct Case {
     pub name: String,
 }
 
-/// The folder of the vectors, if it is at hand: `TYPEASK_VECTORS`, or `../shared/vectors`, both seen from the root
-/// of the repository.
-pub fn vectors() -> Option<PathBuf> {
+/// The folder of the base's vectors, if it is at hand: `TYPEASK_VECTORS`, or `../shared/vectors`.
+fn vectors() -> Option<PathBuf> {
+    folder("TYPEASK_VECTORS", "../shared/vectors")
+}
+
+/// The folder of document 02's vectors, if it is at hand: `TYPEASK_VECTORS_02`, or `../shared/vectors02`. Its pair `1`
+/// has what is due with point 1 in force.
+fn vectors_02() -> Option<PathBuf> {
+    folder("TYPEASK_VECTORS_02", "../shared/vectors02")
+}
+
+/// The folder that a variable names, or else this one, both seen from the root of the repository.
+fn folder(variable: &str, usual: &str) -> Option<PathBuf> {
     let root = Path::new(env!("CARGO_MANIFEST_DIR")).join("..");
-    let given = env::var("TYPEASK_VECTORS").unwrap_or("../shared/vectors".to_owned());
-    Some(root.join(given)).filter(|folder| folder.is_dir())
+    let folder = root.join(env::var(variable).unwrap_or(usual.to_owned()));
+    let at_hand = folder.is_dir();
+    let what = if at_hand { "run" } else { "not at hand" };
+    say(&format!("the vectors of {} are {what}", folder.display()));
+    at_hand.then_some(folder)
 }
 
 fn sample() -> PathBuf {
@@ -29,21 +42,38 @@ pub fn say(what: &str) {
     writeln!(io::stderr(), "{what}").expect("standard error takes a line");
 }
 
-/// The stored cases, and says which they are.
+/// The stored cases, and says which they are: the sample, and the vectors at hand.
 pub fn cases() -> Vec<Case> {
-    let Some(folder) = vectors() else {
-        say("the vectors are not at hand: the stored sample is run");
-        return cases_of(&sample(), "sample");
-    };
-    say(&format!("the vectors of {} are run", folder.display()));
-    let names = ["small", "mixed", "damaged"];
-    names.iter().flat_map(|n| cases_of(&folder, n)).collect()
+    let mut cases = cases_of(&sample(), "sample");
+    if let Some(folder) = vectors() {
+        let names = ["small", "mixed", "damaged"];
+        let base = names.iter().flat_map(|name| cases_of(&folder, name));
+        cases.extend(base.filter(|case| still_due(&case.output)));
+    }
+    if let Some(folder) = vectors_02() {
+        cases.extend(cases_of(&folder, "1"));
+    }
+    cases
 }
 
-/// The stored calls, a line each.
+/// Whether what the base gave is due: point 1 of document 02 changes every answer `ambiguous`.
+pub fn still_due(output: &[u8]) -> bool {
+    let mut lines = output.split(|&b| b == b'\n');
+    !lines.any(|line| line.starts_with(b"ambiguous\t"))
+}
+
+/// The stored calls of the sample, a line each.
 pub fn calls() -> String {
-    let folder = vectors().unwrap_or(sample());
-    String::from_utf8(read(&folder.join("entry.txt"))).expect("the calls are text")
+    text(&sample().join("entry.txt"))
+}
+
+/// The stored calls of the base, a line each, if they are at hand.
+pub fn base_calls() -> Option<String> {
+    Some(text(&vectors()?.join("entry.txt")))
+}
+
+fn text(path: &Path) -> String {
+    String::from_utf8(read(path)).expect("the calls are text")
 }
 
 /// The cases of a pair of files.

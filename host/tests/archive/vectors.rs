@@ -1,7 +1,7 @@
 //! What `typeask` prints, put together from calls, against what is stored.
 
 use crate::lent::asked;
-use crate::stored::{calls, cases, say};
+use crate::stored::{base_calls, calls, cases, say, still_due};
 use crate::typeask;
 use std::collections::BTreeSet;
 use yifgrun::WORK_WORDS;
@@ -22,22 +22,48 @@ fn typeask_prints_what_is_stored() {
 }
 
 /// A stored call: table and question, the answer buffer's length, the number that comes back, the answer.
-fn stored_call(line: &str) {
-    let fields: Vec<&str> = line.split(' ').collect();
-    let [table, question, room, number, due] = fields[..] else {
-        panic!("five fields: {line}");
-    };
-    let (table, question, due) = (bytes(table), bytes(question), bytes(due));
-    let mut answer = vec![0; room.parse().expect("a length")];
-    let result = asked(&table, &question, &mut answer, &mut [0; WORK_WORDS]);
-    let returned = match result {
-        Ok(length) => {
-            assert_eq!(&answer[..length], due, "{line}");
-            length as i64
+struct Call<'a> {
+    table: Vec<u8>,
+    question: Vec<u8>,
+    room: usize,
+    number: i64,
+    answer: Vec<u8>,
+    line: &'a str,
+}
+
+impl Call<'_> {
+    fn of(line: &str) -> Call<'_> {
+        let fields: Vec<&str> = line.split(' ').collect();
+        let [table, question, room, number, answer] = fields[..] else {
+            panic!("five fields: {line}");
+        };
+        Call {
+            table: bytes(table),
+            question: bytes(question),
+            room: room.parse().expect("a length"),
+            number: number.parse().expect("a number"),
+            answer: bytes(answer),
+            line,
         }
-        Err(refusal) => -(i64::from(refusal.number) * 65_536 + i64::from(refusal.line)),
-    };
-    assert_eq!(returned.to_string(), number, "{line}");
+    }
+
+    fn run(&self) {
+        let mut answer = vec![0; self.room];
+        let result = asked(
+            &self.table,
+            &self.question,
+            &mut answer,
+            &mut [0; WORK_WORDS],
+        );
+        let returned = match result {
+            Ok(length) => {
+                assert_eq!(&answer[..length], self.answer, "{}", self.line);
+                length as i64
+            }
+            Err(refusal) => -(i64::from(refusal.number) * 65_536 + i64::from(refusal.line)),
+        };
+        assert_eq!(returned, self.number, "{}", self.line);
+    }
 }
 
 /// The bytes that hexadecimal digits stand for; `-` for none.
@@ -51,7 +77,15 @@ fn bytes(digits: &str) -> Vec<u8> {
 
 #[test]
 fn stored_calls_return_what_is_stored() {
-    let calls = calls();
-    calls.lines().for_each(stored_call);
-    say(&format!("{} calls", calls.lines().count()));
+    let (sample, base) = (calls(), base_calls().unwrap_or_default());
+    let mut calls: Vec<Call> = base.lines().map(Call::of).collect();
+    calls.retain(|call| still_due(&call.answer));
+    calls.extend(sample.lines().map(Call::of));
+    calls.iter().for_each(Call::run);
+    let both = calls.iter().filter(|call| !still_due(&call.answer)).count();
+    say(&format!(
+        "{} calls, {both} answered by two ways",
+        calls.len()
+    ));
+    assert!(both > 0, "no call is answered by two ways");
 }

@@ -6,7 +6,8 @@
 
 static const char table[] =
     "typetable\t1\nP\toffice/cat\nT\tbasic\t2\nT\ttuple\nT\tfunc\t0\t1\t1\nT\tnamed\t4\nM\tClose\t0\t2\t1\n"
-    "T\tstruct\nF\tLen\t0\t0\t0\nT\tpointer\t3\nT\tstruct\nF\tBlock\t0\t5\t1\nT\tnamed\t6\n";
+    "T\tstruct\nF\tLen\t0\t0\t0\nT\tpointer\t3\nT\tstruct\nF\tBlock\t0\t5\t1\nT\tnamed\t6\n"
+    "T\tstruct\nF\tA\t0\t3\t1\nF\tB\t0\t5\t1\n";
 
 static uint8_t answer[64];
 static uint32_t work[YIFGRUN_WORK_WORDS + 1];
@@ -55,6 +56,7 @@ static void print_refusal(const char *text, const char *question, size_t room, s
 int main(void)
 {
     print_answer("S\t7\t0\t0\tClose");
+    print_answer("S\t8\t0\t0\tLen");
     print_answer("M\t7");
     print_answer("C\t2");
     print_refusal(table, "V", sizeof answer, YIFGRUN_WORK_WORDS - 1);

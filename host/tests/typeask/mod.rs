@@ -8,8 +8,9 @@ const INPUT: usize = 32_768;
 const ROOM: usize = 16_384;
 
 /// Every answer word, and every refusal but the first: `typeask` has a work area of its own.
-pub const WORDS: [&str; 23] = [
+pub const WORDS: [&str; 24] = [
     "ambiguous",
+    "and",
     "badreceiver",
     "entry",
     "missing",

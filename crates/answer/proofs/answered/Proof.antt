@@ -12,10 +12,11 @@ enum-known-a : tie.Need-enum-known-a
 enum-known-a c = search needs
 
 ask-s-requires : tie.Need-ask-s-requires
-ask-s-requires c κs = let at-question = c .before .before .before .before .before in
-    let at-entry = at-question .before .before .before .before .before .before in
-    let known = s-known _ (at-question .question .ensures .1) (at-entry .args .text .now) (c .before .before .before .a .given .1) in
-    (at-entry .pre .0, ((known .0, known .1, at-entry .pre .1 .0), at-entry .pre .1 .1))
+ask-s-requires c κs =
+    let at-question = c .before .before .before .before in
+    let start = c .before .before .before .before .before .before .before .before .before .before in
+    let known = s-known _ (at-question .question .ensures .1) (start .args .text .now) (c .before .before .a .given .1) in
+    (start .pre .0, (known .0, known .1))
 
 enum-known-a-2 : tie.Need-enum-known-a-2
 enum-known-a-2 c = search needs
@@ -63,7 +64,9 @@ same-length-2 : tie.Need-same-length-2
 same-length-2 c = search needs
 
 returns-2 : tie.Need-returns-2
-returns-2 c = (s-answered _ _ _ _ ((c .before .before .before .before .before .before .before .before .before .before .question .ensures .0) (c .before .before .before .before .before .before .before .before .before .before .before .before .before .before .before .before .args .text .now)) (c .before .before .before .before .before .before .before .before .a .given .1) (c .before .before .before .before .ask-s .ensures .0), (c .before .before .before .before .ask-s .ensures .1))
+returns-2 c =
+    let start = c .before .before .before .before .before .before .before .before .before .before .before .before .before in
+    (s-answered _ _ _ _ (c .before .before .before .before .before .before .before .question .ensures .0 (start .args .text .now)) (c .before .before .before .before .before .a .given .1) (c .before .before .ask-s .ensures), refl)
 
 same-length-3 : tie.Need-same-length-3
 same-length-3 c = search needs
@@ -98,9 +101,6 @@ same-length-9 c = search needs
 returns-6 : tie.Need-returns-6
 returns-6 c = (c-answered _ _ _ _ ((c .before .before .before .before .before .before .before .before .before .before .question .ensures .0) (c .before .before .before .before .before .before .before .before .before .before .before .before .before .before .before .before .args .text .now)) (c .before .before .before .before .before .before .before .before .a5 .given .1) (c .before .before .before .before .ask-c .ensures .0), (c .before .before .before .before .ask-c .ensures .1))
 
-same-length-10 : tie.Need-same-length-10
-same-length-10 c = search needs
-
 returns-7 : tie.Need-returns-7
 returns-7 c = (v-answered _ _ _ _ ((c .before .before .before .before .before .before .question .ensures .0) (c .before .before .before .before .before .before .before .before .before .before .before .before .args .text .now)) (c .before .before .before .before .enum-told .given .1) (c .before .before .ask-v .ensures), refl)
 
@@ -128,19 +128,18 @@ answered-spec =
     ask-v-requires
     enum-told-2
     same-length
-    same-length-2
     returns-2
-    same-length-3
+    same-length-2
     returns-3
+    same-length-3
     same-length-4
-    same-length-5
     returns-4
+    same-length-5
     same-length-6
-    same-length-7
     returns-5
+    same-length-7
     same-length-8
-    same-length-9
     returns-6
-    same-length-10
+    same-length-9
     returns-7
     returns-8)

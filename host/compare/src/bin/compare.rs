@@ -1,6 +1,7 @@
 //! Holds the library's answers against goscript's on COUNT random tables from SEED: every question S, M, N, I and C
 //! on a table of few types, and a hundred on a larger one.
 
+use compare::agreement::Agreed;
 use compare::prng::Prng;
 use compare::random::{self, Shape};
 use compare::{engine, side_by_side};
@@ -19,6 +20,7 @@ fn main() -> ExitCode {
         return ExitCode::SUCCESS;
     };
     let mut letters: BTreeMap<char, u64> = BTreeMap::new();
+    let mut agreed = Agreed::default();
     for n in 0..count {
         let mut prng = Prng::new(seed ^ n.wrapping_mul(0xd134_2543_de82_ef95));
         let shapes = [
@@ -36,7 +38,8 @@ fn main() -> ExitCode {
             random::questions(&mut prng, &table, 100)
         };
         let engines = (goscript.as_mut(), library.as_mut());
-        if let Err(difference) = side_by_side::hold(engines, &table.to_string(), &questions) {
+        let text = table.to_string();
+        if let Err(difference) = side_by_side::hold(engines, &text, &questions, &mut agreed) {
             println!("table {n} of seed {seed}\n{difference}");
             return ExitCode::FAILURE;
         }
@@ -45,6 +48,7 @@ fn main() -> ExitCode {
             *letters.entry(letter).or_default() += 1;
         }
     }
-    println!("seed {seed}: {count} tables, every answer is goscript's; questions: {letters:?}");
+    println!("seed {seed}: {count} tables, questions: {letters:?}");
+    println!("every answer agrees with goscript's: {agreed}");
     ExitCode::SUCCESS
 }

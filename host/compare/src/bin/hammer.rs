@@ -52,8 +52,8 @@ fn print(seed: u64, count: u64, hammer: &Hammer, time: Duration) {
         println!("{count} refused {number}");
     }
     println!(
-        "{} answers and refusals 13 are those of goscript, or for V of the table",
-        counts.compared
+        "answers and refusals 13 held against goscript, or for V the table: {}",
+        counts.agreed
     );
 }
 

@@ -1,20 +1,35 @@
 //! Stored inputs of `typeask` and what it prints for them: a line `BATCH`, then cases that a line `---`
 //! ends each.
 
+use crate::said::say;
 use std::path::{Path, PathBuf};
 use std::{env, fs};
 
-/// The folder of the vectors, if it is at hand: `TYPEASK_VECTORS`, or `../shared/vectors`, both seen from
-/// the root of the repository.
+/// The folder of the base's vectors, if it is at hand: `TYPEASK_VECTORS`, or `../shared/vectors`.
 pub fn vectors() -> Option<PathBuf> {
+    folder("TYPEASK_VECTORS", "../shared/vectors")
+}
+
+/// The folder of document 02's vectors, if it is at hand: `TYPEASK_VECTORS_02`, or `../shared/vectors02`. Its pair `1`
+/// has what is due with point 1 in force.
+pub fn vectors_02() -> Option<PathBuf> {
+    folder("TYPEASK_VECTORS_02", "../shared/vectors02")
+}
+
+/// The folder that a variable names, or else this one, both seen from the root of the repository.
+fn folder(variable: &str, usual: &str) -> Option<PathBuf> {
     let root = Path::new(env!("CARGO_MANIFEST_DIR")).join("../..");
-    let given = env::var("TYPEASK_VECTORS").unwrap_or("../shared/vectors".to_owned());
-    let folder = root.join(given);
+    let folder = root.join(env::var(variable).unwrap_or(usual.to_owned()));
     if !folder.is_dir() {
-        println!("the vectors are not at hand");
+        say(&format!("{} is not at hand", folder.display()));
         return None;
     }
     Some(folder)
+}
+
+/// The folder of the stored sample.
+pub fn sample() -> PathBuf {
+    Path::new(env!("CARGO_MANIFEST_DIR")).join("testdata")
 }
 
 /// Every input of a pair of files with what is printed for it.

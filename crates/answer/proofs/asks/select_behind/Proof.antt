@@ -1,23 +1,21 @@
 -- `select_behind` meets its contract.
 use native.Mathlib.Omega.{arith}
-use lib.ListN.{length-take, length-drop}
-use Rattle.answer.proofs.Answering.{selects-behind}
+use Rattle.answer.proofs.Answering.{scratch-part, scratch-long, selects-behind}
 use borrow.Author.Needs.{needs}
 use Rattle.answer.proofs.asks.select_behind.Statement.{statement}
 use Rattle.answer.proofs.asks.select_behind.Tie as tie
 
 sub-lookup-field-or-method : tie.Need-sub-lookup-field-or-method
-sub-lookup-field-or-method c = omega arith
+sub-lookup-field-or-method c = let start = c .before .before .before .before .before in let long = scratch-long (start .args .numbers .now) (start .pre .1 .2) in omega arith
 
 part-lookup-field-or-method-start : tie.Need-part-lookup-field-or-method-start
-part-lookup-field-or-method-start c = search needs
+part-lookup-field-or-method-start c = let start = c .before .before .before .before .before in let long = scratch-long (start .args .numbers .now) (start .pre .1 .2) in omega arith
 
 part-lookup-field-or-method-end : tie.Need-part-lookup-field-or-method-end
 part-lookup-field-or-method-end c = search needs
 
 lookup-field-or-method-requires : tie.Need-lookup-field-or-method-requires
-lookup-field-or-method-requires c κs = let at-entry = c .before .before .before .before .before .before .before .before .before in
-    ((at-entry .pre .0), (((at-entry .pre .1 .0 .0), (at-entry .pre .1 .0 .1)), (((at-entry .pre .1 .0 .2), (at-entry .pre .1 .0 .3), simp (length-take, length-drop) (omega arith)), (at-entry .pre .1 .1))))
+lookup-field-or-method-requires c κs = let start = c .before .before .before .before .before .before in (start .pre .0, ((start .pre .1 .0, start .pre .1 .1), scratch-part (start .args .numbers .now) (start .pre .1 .2)))
 
 same-length : tie.Need-same-length
 same-length c = search needs
@@ -25,13 +23,10 @@ same-length c = search needs
 same-length-2 : tie.Need-same-length-2
 same-length-2 c = search needs
 
-same-length-3 : tie.Need-same-length-3
-same-length-3 c = search needs
-
 returns : tie.Need-returns
-returns c = let at-lookup-field-or-method = c .before .before .before .before .before .before in
-    let at-entry = at-lookup-field-or-method .before .before .before .before .before .before .before .before .before .before in
-    (selects-behind (at-entry .args .numbers .now) (omega arith) (at-lookup-field-or-method .lookup-field-or-method .ensures .0), (at-lookup-field-or-method .lookup-field-or-method .ensures .1))
+returns c =
+    let start = c .before .before .before .before .before .before .before .before .before .before in
+    selects-behind (start .args .numbers .now) (scratch-long (start .args .numbers .now) (start .pre .1 .2)) (c .before .before .before .lookup-field-or-method .ensures .0)
 
 pub select-behind-spec : {M : Type 1} → statement M
 select-behind-spec =
@@ -43,5 +38,4 @@ select-behind-spec =
     lookup-field-or-method-requires
     same-length
     same-length-2
-    same-length-3
     returns)

@@ -11,16 +11,16 @@ bad-receiver-requires : tie.Need-bad-receiver-requires
 bad-receiver-requires c κs = search needs
 
 returns : tie.Need-returns
-returns c = alone-bad _ _ _ _ _ ((c .before .before .has-ptr .ensures)) ((c .before .bad-receiver .ensures)) ((c .if1 .taken))
+returns c = alone-bad _ _ _ _ _ (c .before .before .has-ptr .ensures) (c .before .bad-receiver .ensures) (c .if1 .taken)
 
 is-method-requires : tie.Need-is-method-requires
 is-method-requires c κs = search needs
 
 returns-2 : tie.Need-returns-2
-returns-2 c = alone-method _ _ _ _ _ ((c .before .before .before .before .has-ptr .ensures)) ((c .before .before .before .bad-receiver .ensures)) ((c .before .before .if1 .left)) ((c .before .is-method .ensures)) ((c .if2 .taken))
+returns-2 c = alone-method _ _ _ _ _ (c .before .before .before .before .has-ptr .ensures) (c .before .before .before .bad-receiver .ensures) (c .before .before .if1 .left) (c .before .is-method .ensures) (c .if2 .taken)
 
 returns-3 : tie.Need-returns-3
-returns-3 c = alone-field _ _ _ _ _ ((c .before .before .before .before .has-ptr .ensures)) ((c .before .before .before .bad-receiver .ensures)) ((c .before .before .if1 .left)) ((c .before .is-method .ensures)) ((c .if2 .left))
+returns-3 c = alone-field _ _ _ _ _ (c .before .before .before .before .has-ptr .ensures) (c .before .before .before .bad-receiver .ensures) (c .before .before .if1 .left) (c .before .is-method .ensures) (c .if2 .left)
 
 pub alone-spec : {M : Type 1} → statement M
 alone-spec =

@@ -1,82 +1,83 @@
 -- `levels::search::verdict` meets its contract.
 use native.Mathlib.Omega.{arith}
-use Rattle.level_rows.proofs.StateLaws.{rows-few}
-use Rattle.level_rows.proofs.EnterLaws.{library-few}
-use Rattle.levels.proofs.HitLaws.{told-nothing, told-at}
-use Rattle.levels.proofs.VerdictLaws.{verdict-marked, verdict-second, verdict-alone}
+use Rattle.levels.proofs.HitLaws.{flag-read}
+use Rattle.levels.proofs.VerdictLaws.{second-fits, verdict-one, verdict-two}
 use borrow.Author.Needs.{needs}
 use Rattle.levels.proofs.search.verdict.Statement.{statement}
 use Rattle.levels.proofs.search.verdict.Tie as tie
 
-add-count : tie.Need-add-count
-add-count c = omega (arith, (c .before .before .before .before .before .pre .1 .0 .0))
-
-mul-load : tie.Need-mul-load
-mul-load c = omega arith
-
-load-requires : tie.Need-load-requires
-load-requires c κs = search needs
-
 write-places-requires : tie.Need-write-places-requires
 write-places-requires c κs = search needs
+
+enum-known-next : tie.Need-enum-known-next
+enum-known-next c = search needs
+
+sub-write-places : tie.Need-sub-write-places
+sub-write-places c = search needs
+
+part-write-places-start : tie.Need-part-write-places-start
+part-write-places-start c = search needs
+
+part-write-places-end : tie.Need-part-write-places-end
+part-write-places-end c = search needs
+
+write-places-requires-2 : tie.Need-write-places-requires-2
+write-places-requires-2 c κs =
+    let start = c .before .before .before .before .before .before .before .before .before .before .before in
+    let first = c .before .before .before .before .before .before .write-places in
+    second-fits (start .args .text .now) (start .args .rows .now) (start .args .walk .now) (start .args .w) (start .args .a) (start .pre .0) (first .ensures) (omega (arith, start .pre .1)) (c .before .before .next .given .1) (start .pre .2)
+
+enum-told : tie.Need-enum-told
+enum-told c = search needs
+
+cast-record-at : tie.Need-cast-record-at
+cast-record-at c = search needs
+
+record-at-requires : tie.Need-record-at-requires
+record-at-requires c κs = search needs
+
+array-read-alone : tie.Need-array-read-alone
+array-read-alone c = search needs
+
+alone-requires : tie.Need-alone-requires
+alone-requires c κs = search needs
 
 same-length : tie.Need-same-length
 same-length c = search needs
 
 returns : tie.Need-returns
-returns c = verdict-marked _ _ _ _ _ _ _ _ _ ((c .before .before .before .before .before .before .before .before .before .before .before .pre .1 .0 .0)) ((c .before .before .before .before .before .before .before .before .before .before .before .pre .1 .1 .1)) ((c .before .before .before .before .before .load .ensures)) ((c .before .before .before .before .if1 .taken)) ((c .before .before .write-places .ensures))
-
-add-next-hit : tie.Need-add-next-hit
-add-next-hit c = omega (arith, rows-few _ _ _ ((c .before .before .before .before .before .before .before .pre .1 .1 .0)), library-few ((c .before .before .before .before .before .before .before .pre .0)), (c .before .before .before .before .before .before .before .pre .1 .0 .2))
-
-next-hit-requires : tie.Need-next-hit-requires
-next-hit-requires c κs = ((c .before .before .before .before .before .before .before .pre .0), ((omega (arith, (c .before .before .before .before .before .before .before .pre .1 .0 .2)), (c .before .before .before .before .before .before .before .pre .1 .0 .3)), (c .before .before .before .before .before .before .before .pre .1 .1 .0)))
-
-enum-known-j : tie.Need-enum-known-j
-enum-known-j c = search needs
-
-write-places-requires-2 : tie.Need-write-places-requires-2
-write-places-requires-2 c κs = search needs
-
-enum-told : tie.Need-enum-told
-enum-told c = search needs
-
-write-places-requires-3 : tie.Need-write-places-requires-3
-write-places-requires-3 c κs = search needs
-
-alone-requires : tie.Need-alone-requires
-alone-requires c κs = search needs
+returns c =
+    let start = c .before .before .before .before .before .before .before .before .before .before .before .before .before .before in
+    let first = c .before .before .before .before .before .before .before .before .before .write-places in
+    let second = c .before .before .write-places2 in
+    verdict-two _ _ _ _ _ (start .pre .0) (first .ensures) (omega (arith, start .pre .1)) (c .before .before .before .before .before .next .given .1) (start .pre .2) (second .ensures) (search needs)
 
 same-length-2 : tie.Need-same-length-2
 same-length-2 c = search needs
 
 returns-2 : tie.Need-returns-2
-returns-2 c = verdict-second _ _ _ _ _ _ _ _ _ ((c .before .before .before .before .before .before .before .before .before .before .before .before .before .before .before .pre .1 .0 .0)) ((c .before .before .before .before .before .before .before .before .before .before .before .before .before .before .before .pre .1 .1 .1)) ((c .before .before .before .before .before .before .before .before .before .load .ensures)) ((c .before .before .before .before .before .before .before .before .if1 .left)) _ (omega arith) (told-at _ _ _ _ _ _ ((c .before .before .before .before .before .before .before .next-hit .ensures)) ((c .before .before .before .before .before .j .given .1))) ((c .before .before .write-places2 .ensures))
-
-same-length-3 : tie.Need-same-length-3
-same-length-3 c = search needs
-
-returns-3 : tie.Need-returns-3
-returns-3 c = verdict-alone _ _ _ _ _ _ _ _ _ ((c .before .before .before .before .before .before .before .before .before .before .before .before .before .before .before .pre .1 .0 .0)) ((c .before .before .before .before .before .before .before .before .before .before .before .before .before .before .before .pre .1 .1 .1)) ((c .before .before .before .before .before .before .before .before .before .load .ensures)) ((c .before .before .before .before .before .before .before .before .if1 .left)) _ (omega arith) (told-nothing _ _ _ _ _ _ ((c .before .before .before .before .before .before .before .next-hit .ensures)) ((c .before .before .before .before .before .enum-told .given .1))) ((c .before .before .before .write-places3 .ensures)) ((c .alone .ensures))
+returns-2 c =
+    let start = c .before .before .before .before .before .before .before .before .before .before .before in
+    let first = c .before .before .before .before .before .before .write-places in
+    let read = flag-read _ _ _ (c .before .record-at .ensures) in
+    verdict-one _ _ _ _ _ (start .pre .0) (first .ensures) (start .pre .3) (c .before .before .enum-told .given .1) read (c .alone .ensures)
 
 pub verdict-spec : {M : Type 1} → statement M
 verdict-spec =
     tie.close
     (tie.spec
-    add-count
-    mul-load
-    load-requires
     write-places-requires
-    same-length
-    returns
-    add-next-hit
-    next-hit-requires
-    enum-known-j
+    enum-known-next
+    sub-write-places
+    part-write-places-start
+    part-write-places-end
     write-places-requires-2
     enum-told
-    write-places-requires-3
+    cast-record-at
+    record-at-requires
+    array-read-alone
     alone-requires
+    same-length
+    returns
     same-length-2
-    returns-2
-    same-length-3
-    returns-3)
+    returns-2)

@@ -30,19 +30,19 @@ same-length : tie.Need-same-length
 same-length c = search needs
 
 returns : tie.Need-returns
-returns c = (λ places. by-method _ _ _ places (c .before .before .before .before .before .before .before .before .result .given .1) (c .before .before .before .before .before .entity .given .1) (c .before .before .before .before .before .before .before .before .before .before .before .before .before .pre .1 .0 .2) _ (c .before .before .compared .ensures .0), (c .before .before .compared .ensures .1))
+returns c = (λ first second. by-method _ _ _ first second (c .before .before .before .before .before .before .before .before .result .given .1) (c .before .before .before .before .before .entity .given .1) (c .before .before .before .before .before .before .before .before .before .before .before .before .before .pre .1 .0 .2) _ (c .before .before .compared .ensures .0), (c .before .before .compared .ensures .1))
 
 returns-2 : tie.Need-returns-2
-returns-2 c = (λ places. by-field _ _ _ places (c .before .before .before .result .given .1) (c .enum-told .given .1) (c .before .before .before .before .before .before .before .before .pre .1 .0 .2), refl)
+returns-2 c = (λ first second. by-field _ _ _ first second (c .before .before .before .result .given .1) (c .enum-told .given .1) (c .before .before .before .before .before .before .before .before .pre .1 .0 .2), refl)
 
 returns-3 : tie.Need-returns-3
-returns-3 c = (λ places. by-ambiguous _ _ _ places (c .enum-told2 .given .1), refl)
+returns-3 c = (λ first second. by-ambiguous _ _ _ first second (c .enum-told2 .given .1), refl)
 
 returns-4 : tie.Need-returns-4
-returns-4 c = (λ places. by-receiver _ _ _ places (c .enum-told3 .given .1), refl)
+returns-4 c = (λ first second. by-receiver _ _ _ first second (c .enum-told3 .given .1), refl)
 
 returns-5 : tie.Need-returns-5
-returns-5 c = (λ places. by-nothing _ _ _ places (c .enum-told4 .given .1), refl)
+returns-5 c = (λ first second. by-nothing _ _ _ first second (c .enum-told4 .given .1), refl)
 
 pub unmet-by-spec : {M : Type 1} → statement M
 unmet-by-spec =

@@ -1,0 +1,9 @@
+pub mod FirstTwo
+pub mod Levels
+pub mod RowsKept
+pub mod Select
+pub mod Tables
+pub mod Few
+pub mod Loops
+pub mod Loaded
+pub mod Computed
