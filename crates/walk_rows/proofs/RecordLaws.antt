@@ -51,10 +51,6 @@ module _ (walk : List Record) (i : ℕ) where
   unfolding rowOf rowMeant
   row-place = refl
 
-  pub row-flag : rowOf walk i .flag ≡ eqb (wordAt (recordAt walk i) indirectColumn) 1
-  unfolding rowOf rowMeant
-  row-flag = refl
-
   pub row-level : rowOf walk i .level ≡ levelOf walk i
   unfolding rowOf rowMeant levelOf
   row-level = refl

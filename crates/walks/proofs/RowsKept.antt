@@ -100,17 +100,6 @@ module _ (d : ℕ) (R : List Row) (low : (r : Row) → In r R → r .level ≤ d
       and-no true b h = h
       and-no false b h = refl
 
-  -- WHEN A ROW IS NOT ENTERED: its type has a row before the level, or two from where the level begins.
-  pub full-reads : (F : List Row) (x : Row) → Under F → x .level ≡ suc d → full (R ++ F) x ≡ met R (typ x) || twice (map typ F) (typ x)
-  full-reads F x un e =
-      full-is F x un e
-      ∙ cases (met R (typ x))
-      (λ m. rw m)
-      (λ m. let c = count-none typ (typ x) R m in
-      let s : count (typ x) (map typ (R ++ F)) ≡ count (typ x) (map typ R) + count (typ x) (map typ F) = ap (count (typ x)) (map-append typ R F) ∙ count-append (typ x) (map typ R) (map typ F) in
-      let same : count (typ x) (map typ (R ++ F)) ≡ count (typ x) (map typ F) = omega arith in
-      rw m (ap (leb 2) same))
-
   enter-rows : (X F : List Row) (B : List TypeKey) → Under F → Under X → ((u : TypeKey) → met R u ≡ false → count u B ≡ count u (map typ (R ++ F)))
       → enterAll (R ++ F) X ≡ (R ++ F) ++ firstTwo typ B (keep (λ x. not (met R (typ x))) X)
   enter-rows [] F B uf ux h = sym (append-nil (R ++ F))
