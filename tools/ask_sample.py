@@ -4,16 +4,16 @@
     host/compare/target/release/random_inputs 1 3000 > RANDOM
     ask_sample.py VECTORS VECTORS02 RANDOM CRATES
 
-VECTORS has the base's small, mixed and damaged (.in and .out): inputs of typeask with what it prints. Of every k-th of each those are taken that have no answer
-`ambiguous`, which point 1 of document 02 changes. VECTORS02 has the pair 1, with point 1 in force: the first cases, worked out by hand, are all taken, then
-every k-th and those with two ways. The edges of document 01 are added; what is due for them is said here, with the sentence of document 01 or 02 that decides
-it, and no program is asked. RANDOM has random and damaged tables with one question each, and what goscript and document 01's refusals give for them, none of it
-`ambiguous`. CRATES/typeask_run gets all of it, each input behind its length and each print behind its number; CRATES/typeask gets the example of document 01
-alone.
+VECTORS has the base's small, mixed and damaged (.in and .out): inputs of typeask with what it prints. Of every k-th of each those are taken that document 02
+leaves as they are. VECTORS02 has the pairs 1 and 2, with points 1 to that number in force: the first cases of 2, worked out by hand, are all taken, then every
+k-th and those with two ways. The edges of document 01 are added; what is due for them is said here, with the sentence of document 01 or 02 that decides
+it, and no program is asked. RANDOM has random and damaged tables with one question each, and what goscript's answers without the two departures of a method set
+and document 01's refusals give for them, none of it `ambiguous`. CRATES/typeask_run gets all of it, each input behind its length and each print behind its
+number; CRATES/typeask gets the example of document 01 alone.
 """
 import sys
 
-from vectors import cases, read, still_due
+from vectors import cases, of_points, read, still_due
 
 HEAD = b'typetable\t1\n'
 INT = b'T\tbasic\t2'
@@ -23,8 +23,8 @@ def sample(vectors, vectors02):
     chosen = []
     for name, step in [('small', 5), ('mixed', 3), ('damaged', 12)]:
         chosen += still_due(cases(vectors, name)[::step])
-    for k, case in enumerate(cases(vectors02, '1')):
-        if k < 40 or k % 5 == 0 or b'\nand\t' in case[1]:
+    for k, case in enumerate(of_points(vectors02)):
+        if k < 40 or k % 4 == 0 or b'\nand\t' in case[1]:
             chosen.append(case)
     # no more than 32,769 bytes of an input are read
     return [(text[:32769], print_) for text, print_ in chosen]
@@ -251,7 +251,7 @@ def refusal_edges():
 
 
 def more_edges():
-    """"More": what document 01 says of Byte and document 02 of two ways of one length, and one answer of each word of N."""
+    """"More": what document 01 says of Byte, document 02 of two ways of one length and of a method set, and one answer of each word of N."""
     embeds = lambda *ts: [b'T\tstruct'] + [b'F\tE%d\t-\t%d\t1' % (t, t) for t in ts]
     owns = [b'T\tstruct', b'F\tX\t-\t0\t0']
     return [
@@ -260,6 +260,12 @@ def more_edges():
         (asked(table(INT, *owns, b'T\tnamed\t1', *embeds(2), b'T\tnamed\t3', *embeds(2), b'T\tnamed\t5', *embeds(4, 6), b'T\tnamed\t7'), b'S\t8\t0\t-\tX'), b'ambiguous\t0\t0\t0\nand\t1\t0\t0\n'),
         # A and B each own X instead: A is 2, B 4, D 6
         (asked(table(INT, *owns, b'T\tnamed\t1', *owns, b'T\tnamed\t3', *embeds(2, 4), b'T\tnamed\t5'), b'S\t6\t0\t-\tX'), b'ambiguous\t0\t0\nand\t1\t0\n'),
+        # "A script had a field `Flush` above an embedded writer with a method `Flush`": 5 has the field, member 1, and embeds 4; "selecting `Flush` gives the field"
+        (asked(table(INT, b'T\ttuple', b'T\tfunc\t0\t1\t1', b'T\tstruct', b'T\tnamed\t3', b'M\tFlush\t-\t2\t0', b'T\tstruct', b'F\tFlush\t-\t0\t0', b'F\tW\t-\t4\t1', b'T\tpointer\t5'),
+               b'M\t5', b'S\t5\t0\t-\tFlush', b'M\t6', b'M\t4'), b'set\t0\nentry\t1\t0\t0\nset\t0\nset\t1\nsel\t0\t0\t0\n'),
+        # "a pointer to any type with an interface under it has an empty set": 3 is a name of the interface 2, 4 and 5 point to them
+        (asked(table(b'T\ttuple', b'T\tfunc\t0\t0\t0', b'T\tiface', b'M\tX\t-\t1\t0', b'T\tnamed\t2', b'T\tpointer\t3', b'T\tpointer\t2'), b'M\t2', b'M\t3', b'M\t4', b'M\t5'),
+         b'set\t1\nsel\t0\t1\t0\n' * 2 + b'set\t0\n' * 2),
         # "Basic 26 and 8: `yes`"
         (asked(table(b'T\tbasic\t26', b'T\tbasic\t8', INT), b'I\t0\t1', b'I\t0\t2'), b'yes\nno\n'),
         # named type 4 has Close with the signature 1, named type 5 with 3; interface 6 wants it with 1: the methods are members 0, 1 and 2

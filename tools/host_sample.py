@@ -3,18 +3,18 @@
 
     host_sample.py VECTORS VECTORS02 HOST
 
-VECTORS has the base's vectors: small, mixed and damaged (.in and .out), and calls (entry.txt); VECTORS02 those of document 02, of which 1 has point 1 in
-force. Of the base's what has no answer `ambiguous` is taken. Sample by sample:
+VECTORS has the base's vectors: small, mixed and damaged (.in and .out), and calls (entry.txt); VECTORS02 those of document 02, of which 1 has point 1 in force
+and 2 points 1 and 2. Of the base's what document 02 leaves as it is is taken. Sample by sample:
 
 HOST/testdata/sample: some cases with each word that is printed, and with each refusal.
-HOST/testdata/entry.txt: some calls with each refusal and each word of an answer, and the questions of the first cases of 1 in buffers that have just the room
+HOST/testdata/entry.txt: some calls with each refusal and each word of an answer, and the questions of the first cases of 2 in buffers that have just the room
 for the answer, a byte less, room for its first line alone, and none.
 HOST/compare/testdata/sample: document 01's example, and every k-th case of tables that load.
 """
 import sys
 from collections import Counter
 
-from vectors import cases, read, still_due, write
+from vectors import cases, lists, of_points, read, still_due, write
 
 ROOM = 16384
 NO_ROOM = -13 * 65536
@@ -54,14 +54,22 @@ def answer_of(call):
     return b'' if answer == '-' else bytes.fromhex(answer)
 
 
+def answers_of(print_):
+    """What was printed, answer by answer: the lines `and` and `sel` belong to the line before them."""
+    answers = []
+    for line in print_.splitlines(keepends=True):
+        if line.startswith((b'and\t', b'sel\t')):
+            answers[-1] += line
+        else:
+            answers.append(line)
+    return answers
+
+
 def calls_of(case):
-    """Calls on a case whose questions are all S, answered with `ambiguous`: "the answer is longer than the answer buffer" is refusal 13."""
+    """Calls on a case whose questions are all answered: "the answer is longer than the answer buffer" is refusal 13."""
     table, questions = case[0].split(b'Q\n')
-    lines = case[1].splitlines(keepends=True)
-    answers = [first + second for first, second in zip(lines[::2], lines[1::2])]
     calls = []
-    for question, answer in zip(questions.splitlines(), answers, strict=True):
-        assert answer.startswith(b'ambiguous\t') and b'\nand\t' in answer
+    for question, answer in zip(questions.splitlines(), answers_of(case[1]), strict=True):
         for room in ROOM, len(answer), len(answer) - 1, answer.index(b'\n') + 1, 0:
             fits = len(answer) <= room
             number, given = (len(answer), answer.hex()) if fits else (NO_ROOM, '-')
@@ -71,18 +79,18 @@ def calls_of(case):
 
 def main():
     vectors, vectors02, host = sys.argv[1:4]
-    point_1 = cases(vectors02, '1')
+    points = of_points(vectors02)
     small, mixed, damaged = (still_due(cases(vectors, name)) for name in ('small', 'mixed', 'damaged'))
-    library = of_each(point_1 + damaged + small + mixed, lambda case: len(case[0]), printed_words, 2000, 8)
+    library = of_each(points + damaged + small + mixed, lambda case: len(case[0]), printed_words, 2000, 8)
     write(f'{host}/testdata', 'sample', library)
-    calls = [call for call in read(f'{vectors}/entry.txt').splitlines() if not answer_of(call).startswith(b'ambiguous\t')]
+    calls = [call for call in read(f'{vectors}/entry.txt').splitlines() if not answer_of(call).startswith(b'ambiguous\t') and not lists(answer_of(call))]
     stored = of_each(calls, len, call_words, 4000, 6)
-    for case in point_1[:4]:
+    for case in points[:9]:
         stored += calls_of(case)
     with open(f'{host}/testdata/entry.txt', 'wb') as file:
         file.write(b''.join(call + b'\n' for call in stored))
     example = tuple(read(f'{host}/../crates/typeask/{name}') for name in ('stdin', 'stdout'))
-    loading = [case for case in point_1 if not case[1].startswith(b'refused') and len(case[0]) <= 6000]
+    loading = [case for case in points if not case[1].startswith(b'refused') and len(case[0]) <= 6000]
     # from these places on a set that is longer than the answer buffer is among each
     goscript = [example] + loading[:9] + loading[9::4] + small[3::6] + mixed[1::6]
     write(f'{host}/compare/testdata', 'sample', goscript)

@@ -12,7 +12,7 @@ use Rattle.objects.specs.Lists.{Bytes, flat}
 use Rattle.objects.specs.declared.TypeKey.{TypeKey}
 use Rattle.objects.specs.declared.«Package».{«Package»}
 use Rattle.objects.specs.Rows.{Words, typeCount, packageCount, memberCountOf, packageMeant, bytesAt, tableOf}
-use Rattle.objects.specs.Table.{size, memberCount, objKey, hasPackage}
+use Rattle.objects.specs.Table.{size, memberCount, hasPackage}
 use Rattle.objects.proofs.ListLaws.{flat-map}
 use Rattle.objects.proofs.RowLaws.{size-read, member-count-read, package-count-read}
 use Rattle.text.specs.Bytes.{ascii}
@@ -23,7 +23,7 @@ use Rattle.rules.specs.Identity.{identical}
 use Rattle.rules.specs.Comparable.{comparable}
 use Rattle.rules.specs.Question.{Question, askS, askM, askN, askI, askC, askV, questionOf}
 use Rattle.rules.specs.Answer.{Sel, selOf, selected, set, says, counts, lackAnswer, answer, answerBytes, selBytes}
-use Rattle.rules.specs.Asked.{refuse, fitted, wrongSecond, answered}
+use Rattle.rules.specs.Asked.{fitted, wrongSecond, answered}
 use Rattle.print.specs.Written.{numberLine}
 use Rattle.print.proofs.Lines.{set-line, sel-line}
 use Rattle.question.specs.declared.Ask.{Ask}
@@ -35,7 +35,9 @@ use Rattle.selection.specs.declared.Missing.{Missing}
 use Rattle.selection.specs.declared.Selection.{Selection}
 use Rattle.selection.specs.Results.{nameMeant, resultMeant, secondOf, missingMeant, Selects}
 use Rattle.multiples.specs.Records.{Record, maxRecords, recordWords}
+use Rattle.walk_rows.specs.State.{Wide}
 use Rattle.levels.specs.Hits.{Scratch}
+use Rattle.first_hits.specs.Hits.{FirstHit, hitWords, Held}
 use Rattle.method_set.specs.Sets.{selAt, selNumbers, SetHeld}
 use Rattle.reply.specs.declared.Done.{Done}
 use Rattle.reply.specs.Done.{Does, due}
@@ -49,21 +51,22 @@ unfolding selNumbers
 lines-flat [] = refl
 lines-flat (s ∷ ss) = ap (λ l. l ++ flat selBytes ss) (sel-line s) ∙ ap (λ l. numberLine (ascii "sel") (selNumbers s) ++ l) (lines-flat ss)
 
-words-flat : (sels first : Words) (ks : List ℕ) → selLines sels first ks ≡ flat (numberLine (ascii "sel")) (map (λ k. selAt sels first (objKey k)) ks)
-unfolding selLines selLine
-words-flat sels first ks = sym (flat-map (numberLine (ascii "sel")) (λ k. selAt sels first (objKey k)) ks)
-
 map-length : {A B : Type 0} (f : A → B) (l : List A) → length (map f l) ≡ length l
 map-length f [] = refl
 map-length f (x ∷ l) = ap suc (map-length f l)
 
-held-lines : (sels first : Words) (ks : List ℕ) (ss : List Sel) → map (λ k. selAt sels first (objKey k)) ks ≡ map selNumbers ss → answerBytes (set ss) ≡ setLines sels first ks
-unfolding setLines
-held-lines sels first ks ss e =
-    let l : length ss ≡ length ks = sym (map-length selNumbers ss) ∙ sym (ap length e) ∙ map-length (λ k. selAt sels first (objKey k)) ks in
-    set-line ss
-    ∙ ap (λ n. numberLine (ascii "set") (n ∷ []) ++ flat selBytes ss) l
-    ∙ ap (λ b. numberLine (ascii "set") (length ks ∷ []) ++ b) (lines-flat ss ∙ sym (ap (flat (numberLine (ascii "sel"))) e) ∙ sym (words-flat sels first ks))
+module _ (rows : Words) (walk : List Record) (hits : List FirstHit) (ks : List ℕ) where
+  words-flat : selLines rows walk hits ks ≡ flat (numberLine (ascii "sel")) (map (selAt rows walk hits) ks)
+  unfolding selLines selLine
+  words-flat = sym (flat-map (numberLine (ascii "sel")) (selAt rows walk hits) ks)
+
+  held-lines : (ss : List Sel) → map (selAt rows walk hits) ks ≡ map selNumbers ss → answerBytes (set ss) ≡ setLines rows walk hits ks
+  unfolding setLines
+  held-lines ss e =
+      let l : length ss ≡ length ks = sym (map-length selNumbers ss) ∙ sym (ap length e) ∙ map-length (selAt rows walk hits) ks in
+      set-line ss
+      ∙ ap (λ n. numberLine (ascii "set") (n ∷ []) ++ flat selBytes ss) l
+      ∙ ap (λ b. numberLine (ascii "set") (length ks ∷ []) ++ b) (lines-flat ss ∙ sym (ap (flat (numberLine (ascii "sel"))) e) ∙ sym words-flat)
 
 -- ---- places behind two words
 
@@ -90,14 +93,28 @@ pub lent-long : (k n : ℕ) → n ≤ k → n ≡ length (take n (replicate k no
 lent-long k n h = let all = length-replicate k noWords in simp length-take (omega arith)
 
 -- two for each type
-pub scratch-new : (rows : Words) (k n : ℕ) → n ≡ 2 * typeCount rows → n ≤ k → n ≤ maxRecords → (places : Words) → 2 * maxPlaces ≤ length places → Scratch rows (take n (replicate k noWords)) places
-scratch-new rows k n e room most places h =
+pub lent-new : (rows : Words) (k n : ℕ) → n ≡ 2 * typeCount rows → n ≤ k → n ≤ maxRecords
+    → (2 * typeCount rows ≤ length (take n (replicate k noWords))) × (length (take n (replicate k noWords)) ≤ maxRecords) × Wide (take n (replicate k noWords))
+lent-new rows k n e room most =
     let long = lent-long k n room in
+    (omega arith, omega arith, λ j l. ap length (getD-take n (replicate k noWords) j [] (omega arith) ∙ getD-replicate k j noWords [] (omega arith)))
+
+pub scratch-new : (rows : Words) (k n : ℕ) → n ≡ 2 * typeCount rows → n ≤ k → n ≤ maxRecords → (places : Words) → 2 * maxPlaces ≤ length places → Scratch rows (take n (replicate k noWords)) places
+scratch-new rows k n e room most places h = let lent = lent-new rows k n e room most in record { room = lent .0; most = lent .1; wide = lent .2; long = h }
+
+abbrev noHit : FirstHit
+noHit = replicate {A = ℕ} hitWords 0
+
+-- a word and a first hit for each member: no name is listed
+pub held-new : (text : Bytes) (rows : Words) (k : ℕ) → memberCountOf rows ≤ k → Held text rows (replicate k 0) 0 (replicate k noHit)
+held-new text rows k h =
+    let words = length-replicate {A = ℕ} k 0 in
+    let all = length-replicate k noHit in
     record {
-      room = omega arith;
-      most = omega arith;
-      wide = λ j l. ap length (getD-take n (replicate k noWords) j [] (omega arith) ∙ getD-replicate k j noWords [] (omega arith));
-      long = h;
+      listed = record { sorted = tt; keys = λ j i. absurd i };
+      few = omega arith;
+      long = omega arith;
+      room = λ j l. record { inside = omega arith; wide = ap length (getD-replicate k j noHit [] (omega arith)) };
     }
 
 -- the places behind two words that are left free
@@ -145,10 +162,10 @@ module _ (text : Bytes) (rows : Words) (before : Bytes) {after : Bytes} {r : Don
 
   -- ---- M
 
-  pub m-due : (t : TypeKey) (given sels first : Words) (n : ℕ) → SetHeld text rows t given sels first n
-      → Does (fitted (length before) (setLines sels first (take n given))) r before after → Does (due (tableOf text rows) (length before) (askM t)) r before after
+  pub m-due : (t : TypeKey) (walk : List Record) (names : Words) (hits : List FirstHit) (n : ℕ) → SetHeld text rows t walk names hits n
+      → Does (fitted (length before) (setLines rows walk hits (take n names))) r before after → Does (due (tableOf text rows) (length before) (askM t)) r before after
   unfolding answer
-  m-due t given sels first n h d = due-said (askM t) (held-lines sels first (take n given) (map (selOf (tableOf text rows)) (methodSet (tableOf text rows) t)) (h .lines)) d
+  m-due t walk names hits n h d = due-said (askM t) (held-lines rows walk hits (take n names) (map (selOf (tableOf text rows)) (methodSet (tableOf text rows) t)) (h .lines)) d
 
 -- ---- what the line asks
 

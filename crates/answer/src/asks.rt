@@ -10,12 +10,17 @@ ghost use Rattle.rules.specs.Library.{Library};
 ghost use Rattle.rules.specs.Question.{askS, askM, askN, askI, askC, askV};
 ghost use Rattle.rules.specs.Ways.{select};
 ghost use Rattle.selection.specs.Results.{Selects, nameMeant};
+ghost use Rattle.multiples.specs.Records.{maxRecords};
+ghost use Rattle.walk_rows.specs.State.{Wide};
 ghost use Rattle.levels.specs.Hits.{Scratch};
+ghost use Rattle.first_hits.specs.Hits.{Held};
 ghost use Rattle.reply.specs.Done.{Does, due};
+use first_hits::FirstHit;
 use lookup::lookup_field_or_method;
 use lookup::missing::missing_method;
 use multiples::EmbeddedType;
 use objects::TypeKey;
+use objects::rows::member_count;
 use objects::rows::type_count;
 use reply::Done;
 use reply::one_line::say_counts;
@@ -35,6 +40,11 @@ const RECORDS: usize = 512;
 const SOME_RECORDS: usize = 256;
 
 const FEW_RECORDS: usize = 64;
+
+// M is lent a word and a first hit for each member, likewise.
+const MEMBERS: usize = 1_024;
+
+const SOME_MEMBERS: usize = 256;
 
 // S, with the places behind two words that are left free.
 fn select_behind(
@@ -100,16 +110,40 @@ pub fn ask_s(
     ask_s_on(text, rows, &mut walk[..n], line, answer, q, t, a)
 }
 
+// M on lent records.
+fn ask_m_on(
+    text: &[u8],
+    rows: &[u32],
+    walk: &mut [EmbeddedType],
+    names: &mut [u32],
+    hits: &mut [FirstHit],
+    answer: &mut [u8],
+    t: TypeKey,
+) -> Done
+    requires { ⌜ Library (now text) (now rows) ⌝ }
+    requires { ⌜ (t .0 < typeCount (now rows)) × (2 * typeCount (now rows) ≤ length (now walk)) × (length (now walk) ≤ maxRecords) × Wide (now walk) × Held (now text) (now rows) (now names) 0 (now hits) ⌝ }
+    ensures { λ r. ⌜ Does (due (tableOf (now (text .entry)) (now (rows .entry))) (length (now (answer .entry))) (askM t)) r (now (answer .entry)) (now (answer .exit)) ⌝ }
+{
+    let n = method_set::new(text, rows, t, walk, names, hits);
+    say_set(answer, rows, walk, hits, names, n)
+}
+
 pub fn ask_m(text: &[u8], rows: &[u32], answer: &mut [u8], t: TypeKey) -> Done
     requires { ⌜ Library (now text) (now rows) ⌝ }
     requires { ⌜ t .0 < typeCount (now rows) ⌝ }
     ensures { λ r. ⌜ Does (due (tableOf (now (text .entry)) (now (rows .entry))) (length (now (answer .entry))) (askM t)) r (now (answer .entry)) (now (answer .exit)) ⌝ }
 {
-    let mut given = [0u32; 1_024];
-    let mut sels = [0u32; 6_144];
-    let mut first = [0u32; 1_024];
-    let n = method_set::new(text, rows, t, &mut given, &mut sels, &mut first);
-    say_set(answer, &given, n, &sels, &first)
+    let n = 2 * type_count(rows) as usize;
+    if n <= SOME_RECORDS && member_count(rows) as usize <= SOME_MEMBERS {
+        let mut walk = [[0u32; 8]; SOME_RECORDS];
+        let mut names = [0u32; SOME_MEMBERS];
+        let mut hits = [[0u32; 3]; SOME_MEMBERS];
+        return ask_m_on(text, rows, &mut walk[..n], &mut names, &mut hits, answer, t);
+    }
+    let mut walk = [[0u32; 8]; RECORDS];
+    let mut names = [0u32; MEMBERS];
+    let mut hits = [[0u32; 3]; MEMBERS];
+    ask_m_on(text, rows, &mut walk[..n], &mut names, &mut hits, answer, t)
 }
 
 // N on lent records.

@@ -4,7 +4,6 @@ use mathlib.Core.Path.{_≡_, refl, sym, ap, _∙_, subst}
 use mathlib.Core.Bool.{Bool, true, false, cond, not, _||_}
 use mathlib.Core.List.{List, [], _∷_, map}
 use mathlib.Core.Logic.{inl}
-use mathlib.Core.Option.{none}
 use Prim.Native.Nat.{ℕ, zero, suc, _+_, _≤_, _<_}
 use native.Mathlib.Omega.{arith}
 use native.Mathlib.Decide.{decLt}
@@ -20,13 +19,12 @@ use Rattle.rules.specs.Checks.{mayRefer, mayEmbed, memberAllowed, typeAllowed}
 use Rattle.rules.specs.Sound.{Sound}
 use Rattle.rules.proofs.RangeLaws.{kind-out}
 use Rattle.rules.specs.Ways.{Place, Walk, start, along, embedded, fieldPlaces, onward, walks}
-use Rattle.rules.specs.MethodSet.{reaches, barred, below}
 use Rattle.ways.specs.Graph as over
-use Rattle.ways.proofs.Same.{reached}
-use Rattle.ways.proofs.AllWays.{plain, plain-lawful}
+use Rattle.ways.specs.MethodLevels.{reaches, barred, below}
+use Rattle.ways.proofs.AllWays.{plain}
 use Rattle.ways.proofs.Bridge.{walks-are}
 use Rattle.ways.proofs.TableLaws.{closed, bare-in}
-use Rattle.ways.proofs.MethodSets.{setLevel, new, new-level, new-short}
+use Rattle.ways.proofs.MethodLevels.{setLevel, sooner, new, new-level, new-short}
 use Rattle.ways.proofs.MemberSorts.{field-In, field-no-method}
 
 -- ---- ranks
@@ -93,39 +91,36 @@ module _ (T : Table) (sound : Sound T) where
 -- ---- levels
 
 module _ (T : Table) (sound : Sound T) (t : TypeKey) (in0 : t .0 < size T) where
-  abbrev sooner : ℕ → TypeKey → Bool
-  sooner = reached (plain T) (start T t)
-
-  short : (d : ℕ) (w : Walk) → In w (setLevel T t d .walks) → sooner d (w .at) ≡ false → d < size T
-  short d w i h = new-short T (closed T sound) (record { name = []; path = none }) t (bare-in T sound t in0) d w i h
+  short : (d : ℕ) (w : Walk) → In w (setLevel T t d .walks) → sooner T t d (w .at) ≡ false → d < size T
+  short = new-short T t (closed T sound) (bare-in T sound t in0)
 
   -- what fewer steps reach, the levels have reached
-  all-reached : (d : ℕ) (u : TypeKey) → sooner d u ≡ true → any (sameType u) (setLevel T t d .reached) ≡ true
+  all-reached : (d : ℕ) (u : TypeKey) → sooner T t d u ≡ true → any (sameType u) (setLevel T t d .reached) ≡ true
   unfolding below
   all-reached zero u h = h
   all-reached (suc d) u h =
       any-append (sameType u) (map (λ (w : Walk). w .at) (setLevel T t d .walks)) (setLevel T t d .reached)
-      ∙ cases (sooner d u)
+      ∙ cases (sooner T t d u)
       (λ e. ap (λ b. any (sameType u) (map (λ (w : Walk). w .at) (setLevel T t d .walks)) || b) (all-reached d u e) ∙ or-true (any (sameType u) (map (λ (w : Walk). w .at) (setLevel T t d .walks))))
       (λ e.
       let w = some-In (λ (x : Walk). sameType (x .at) u) (over.walks (plain T) (start T t) d) (rw e at h) in
       ap (λ b. b || any (sameType u) (setLevel T t d .reached)) (found (w .0) (subst (In (w .0)) (sym (walks-are T t d)) (w .1)) (same-key (w .0 .at) u (w .2)) e))
     where
-      found : (w : Walk) → In w (walks T t d) → w .at ≡ u → sooner d u ≡ false → any (sameType u) (map (λ (x : Walk). x .at) (setLevel T t d .walks)) ≡ true
+      found : (w : Walk) → In w (walks T t d) → w .at ≡ u → sooner T t d u ≡ false → any (sameType u) (map (λ (x : Walk). x .at) (setLevel T t d .walks)) ≡ true
       found w i s f =
-          let n : new T sameType t d w ≡ true = ap not (ap (sooner d) s ∙ f) in
-          let j : In w (keep (new T sameType t d) (setLevel T t d .walks)) = rw (new-level T sameType (plain-lawful T) t d) (keep-In-to (new T sameType t d) (walks T t d) w i n) in
+          let n : new T t d w ≡ true = ap not (ap (sooner T t d) s ∙ f) in
+          let j : In w (keep (new T t d) (setLevel T t d .walks)) = rw (new-level T t d) (keep-In-to (new T t d) (walks T t d) w i n) in
           any-map (sameType u) (λ (x : Walk). x .at) (setLevel T t d .walks)
-          ∙ any-In (λ (x : Walk). sameType u (x .at)) (setLevel T t d .walks) w (In-keep (new T sameType t d) (setLevel T t d .walks) w j .0) (ap (sameType u) s ∙ same-self u)
+          ∙ any-In (λ (x : Walk). sameType u (x .at)) (setLevel T t d .walks) w (In-keep (new T t d) (setLevel T t d .walks) w j .0) (ap (sameType u) s ∙ same-self u)
 
   -- a type met again has no name
-  again : (d : ℕ) (w : Walk) → In w (setLevel T t (suc d) .walks) → sooner (suc d) (w .at) ≡ true → isNamed (kindAt T (w .at)) ≡ false
+  again : (d : ℕ) (w : Walk) → In w (setLevel T t (suc d) .walks) → sooner T t (suc d) (w .at) ≡ true → isNamed (kindAt T (w .at)) ≡ false
   unfolding below
   again d w i h =
       let k = In-keep (λ x. not (barred T (reaches T (setLevel T t d)) (x .at))) (flat (onward T) (setLevel T t d .walks)) w i .1 in
       cases (isNamed (kindAt T (w .at))) (λ o. clash k (rw (o, all-reached (suc d) (w .at) h))) (λ o. o)
 
-  deep : (d : ℕ) (w : Walk) → In w (setLevel T t d .walks) → sooner d (w .at) ≡ true → d + rank T (w .at) < size T + top T
+  deep : (d : ℕ) (w : Walk) → In w (setLevel T t d .walks) → sooner T t d (w .at) ≡ true → d + rank T (w .at) < size T + top T
   unfolding below onward
   deep zero w i h = clash h refl
   deep (suc d) w i h =
@@ -134,14 +129,14 @@ module _ (T : Table) (sound : Sound T) (t : TypeKey) (in0 : t .0 < size T) where
       let s = In-map (along T (v .0)) (embedded T (v .0 .at)) w (v .2) in
       from (v .0) (v .1) (s .0) (s .1) (s .2) (λ e. deep d (v .0) (v .1) e)
     where
-      from : (v : Walk) → In v (setLevel T t d .walks) → (p : Place) → In p (embedded T (v .at)) → w ≡ along T v p → (sooner d (v .at) ≡ true → d + rank T (v .at) < size T + top T)
+      from : (v : Walk) → In v (setLevel T t d .walks) → (p : Place) → In p (embedded T (v .at)) → w ≡ along T v p → (sooner T t d (v .at) ≡ true → d + rank T (v .at) < size T + top T)
           → suc d + rank T (w .at) < size T + top T
       from v j p l e ih =
-          cases (sooner d (v .at))
+          cases (sooner T t d (v .at))
           (λ r. older d j ih r)
           (λ r. let b = short d v j r in let hi = high T (w .at) in omega arith)
         where
-          older : (c : ℕ) → In v (setLevel T t c .walks) → (sooner c (v .at) ≡ true → c + rank T (v .at) < size T + top T) → sooner c (v .at) ≡ true → suc c + rank T (w .at) < size T + top T
+          older : (c : ℕ) → In v (setLevel T t c .walks) → (sooner T t c (v .at) ≡ true → c + rank T (v .at) < size T + top T) → sooner T t c (v .at) ≡ true → suc c + rank T (w .at) < size T + top T
           older zero j ih r = clash r refl
           older (suc c) j ih r =
               let f : rank T (w .at) < rank T (v .at) = rw e (falls T sound (v .at) p l (again c v j r) (ap (λ (x : Walk). isNamed (kindAt T (x .at))) (sym e) ∙ again d w i h)) in
@@ -150,7 +145,7 @@ module _ (T : Table) (sound : Sound T) (t : TypeKey) (in0 : t .0 < size T) where
 
   level-bound : (d : ℕ) (w : Walk) → In w (setLevel T t d .walks) → d < size T + top T
   level-bound d w i =
-      cases (sooner d (w .at))
+      cases (sooner T t d (w .at))
       (λ e. let b = deep d w i e in omega arith)
       (λ e. let b = short d w i e in omega arith)
 

@@ -13,6 +13,10 @@ pub mod LookupIs
 pub mod SetKeys
 pub mod PointerSets
 pub mod MethodSetIs
+pub mod Departed
+pub mod BelowFields
+pub mod DepartedGo
+pub mod StarLists
 pub mod MissingIs
 pub mod Runs
 pub mod Arms

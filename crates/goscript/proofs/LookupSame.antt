@@ -5,7 +5,7 @@ use mathlib.Core.List.{List, [], _∷_, _++_, map}
 use Prim.Native.Nat.{ℕ, zero, suc}
 use lib.Dec.{eqb}
 use Rattle.objects.specs.Lists.{any, keep, flat}
-use Rattle.objects.proofs.ListLaws.{cases, clash, or-l, or-r, any-append, any-map, any-keep, keep-append, keep-swap, keep-ext, keep-weaker}
+use Rattle.objects.proofs.ListLaws.{cases, clash, or-l, or-r, any-append, any-map, any-keep, keep-swap, keep-ext, keep-weaker}
 use Rattle.objects.proofs.KeyLaws.{same-key}
 use Rattle.text.specs.Bytes.{isBlank}
 use Rattle.objects.specs.declared.TypeKey.{TypeKey}
@@ -16,6 +16,7 @@ use Rattle.rules.proofs.IdentityLaws.{identical-parts}
 use Rattle.rules.specs.Ways.{owned}
 use Rattle.ways.specs.Levels.{EmbeddedType, at, merge, next, hit, unseen, search-levels}
 use Rattle.ways.specs.OfTable.{graph}
+use Rattle.ways.proofs.ListLaws.{flat-keep, keep-each}
 use Rattle.ways.proofs.Merge.{Class, merge-keep}
 use Rattle.ways.proofs.TableLaws.{lawful, keyed}
 use Rattle.ways.proofs.Extra.{Apart, merge-apart}
@@ -25,18 +26,6 @@ use Rattle.goscript.specs.Agrees.{told}
 use Rattle.goscript.proofs.Consolidating.{consolidate-is}
 use Rattle.goscript.proofs.Scans.{skipped, sawNamed}
 use Rattle.goscript.proofs.ScanLevels.{live, kept, sawAll, liveNext, firstly, scan-none}
-
--- ---- lists
-
-module _ {A B : Type 0} where
-  keep-each : (p : B → Bool) (f : A → List B) (l : List A) → flat (λ x. keep p (f x)) l ≡ keep p (flat f l)
-  keep-each p f [] = refl
-  keep-each p f (x ∷ l) = rw (keep-each p f l, keep-append p (f x) (flat f l))
-
-  -- those that give nothing may be left out
-  pub flat-keep : (p : A → Bool) (f : A → List B) → ((x : A) → p x ≡ false → f x ≡ []) → (l : List A) → flat f (keep p l) ≡ flat f l
-  flat-keep p f h [] = refl
-  flat-keep p f h (x ∷ l) = cases (p x) (λ e. rw (e, flat-keep p f h l)) (λ e. rw (e, h x e, flat-keep p f h l))
 
 -- ---- types of kinds that are not pushed have no members and embed nothing
 
@@ -111,9 +100,9 @@ module _ (T : Table) (sound : Sound T) where
 
     same-next : flat (next (graph T)) (kept T seen L) ≡ flat (next (graph T)) (kept T seen′ M)
     same-next =
-        sym (flat-keep (live T) (next (graph T)) (dead-next T) (kept T seen L))
+        sym (flat-keep (next (graph T)) (live T) (kept T seen L) (λ r i. dead-next T r))
         ∙ ap (flat (next (graph T))) alive-kept
-        ∙ flat-keep (live T) (next (graph T)) (dead-next T) (kept T seen′ M)
+        ∙ flat-keep (next (graph T)) (live T) (kept T seen′ M) (λ r i. dead-next T r)
 
     alive-on : keep (live T) (merge (graph T) (flat (liveNext T) (kept T seen L))) ≡ keep (live T) (merge (graph T) (flat (next (graph T)) (kept T seen′ M)))
     alive-on =

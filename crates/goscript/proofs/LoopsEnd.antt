@@ -13,12 +13,13 @@ use Rattle.rules.specs.Sound.{Sound}
 use Rattle.rules.specs.Ways.{start}
 use Rattle.ways.specs.Levels.{EmbeddedType, raw, merge, next, hit}
 use Rattle.ways.specs.OfTable.{graph}
+use Rattle.ways.proofs.ListLaws.{flat-keep}
 use Rattle.goscript.specs.Consolidate.{consolidateMultiples}
 use Rattle.goscript.specs.Maps.{Map}
 use Rattle.goscript.specs.Lookup.{LookupResult, NotFound, enoughTurns, turns}
 use Rattle.goscript.specs.MethodSets.{MethodCollision, Visit, visitAll, addMethods, addCollisions, base}
 use Rattle.goscript.proofs.ScanLevels.{live, kept, sawAll, liveNext, firstly}
-use Rattle.goscript.proofs.LookupSame.{flat-keep, dead-next, Tied, alive-kept, tied-saw, turns-step}
+use Rattle.goscript.proofs.LookupSame.{dead-next, Tied, alive-kept, tied-saw, turns-step}
 use Rattle.goscript.proofs.LevelsEnd.{top, level-none}
 use Rattle.goscript.proofs.SetsSame.{setAfter, Turn, begin, all-visited, turn-next, turn-on}
 
@@ -65,7 +66,7 @@ module _ (T : Table) (sound : Sound T) (t : TypeKey) (in0 : t .0 < size T) where
     nothing-pushed : (seen : List TypeKey) (L : List EmbeddedType) (seen′ : List TypeKey) (M : List EmbeddedType) → Tied T sound seen L seen′ M → kept T seen′ M ≡ []
         → flat (liveNext T) (kept T seen L) ≡ []
     nothing-pushed seen L seen′ M tied e =
-        sym (flat-keep (live T) (liveNext T) (λ r dead. ap (keep (live T)) (dead-next T r dead)) (kept T seen L))
+        sym (flat-keep (liveNext T) (live T) (kept T seen L) (λ r i dead. ap (keep (live T)) (dead-next T r dead)))
         ∙ ap (flat (liveNext T)) (alive-kept T sound seen L seen′ M tied ∙ ap (keep (live T)) e)
 
     same-after : (j d : ℕ) (seen : List TypeKey) (L : List EmbeddedType) (seen′ : List TypeKey) (M : List EmbeddedType)

@@ -2,21 +2,20 @@
 use mathlib.Core.Path.{_≡_, refl, sym, ap, _∙_, subst}
 use mathlib.Core.Bool.{true}
 use mathlib.Core.List.{List, [], _++_}
-use Prim.Native.Nat.{ℕ, _<_}
+use Prim.Native.Nat.{ℕ}
 use borrow.Author.Tests.{eqb-true}
 use Rattle.objects.specs.Lists.{In}
 use Rattle.objects.proofs.ListLaws.{clash, either, and-l, and-r, In-append}
 use Rattle.objects.proofs.KindLaws.{named-is, under-named, bare-plain}
 use Rattle.objects.specs.declared.TypeKey.{TypeKey}
-use Rattle.objects.specs.Table.{Table, size, Member, Named, kindNumber, isNamed, isPointer, membersOf, declaredOf, allMethodsOf, allMethods, kindAt, bare, under, namedPointer}
+use Rattle.objects.specs.Table.{Table, Member, Named, kindNumber, isNamed, isPointer, membersOf, declaredOf, allMethodsOf, allMethods, kindAt, bare, under, namedPointer}
 use Rattle.rules.specs.Members.{Identity}
 use Rattle.rules.specs.Sound.{Sound}
 use Rattle.rules.specs.Ways.{Place, placesFrom, Walk, fieldPlaces, owned}
-use Rattle.rules.specs.MethodSet.{Standing, absent, hidden, given, listed, standing}
 use Rattle.ways.specs.IsWay.{IsWalk, starts, takes}
-use Rattle.ways.proofs.AllWays.{ways-listed}
-use Rattle.ways.proofs.TableLaws.{closed, bare-in, names-neither}
-use Rattle.ways.proofs.GivenWays.{given-way, given-ways}
+use Rattle.ways.specs.MethodLevels.{Standing, absent, hidden, given, listed, asGoscript, standing}
+use Rattle.ways.proofs.TableLaws.{names-neither}
+use Rattle.ways.proofs.MethodLevels.{given-way}
 use Rattle.ways.proofs.MemberSorts.{declared-In, iface-In, field-In}
 
 module _ (T : Table) (sound : Sound T) (t : TypeKey) (pointer : namedPointer T t ≡ true) where
@@ -52,13 +51,12 @@ module _ (T : Table) (sound : Sound T) (t : TypeKey) (pointer : namedPointer T t
   stays (takes {w = w} f p i e) = absurd (no-field f (subst (λ u. In f (fieldPlaces T u)) (stays p) i))
 
   -- NOTHING IS GIVEN
-  pub pointer-empty : t .0 < size T → (q : Identity) → listed (standing T q t) ≡ []
-  pointer-empty in0 q = go (standing T q t) refl
+  pub pointer-empty : (q : Identity) → listed (standing asGoscript T q t) ≡ []
+  pointer-empty q = go (standing asGoscript T q t) refl
     where
-      go : (s : Standing) → standing T q t ≡ s → listed (standing T q t) ≡ []
+      go : (s : Standing) → standing asGoscript T q t ≡ s → listed (standing asGoscript T q t) ≡ []
       go absent e = rw e
       go hidden e = rw e
       go (given w) e =
-          let g = given-way T (closed T sound) q t (bare-in T sound t in0) w e in
-          let i = ways-listed T t q (g .0) w .0 (given-ways T q t w (g .0) (g .1)) in
-          absurd (no-owned (w .last) (subst (λ u. In (w .last) (owned T u)) (stays (i .walks)) (i .owns)))
+          let g = given-way asGoscript T q t w e in
+          absurd (no-owned (w .last) (subst (λ u. In (w .last) (owned T u)) (stays (g .1 .walks)) (g .1 .owns)))

@@ -1,15 +1,15 @@
 -- The keys of the maps of `MethodSet::new` are identities of the table's members, and under the blank name there is never a method.
 use mathlib.Core.Path.{_≡_, refl, sym, ap, _∙_, subst}
 use mathlib.Core.Bool.{true, false}
-use mathlib.Core.List.{List, [], _∷_, _++_, foldl}
+use mathlib.Core.List.{List, [], _∷_, foldl}
 use mathlib.Core.Logic.{inl, inr}
 use mathlib.Core.Option.{Option, none, some}
 use Prim.Native.Nat.{ℕ, zero, suc}
 use Rattle.objects.specs.Lists.{keep, flat, In}
-use Rattle.objects.proofs.ListLaws.{cases, clash, either, In-append, In-keep, In-map, In-flat}
+use Rattle.objects.proofs.ListLaws.{cases, clash, In-keep, In-map, In-flat}
 use Rattle.text.specs.Bytes.{isBlank}
 use Rattle.objects.specs.declared.TypeKey.{TypeKey}
-use Rattle.objects.specs.Table.{Table, Member, isMethod, kindAt, under, allMethods, declaredOf, allMethodsOf}
+use Rattle.objects.specs.Table.{Table, Member, isMethod, kindAt, under, declaredOf, allMethodsOf}
 use Rattle.rules.specs.Members.{Identity, identityOf, identityFrom}
 use Rattle.rules.specs.Sound.{Sound, MemberOf}
 use Rattle.rules.specs.Ways.{Place, placesFrom, fieldPlaces, owned}
@@ -20,7 +20,7 @@ use Rattle.goscript.specs.Maps.{Map, get, contains, keys, insertNew}
 use Rattle.goscript.specs.Lookup.{matches}
 use Rattle.goscript.specs.MethodSets.{MethodCollision, FieldCollision, var, collided, Visit, addMethod, addToFieldSet, methodIn, fieldIn, selected, visitAll, addMethods, addCollisions}
 use Rattle.goscript.proofs.MapLaws.{orElse}
-use Rattle.ways.proofs.MemberSorts.{declared-In, iface-In, field-In}
+use Rattle.ways.proofs.MemberSorts.{declared-In, iface-In, field-In, owned-member}
 use Rattle.goscript.proofs.Visits.{msetOn, fsetOn, afterAll}
 use Rattle.goscript.proofs.Collisions.{Hit, addM, hitAt, hitsOf, mset-at}
 use Rattle.goscript.proofs.Values.{put}
@@ -80,14 +80,6 @@ module _ (T : Table) (sound : Sound T) where
 -- ---- the blank name
 
 module _ (T : Table) (sound : Sound T) where
-  -- a type's own member stands under a T line
-  pub owned-member : (u : TypeKey) (p : Place) → In p (owned T u) → (v : TypeKey) × MemberOf T v (p .member)
-  unfolding owned allMethods
-  owned-member u p i =
-      either (In-append (placesFrom 0 (declaredOf (kindAt T u)) ++ fieldPlaces T u) (placesFrom 0 (allMethodsOf (kindAt T (under T u)))) p i)
-      (λ j. either (In-append (placesFrom 0 (declaredOf (kindAt T u))) (fieldPlaces T u) p j) (λ d. (u, declared-In T sound u p d .1)) (λ f. (under T u, field-In T sound u p f .1)))
-      (λ m. (under T u, iface-In T sound u p m .1))
-
   module _ (q : Identity) (blank : isBlank (q .name) ≡ true) where
     no-blank-method : (m : Member) (v : TypeKey) → MemberOf T v m → identityOf T m ≡ q → isMethod (m .entity) ≡ false
     unfolding identityOf identityFrom
@@ -101,7 +93,7 @@ module _ (T : Table) (sound : Sound T) where
             let r = In-flat (hitsOf T q) X h i in
             let m = In-map (hitAt (r .0)) (keep (matches T q) (owned T (at (r .0)))) h (r .2) in
             let k = In-keep (matches T q) (owned T (at (r .0))) (m .0) (m .1) in
-            let o = owned-member (at (r .0)) (m .0) (k .0) in
+            let o = owned-member T sound (at (r .0)) (m .0) (k .0) in
             left (m .0) (ap (λ (x : Hit). x .place) (m .2)) (no-blank-method (m .0 .member) (o .0) (o .1) (sameId-true (identityOf T (m .0 .member)) q (k .1)))
           where
             left : (p : Place) → h .place ≡ p → isMethod (p .member .entity) ≡ false → addM T s h ≡ none

@@ -1,4 +1,4 @@
--- `MethodSet::new`, key by key: after every number of levels, its map says what the rules' standing says.
+-- `MethodSet::new`, key by key: after every number of levels, its map says how the name stands by goscript's rule.
 use mathlib.Core.Path.{_≡_, refl, sym, ap, ap₂, _∙_}
 use mathlib.Core.Bool.{true, false, not, _||_}
 use mathlib.Core.List.{List, [], _∷_, map, foldl}
@@ -15,16 +15,16 @@ use Rattle.rules.specs.Members.{Identity}
 use Rattle.rules.specs.Sound.{Sound}
 use Rattle.rules.proofs.IdentityLaws.{identical-parts}
 use Rattle.rules.specs.Ways.{Walk, start, onward, ends}
-use Rattle.rules.specs.MethodSet.{Level, Standing, absent, hidden, given, firstLevel, reaches, barred, below, settled, standingFrom}
 use Rattle.ways.specs.Graph as over
 use Rattle.ways.specs.Levels.{EmbeddedType, at, raw, merge, next, hit}
+use Rattle.ways.specs.MethodLevels.{Level, Standing, absent, hidden, given, asGoscript, firstLevel, reaches, barred, below, settled, standingFrom}
 use Rattle.ways.specs.OfTable.{graph}
 use Rattle.ways.proofs.Merge.{Lawful, Class, any-merge, merge-keep, merge-next}
 use Rattle.ways.proofs.Extra.{Apart, merge-apart}
 use Rattle.ways.proofs.Same.{Keyed, has, hits, all-next}
 use Rattle.ways.proofs.Bridge.{onward-are}
 use Rattle.ways.proofs.AllWays.{plain-lawful}
-use Rattle.ways.proofs.MethodSets.{setLevel}
+use Rattle.ways.proofs.MethodLevels.{setLevel}
 use Rattle.ways.proofs.TableLaws.{lawful, keyed, own}
 use Rattle.goscript.specs.Consolidate.{consolidateMultiples}
 use Rattle.goscript.specs.Maps.{Map, get, contains}
@@ -137,37 +137,37 @@ module _ (T : Table) (sound : Sound T) where
             (mset-at T q sound K [] ∙ ap (foldl (addM T) none) (hits-are T q K kd))
             (fset-at T q sound K [] ∙ ap (foldl (addF T) none) (hits-are T q K kd))
 
-        pub settles : get (addCollisions T (visitAll T seen L) (addMethods T (visitAll T seen L) set)) q ≡ orElse (get set q) (entryOf T (settled T (flat (ends T q) W)))
+        pub settles : get (addCollisions T (visitAll T seen L) (addMethods T (visitAll T seen L) set)) q ≡ orElse (get set q) (entryOf T (settled asGoscript T (flat (ends T q) W)))
         settles =
             loops q set
             ∙ ap (orElse (get set q)) (level-value
             ∙ ap (λ l. value T (map (hitOf T q) (keep (hit (graph T) q) l))) (turn .current)
             ∙ ap (λ l. value T (map (hitOf T q) l)) (sym (merge-keep (graph T) law (has (graph T) q) (kd .alike) (map raw W)) ∙ ap (merge (graph T)) (keep-map (hit (graph T) q) raw W))
             ∙ value-merge T q (keep (λ w. has (graph T) q (w .at)) W)
-            ∙ ap (λ ws. entryOf T (settled T ws)) (sym (hits (graph T) q W kd)))
+            ∙ ap (λ ws. entryOf T (settled asGoscript T ws)) (sym (hits (graph T) q W kd)))
 
     -- ---- all turns
 
-    standing-on : (q : Identity) (k : ℕ) (L : Level) → entryOf T (standingFrom T q (suc k) L) ≡ orElse (entryOf T (settled T (flat (ends T q) (L .walks)))) (entryOf T (standingFrom T q k (below T L)))
+    standing-on : (q : Identity) (k : ℕ) (L : Level) → entryOf T (standingFrom asGoscript T q (suc k) L) ≡ orElse (entryOf T (settled asGoscript T (flat (ends T q) (L .walks)))) (entryOf T (standingFrom asGoscript T q k (below T L)))
     unfolding standingFrom
-    standing-on q k L = go (settled T (flat (ends T q) (L .walks))) refl
+    standing-on q k L = go (settled asGoscript T (flat (ends T q) (L .walks))) refl
       where
-        go : (s : Standing) → settled T (flat (ends T q) (L .walks)) ≡ s
-            → entryOf T (standingFrom T q (suc k) L) ≡ orElse (entryOf T (settled T (flat (ends T q) (L .walks)))) (entryOf T (standingFrom T q k (below T L)))
+        go : (s : Standing) → settled asGoscript T (flat (ends T q) (L .walks)) ≡ s
+            → entryOf T (standingFrom asGoscript T q (suc k) L) ≡ orElse (entryOf T (settled asGoscript T (flat (ends T q) (L .walks)))) (entryOf T (standingFrom asGoscript T q k (below T L)))
         go absent e = rw (standingFrom, e)
         go hidden e = rw (standingFrom, e)
         go (given w) e = rw (standingFrom, e)
 
     after-is : (q : Identity) → Keyed (graph T) q → (k d : ℕ) (seen : List TypeKey) (set : Map MethodCollision) (L : List EmbeddedType) → Turn d seen L
-        → get (setAfter T k seen set L) q ≡ orElse (get set q) (entryOf T (standingFrom T q k (setLevel T t d)))
+        → get (setAfter T k seen set L) q ≡ orElse (get set q) (entryOf T (standingFrom asGoscript T q k (setLevel T t d)))
     unfolding standingFrom
     after-is q kd zero d seen set L turn = sym (orElse-none (get set q))
     after-is q kd (suc k) d seen set L turn =
         after-is q kd k (suc d) _ (addCollisions T (visitAll T seen L) (addMethods T (visitAll T seen L) set)) _ (turn-on d seen L turn)
-        ∙ ap (λ o. orElse o (entryOf T (standingFrom T q k (setLevel T t (suc d))))) (settles d seen L turn q kd set)
-        ∙ orElse-assoc (get set q) (entryOf T (settled T (flat (ends T q) (setLevel T t d .walks)))) (entryOf T (standingFrom T q k (setLevel T t (suc d))))
+        ∙ ap (λ o. orElse o (entryOf T (standingFrom asGoscript T q k (setLevel T t (suc d))))) (settles d seen L turn q kd set)
+        ∙ orElse-assoc (get set q) (entryOf T (settled asGoscript T (flat (ends T q) (setLevel T t d .walks)))) (entryOf T (standingFrom asGoscript T q k (setLevel T t (suc d))))
         ∙ ap (orElse (get set q)) (sym (standing-on q k (setLevel T t d)))
 
     -- THE MAP SAYS OF A KEY what the rules say, after every number of levels.
-    pub after-says : (q : Identity) → isBlank (q .name) ≡ false → (k : ℕ) → get (setAfter T k [] [] (raw (start T t) ∷ [])) q ≡ entryOf T (standingFrom T q k (firstLevel T t))
+    pub after-says : (q : Identity) → isBlank (q .name) ≡ false → (k : ℕ) → get (setAfter T k [] [] (raw (start T t) ∷ [])) q ≡ entryOf T (standingFrom asGoscript T q k (firstLevel T t))
     after-says q real k = after-is q (keyed T sound q real) k 0 [] [] (raw (start T t) ∷ []) begin

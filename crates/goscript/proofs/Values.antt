@@ -8,8 +8,8 @@ use Rattle.objects.proofs.ListLaws.{cases, clash, or-l}
 use Rattle.objects.specs.Table.{Table, isMethod, hasPtr}
 use Rattle.rules.specs.Members.{Identity}
 use Rattle.rules.specs.Ways.{Walk, Way}
-use Rattle.rules.specs.MethodSet.{Standing, absent, hidden, given, methodFlag, alone, settled}
-use Rattle.ways.specs.Graph as over
+use Rattle.rules.specs.MethodSet.{methodFlag}
+use Rattle.ways.specs.MethodLevels.{Standing, absent, hidden, given, asGoscript, alone, settled}
 use Rattle.ways.specs.Levels.{EmbeddedType, at, mark, raw, twin, merge, found}
 use Rattle.ways.specs.OfTable.{graph}
 use Rattle.goscript.specs.Maps.{isSome}
@@ -107,7 +107,7 @@ module _ (T : Table) where
   alone-entry false true w = refl
   alone-entry false false w = refl
 
-  value-one : (h : Hit) → h .et .multiples ≡ false → value (h ∷ []) ≡ entryOf T (alone T (hitWay h))
+  value-one : (h : Hit) → h .et .multiples ≡ false → value (h ∷ []) ≡ entryOf T (alone asGoscript T (hitWay h))
   value-one h t =
       cases (isMethod (h .place .member .entity))
       (λ e. rw (e, t) (alone-entry (methodFlag T (hitWay h)) (hasPtr (h .place .member .entity)) (hitWay h)))
@@ -122,7 +122,7 @@ module _ (T : Table) where
         bad-value (map (hitOf T q) X) (addM T (addM T none (hitOf T q r)) (hitOf T q s)) (addF T (addF T none (hitOf T q r)) (hitOf T q s)) (bad-two (hitOf T q r) (hitOf T q s))
 
     -- A MERGED LEVEL PUTS INTO BASE what its unmerged walks say.
-    pub value-merge : (W : List Walk) → value (map (hitOf T q) (merge (graph T) (map raw W))) ≡ entryOf T (settled T (map (λ w. found (graph T) q (raw w)) W))
+    pub value-merge : (W : List Walk) → value (map (hitOf T q) (merge (graph T) (map raw W))) ≡ entryOf T (settled asGoscript T (map (λ w. found (graph T) q (raw w)) W))
     unfolding settled
     value-merge [] = refl
     value-merge (w ∷ []) = value-one (hitOf T q (mark (raw w) false)) refl

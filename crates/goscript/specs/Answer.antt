@@ -3,6 +3,7 @@ use mathlib.Core.Bool.{Bool}
 use mathlib.Core.List.{List, map}
 use mathlib.Core.Option.{Option, none, some}
 use Prim.Native.Nat.{ℕ}
+use Rattle.objects.specs.declared.TypeKey.{TypeKey}
 use Rattle.objects.specs.Table.{Table, size}
 use Rattle.rules.specs.Members.{identityFrom}
 use Rattle.rules.specs.Ways.{Selected}
@@ -14,6 +15,7 @@ use Rattle.goscript.specs.Maps.{Map}
 use Rattle.goscript.specs.Lookup.{LookupResult, enoughTurns, lookupFieldOrMethod}
 use Rattle.goscript.specs.Agrees.{Agrees}
 use Rattle.goscript.specs.MethodSets.{Selection, MethodCollision, newMethodSet}
+use Rattle.goscript.specs.Departures.{lessDeparted}
 use Rattle.goscript.specs.Missing.{missingMethod}
 use Rattle.goscript.specs.Identical.{enoughCalls, identicalAnswer}
 use Rattle.goscript.specs.Comparable.{comparableImpl}
@@ -44,11 +46,12 @@ goscriptAnswer out T askV = nothing
 abbrev pub lineOf : Selection → Sel
 lineOf s = record { member = s .obj; flag = s .indirect; places = s .indices }
 
--- S by `Agrees`; M: the same selections in the same order; N: the same method and bool, or none; I and C: the same bool; V: nothing is asked.
-pub data Answers : ReturnValue → Answer → Type 0 where
-  agree : {r : LookupResult} {s : Selected} → Agrees r s → Answers (selected r) (rules.selected s)
-  lines : {l : List Selection} → Answers (set l) (rules.set (map lineOf l))
-  none-lacks : Answers (lacks none) satisfied
-  one-lacks : {l : Lack} → Answers (lacks (some l)) (rules.lacks (l .member) (l .w))
-  same-bool : {b : Bool} → Answers (says (some b)) (rules.says b)
-  unasked : {packages types members : ℕ} → Answers nothing (counts packages types members)
+-- How the answer to q stands to what goscript returns. S by `Agrees`; M: the same selections in the same order, but for the two departures; N: the same method and
+-- bool, or none; I and C: the same bool; V: nothing is asked.
+pub data Answers (T : Table) : Question → ReturnValue → Answer → Type 0 where
+  agree : {q : Question} {r : LookupResult} {s : Selected} → Agrees r s → Answers T q (selected r) (rules.selected s)
+  lines : {t : TypeKey} {l : List Selection} → Answers T (askM t) (set l) (rules.set (map lineOf (lessDeparted T t l)))
+  none-lacks : {q : Question} → Answers T q (lacks none) satisfied
+  one-lacks : {q : Question} {l : Lack} → Answers T q (lacks (some l)) (rules.lacks (l .member) (l .w))
+  same-bool : {q : Question} {b : Bool} → Answers T q (says (some b)) (rules.says b)
+  unasked : {q : Question} {packages types members : ℕ} → Answers T q nothing (counts packages types members)

@@ -3,6 +3,7 @@ pub mod Lookup
 pub mod Agrees
 pub mod Maps
 pub mod MethodSets
+pub mod Departures
 pub mod Missing
 pub mod Identical
 pub mod Comparable

@@ -19,7 +19,8 @@ use Rattle.gospec.specs.GoSelectors.{underlying, a-field, a-method, of-i
 use Rattle.gospec.proofs.Places.{At-In}
 use Rattle.gospec.proofs.Operands.{under-pointer, embeds-one}
 
-tailOf : List ℕ → List ℕ
+-- all places but the first
+abbrev pub tailOf : List ℕ → List ℕ
 tailOf [] = []
 tailOf (x ∷ xs) = xs
 
@@ -69,7 +70,6 @@ module _ (T : Table) (sound : Sound T) where
       pub is : b ≡ o || c
 
     inner : {t : TypeKey} {d : ℕ} {qs : List ℕ} {m : Member} {b : Bool} → Occurs T name pkg t d qs m b → (i : ℕ) (ps : List ℕ) → qs ≡ i ∷ ps → (ps ≡ []) ⊎ Inner t i ps m b
-    unfolding tailOf
     inner (declared m x e) i ps z = inl (sym (ap tailOf z))
     inner (promoted {t = t} {a = a} {i = j} {d = d} {b = o} {c = c} {ps = qs} {m = m} x y) i ps z =
         inr (record { a = a; d = d; o = o; c = c; embedded = subst (λ (k : ℕ). Embeds T t k a o) (ap (headOr 0) z) x; occurs = subst (λ (k : List ℕ). Occurs T name pkg a d k m c) (ap tailOf z) y; is = refl })

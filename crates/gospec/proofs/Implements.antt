@@ -59,7 +59,8 @@ module _ (T : Table) where
   none-by : (m : Member) (r : Selected) → Meets m r → unmetBy T m r ≡ none
   none-by m r h = rw (h .is, h .method) (none-compared m (h .found) (h .same-type))
 
-says-method : {T : Table} {R : TypeKey → Type 0} {name : Bytes} {pkg : Option PackageKey} {x : TypeKey} {a b : Bool} {ps : List ℕ} {m : Member}
+-- a method that S gives: the selector is legal and denotes it, and the call is valid
+pub says-method : {T : Table} {R : TypeKey → Type 0} {name : Bytes} {pkg : Option PackageKey} {x : TypeKey} {a b : Bool} {ps : List ℕ} {m : Member}
     → Says T R name pkg x a (entry m b ps) → isMethod (m .entity) ≡ true → (name ≡ blank → ⊥) × Denotes T R name pkg x ps m b × Callable T a x ps m
 says-method (legal-field m n d f) h = clash h f
 says-method (legal-method m n d i c) h = (n, d, c)

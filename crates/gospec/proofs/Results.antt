@@ -80,7 +80,16 @@ ascend-at T (z ∷ l) s zero (suc j) m n a b e = absurd (lower-apart T z n (ap (
 ascend-at T (z ∷ l) s (suc i) zero m n a b e = absurd (lower-apart T z m (ap (identityOf T) (sym (at-head l z n b)) ∙ sym e) (s .0 m (At-In (at-tail l z m i a))))
 ascend-at T (z ∷ l) s (suc i) (suc j) m n a b e = ap suc (ascend-at T l (s .1) i j m n (at-tail l z m i a) (at-tail l z n j b) e)
 
-abbrev methodIn : Selected → Bool
+-- a field has no receiver
+pub field-ptr : (m : Member) → isMethod (m .entity) ≡ false → hasPtr (m .entity) ≡ false
+field-ptr m h = go (m .entity) h
+  where
+    go : (e : Entity) → isMethod e ≡ false → hasPtr e ≡ false
+    go (Field emb tag) h = refl
+    go (Method ptr) h = clash refl h
+
+-- the answer is an entry that is a method
+abbrev pub methodIn : Selected → Bool
 methodIn notfound = false
 methodIn badreceiver = false
 methodIn (entry m flag places) = isMethod (m .entity)
@@ -89,13 +98,6 @@ methodIn (ambiguous first second) = false
 module _ (T : Table) (sound : Sound T) (R : TypeKey → Type 0) (name : Bytes) (pkg : Option PackageKey) (nb : isBlank (asked T name pkg .name) ≡ false) where
   abbrev pub sel : TypeKey → Bool → Bool → Selected
   sel t f a = select (graph T) (asked T name pkg) t f a
-
-  field-ptr : (m : Member) → isMethod (m .entity) ≡ false → hasPtr (m .entity) ≡ false
-  field-ptr m h = go (m .entity) h
-    where
-      go : (e : Entity) → isMethod e ≡ false → hasPtr e ≡ false
-      go (Field emb tag) h = refl
-      go (Method ptr) h = clash refl h
 
   given : (x t : TypeKey) (d : ℕ) (o a : Bool) (r : Selected) (ps : List ℕ) (m : Member) (e g : Bool) → Operand T x t o → Occurs T name pkg t d ps m g → e ≡ o || g → r ≡ outcome a o ps m g → Given T x a r ps m e
   given x t d o a r ps m e g w y i z =

@@ -2,3 +2,5 @@ pub mod Go
 pub mod GoSelectors
 pub mod Says
 pub mod GoImplements
+pub mod GoMethodSets
+pub mod Lists

@@ -2,28 +2,29 @@
 -- way or shorter.
 use mathlib.Core.Path.{_≡_, refl, sym, ap, ap₂, _∙_, subst}
 use mathlib.Core.Bool.{Bool, true, false, cond, not, _&&_}
-use mathlib.Core.List.{List, [], _∷_, _++_, map}
+use mathlib.Core.List.{List, [], _∷_, map}
 use mathlib.Core.Logic.{_⊎_, inl, inr}
 use mathlib.Core.Option.{Option, none, some}
 use Prim.Native.Nat.{ℕ, zero, suc, _≤_, _<_}
 use native.Mathlib.Omega.{arith}
 use native.Mathlib.Decide.{decLt}
 use Rattle.objects.specs.Lists.{keep, when, In}
-use Rattle.objects.proofs.ListLaws.{cases, clash, either, In-keep, In-append, In-map, In-flat, keep-map, keep-In-ext}
+use Rattle.objects.proofs.ListLaws.{cases, clash, either, In-keep, In-map, In-flat, keep-map, keep-In-ext}
 use Rattle.objects.specs.declared.TypeKey.{TypeKey}
-use Rattle.objects.specs.Table.{Table, size, isMethod, hasPtr, Member, fieldsOf, declaredOf, kindAt, under, ifaceUnder, namedPointer, allMethods}
+use Rattle.objects.specs.Table.{Table, size, isMethod, hasPtr, Member, under, ifaceUnder, namedPointer, allMethods}
 use Rattle.rules.specs.Members.{Identity, identityOf, sameId, sameMember}
 use Rattle.rules.specs.Ways as rules
-use Rattle.rules.specs.Ways.{Place, Walk, Way, memberOf, placesOf, placesFrom, fieldPlaces, Selected, notfound, badreceiver, entry, ambiguous, single, judged, owned}
+use Rattle.rules.specs.Ways.{Walk, Way, memberOf, placesOf, Selected, notfound, badreceiver, entry, ambiguous, single, judged, owned}
 use Rattle.rules.specs.Missing.{Lack, compared, unmetThere, unmetBy, unmet, firstUnmet, missing}
 use Rattle.rules.specs.Sound.{Sound, MemberOf}
 use Rattle.ways.specs.Graph.{walks, matching, ends, ways, start, select}
 use Rattle.ways.specs.OfTable.{graph}
-use Rattle.ways.proofs.TableLaws.{lawful, keyed, closed, places-from}
+use Rattle.ways.proofs.TableLaws.{lawful, keyed, closed}
+use Rattle.ways.proofs.MemberSorts.{owned-member}
 use Rattle.ways.proofs.Least.{select-least, select-none, least-or-none}
 use Rattle.growth.specs.Grown.{Numbers, carryMember, Grown}
 use Rattle.growth.specs.Promise.{isShut, carrySelected, newWay, Disturbed, PromiseN}
-use Rattle.growth.proofs.GrowKinds.{fields-members, declared-members, methods-members, iface-kept, methods-kept, identity-kept}
+use Rattle.growth.proofs.GrowKinds.{iface-kept, methods-kept, identity-kept}
 use Rattle.growth.proofs.GrowIdentity.{Whole, type-whole, identity-stays}
 use Rattle.growth.proofs.GrowGraph.{method-in}
 use Rattle.growth.proofs.GrowSelect.{post, startAt, startFlag, select-shut, select-open, not-blank, start-in, promise-S}
@@ -65,20 +66,11 @@ post-entry true (ambiguous first second) m f p e = e
 post-entry false r m f p e = e
 
 module _ (T : Table) (sound : Sound T) where
-  owned-member : (t : TypeKey) (p : Place) → In p (owned T t) → (x : TypeKey) × MemberOf T x (p .member)
-  unfolding owned allMethods
-  owned-member t p i =
-      either (In-append (placesFrom 0 (declaredOf (kindAt T t)) ++ fieldPlaces T t) (placesFrom 0 (allMethods T t)) p i)
-      (λ j. either (In-append (placesFrom 0 (declaredOf (kindAt T t))) (fieldPlaces T t) p j)
-      (λ k. (t, declared-members (kindAt T t) (p .member) (places-from 0 (declaredOf (kindAt T t)) p k .1)))
-      (λ k. (under T t, fields-members (kindAt T (under T t)) (p .member) (places-from 0 (fieldsOf (kindAt T (under T t))) p k .1))))
-      (λ j. (under T t, methods-members (kindAt T (under T t)) (p .member) (places-from 0 (allMethods T t) p j .1)))
-
   way-member : (q : Identity) (r : Walk) (d : ℕ) (w : Way) → In w (ways (graph T) q r d) → (x : TypeKey) × MemberOf T x (memberOf w)
   way-member q r d w i =
       let v = In-flat (ends (graph T) q) (walks (graph T) r d) w i in
       let y = In-map (λ x. record { walk = v .0; last = x }) (matching (graph T) q (v .0 .at)) w (v .2) in
-      let o = owned-member (v .0 .at) (y .0) (In-keep (graph T .hit q) (owned T (v .0 .at)) (y .0) (y .1) .0) in
+      let o = owned-member T sound (v .0 .at) (y .0) (In-keep (graph T .hit q) (owned T (v .0 .at)) (y .0) (y .1) .0) in
       (o .0, subst (λ (z : Way). MemberOf T (o .0) (memberOf z)) (sym (y .2)) (o .1))
 
   pub entry-member : (q : Identity) (t : TypeKey) → t .0 < size T → (a : Bool) (m : Member) (f : Bool) (p : List ℕ) → rules.select T q t a ≡ entry m f p → (x : TypeKey) × MemberOf T x m

@@ -26,7 +26,7 @@ use Rattle.walk_rows.specs.State.{Enters}
 use Rattle.levels.specs.declared.Found.{Found}
 use Rattle.levels.specs.declared.Hit.{Hit}
 use Rattle.levels.specs.Hits.{waysFrom, wayTo, HitAt, Tells, Beside, Answers, nothingFound}
-use Rattle.levels.proofs.StageLaws.{below-none, Staged, stage-level, stage-ends, stage-deep, stage-few, staged-below}
+use Rattle.levels.proofs.StageLaws.{below-still, Staged, stage-level, stage-ends, stage-deep, stage-few, staged-below}
 use Rattle.levels.proofs.VerdictLaws.{Verdict, told-judged, told-inside}
 
 -- ---- one level of the search
@@ -45,7 +45,7 @@ module _ (G : Graph) (q : Identity) (a : Bool) where
   -- below a level without rows there is nothing
   search-still : (k : ℕ) (S : Stage) → level S ≡ [] → searchRows G q a k S ≡ notfound
   search-still zero S e = refl
-  search-still (suc k) S e = search-none k S (ap (λ l. flat (ends G q) (map (walkAt (S .rows)) l)) e) ∙ search-still k (below G S) (below-none G S e)
+  search-still (suc k) S e = search-none k S (ap (λ l. flat (ends G q) (map (walkAt (S .rows)) l)) e) ∙ search-still k (below G S) (below-still G S e .0)
 
 -- ---- the code's turns
 

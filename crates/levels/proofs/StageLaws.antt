@@ -35,19 +35,19 @@ pub range-to : (lo n j : ℕ) → lo ≤ j → j < lo + n → In j (range lo n)
 range-to lo zero j a b = absurd (omega arith)
 range-to lo (suc n) j a b = elim (decLt lo j) [ yes l ↦ inr (range-to (suc lo) n j (omega arith) (omega arith)) | no l ↦ inl (omega arith) ]
 
-pub range-none : (lo n : ℕ) → n ≡ 0 → range lo n ≡ []
+range-none : (lo n : ℕ) → n ≡ 0 → range lo n ≡ []
 range-none lo n e = rw e
 
 -- ---- levels
 
--- below a level without rows there is none
-pub below-none : (G : Graph) (S : Stage) → level S ≡ [] → level (below G S) ≡ []
-below-none G S e =
+-- a level without rows has none below it, and nothing is entered
+pub below-still : (G : Graph) (S : Stage) → level S ≡ [] → (level (below G S) ≡ []) × (below G S .rows ≡ S .rows)
+below-still G S e =
     let same : below G S .rows ≡ S .rows = ap (λ l. enterAll (S .rows) (flat (embeds G (S .rows)) l)) e in
-    range-none (length (S .rows)) (length (below G S .rows) - length (S .rows)) (let l = ap length same in omega arith)
+    (range-none (length (S .rows)) (length (below G S .rows) - length (S .rows)) (let l = ap length same in omega arith), same)
 
 -- a level that has a row is less deep than there are types
-level-short : (G : Graph) → Closed G → (t : TypeKey) (f : Bool) → t .0 < G .size → (d i : ℕ) → In i (level (stage G t f d)) → d < G .size
+pub level-short : (G : Graph) → Closed G → (t : TypeKey) (f : Bool) → t .0 < G .size → (d i : ℕ) → In i (level (stage G t f d)) → d < G .size
 level-short G closed t f in0 d i k =
     let R = stage G t f d .rows in
     let w : In (walkAt R i) (kept G (start t f) d) = rw (held G t f d .here) at (map-In-to (walkAt R) (level (stage G t f d)) i k) in
@@ -75,7 +75,7 @@ module _ {text : Bytes} {rows : Words} {t : TypeKey} {f : Bool} {walk : List Rec
   abbrev S : Stage
   S = stage G t f d
 
-  stage-length : length (S .rows) ≡ n
+  pub stage-length : length (S .rows) ≡ n
   stage-length = ap length (sym (s .held)) ∙ rows-length walk n
 
   pub stage-begins : lo ≤ n
@@ -88,7 +88,7 @@ module _ {text : Bytes} {rows : Words} {t : TypeKey} {f : Bool} {walk : List Rec
   stage-ends e = stage-level ∙ range-none lo (n - lo) (omega arith)
 
   -- the rows of the last level are d steps down,
-  row-is : (j : ℕ) → j < n → levelOf walk j ≡ row (S .rows) j .level
+  pub row-is : (j : ℕ) → j < n → levelOf walk j ≡ row (S .rows) j .level
   row-is j l = sym (row-level walk j) ∙ ap (λ (r : Row). r .level) (sym (rows-at walk n j l)) ∙ ap (λ R. row R j .level) (s .held)
 
   pub stage-deep : (j : ℕ) → lo ≤ j → j < n → levelOf walk j ≡ d

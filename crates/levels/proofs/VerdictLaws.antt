@@ -1,7 +1,7 @@
 -- The first row that has the name, the next one, and the selection that they give.
 use mathlib.Core.Path.{_≡_, refl, sym, ap, ap₂, _∙_, subst}
 use mathlib.Core.Bool.{Bool, true, false, not, _&&_}
-use mathlib.Core.List.{List, [], _∷_}
+use mathlib.Core.List.{List, [], _∷_, _++_}
 use Prim.Native.Nat.{ℕ, _+_, _*_, _-_, _≤_, _<_}
 use native.Mathlib.Omega.{arith}
 use native.Mathlib.Numerals.{add-one}
@@ -26,6 +26,7 @@ use Rattle.multiples.specs.Records.{Record}
 use Rattle.walk_rows.specs.Records.{rowOf, levelOf}
 use Rattle.walk_rows.specs.State.{Rowed, Written}
 use Rattle.walk_rows.proofs.StateLaws.{rows-at}
+use Rattle.walk_rows.proofs.PlaceLaws.{read-walk}
 use Rattle.levels.specs.declared.Found.{Found}
 use Rattle.levels.specs.declared.Hit.{Hit}
 use Rattle.levels.specs.Hits.{waysFrom, wayTo, waysTold, OwnAt, Tells, Beside, Inside, Alone}
@@ -80,7 +81,7 @@ module _ (text : Bytes) (rows : Words) (walk : List Record) (w : Found) (a : Boo
   -- a way as it was written
   written-way : (n : ℕ) → Rowed walk n → (v : Found) → v .row < n → {places : Words} {times : ℕ} → Written walk (v .row) (v .place) places times → take times places ≡ placesOf (wayTo text rows walk n v)
   unfolding wayTo
-  written-way n h v l k = k .way n h l
+  written-way n h v l k = k .read ∙ ap (λ p. p ++ (v .place ∷ [])) (read-walk walk n h (v .row) l)
 
   module _ (low : levelOf walk (w .row) < maxPlaces) {places : Words} {times : ℕ} (k : Written walk (w .row) (w .place) places times) where
     times-fit : times ≤ maxPlaces

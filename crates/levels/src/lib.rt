@@ -1,7 +1,9 @@
-// The search of S level by level: the first level that has the name decides, and no level below it is made. Crate walk_rows has the rows of the levels.
+// The levels of the kept walks, whose rows crate walk_rows has. S: the first level that has the name decides, and no level below it is made. All levels: for
+// questions about every name.
 use objects::ObjKey;
 use objects::TypeKey;
 
+pub mod all; // all levels
 pub mod hits; // the rows of a level that have the name
 pub mod search; // the levels
 

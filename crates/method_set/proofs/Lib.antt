@@ -1,6 +1,5 @@
-pub mod LineLaws
-pub mod CarryLaws
-pub mod DoingLaws
-pub mod ListedLaws
-pub mod GivenLaws
+pub mod Firsts
+pub mod MetLaws
+pub mod HitLaws
 pub mod SetLaws
+pub mod KeepLaws

@@ -1,166 +1,140 @@
--- The whole set: the keys of names, the line of each that is given, and the lines of M.
+-- The whole set: the names of the methods that were met are enough, and the lines of those that are kept are M's.
 use mathlib.Core.Path.{_≡_, refl, sym, ap, ap₂, _∙_, subst}
-use mathlib.Core.Bool.{Bool, true, false, _&&_, _||_}
+use mathlib.Core.Bool.{Bool, true, false, cond, _&&_, _||_}
 use mathlib.Core.List.{List, [], _∷_, map}
 use mathlib.Core.Logic.{inl, inr}
-use Prim.Native.Nat.{ℕ, zero, suc, _-_, _≤_, _<_}
+use Prim.Native.Nat.{ℕ, _≤_, _<_}
 use native.Mathlib.Omega.{arith}
-use lib.Dec.{eqb}
 use lib.ListN.{length, take}
-use borrow.Author.Tests.{eqb-true}
-use Rattle.objects.specs.Bounds.{maxMembers, maxPlaces}
+use Rattle.objects.specs.Bounds.{maxPlaces}
 use Rattle.objects.specs.Lists.{Bytes, keep, flat, In, Sorted}
-use Rattle.objects.proofs.ListLaws.{clash, In-keep, map-In-to}
-use Rattle.objects.proofs.BoolLaws.{false-of}
-use Rattle.objects.proofs.RowLaws.{size-read, pointer-read, bare-read, number-read, named-pointer-read}
 use Rattle.objects.specs.declared.TypeKey.{TypeKey}
-use Rattle.objects.specs.Table.{Table, objKey, kindNumber, kindAt}
-use Rattle.objects.specs.Rows.{Words, wordAt, typeCount, memberCountOf, tableOf}
-use Rattle.objects.specs.Types.{bareRead}
-use Rattle.text.proofs.ByteLaws.{below-irrefl}
+use Rattle.objects.specs.Table.{Table, bare, pointerAt}
+use Rattle.objects.specs.Rows.{Words, typeCount, tableOf}
+use Rattle.objects.specs.Types.{bareRead, pointerRead}
+use Rattle.objects.proofs.ListLaws.{cases, In-keep, In-map, map-In-to}
+use Rattle.objects.proofs.RowLaws.{size-read, bare-read, pointer-read, iface-read, named-pointer-read}
 use Rattle.rules.specs.Library.{Library}
-use Rattle.rules.specs.Sound.{Sound}
-use Rattle.rules.proofs.Sounds.{library-sound}
-use Rattle.rules.specs.Members.{Identity, sameId, idBytes}
-use Rattle.rules.proofs.MemberLaws.{sameId-true, sameId-eq}
-use Rattle.rules.proofs.MethodNames.{Lower}
-use Rattle.rules.specs.Ways.{Way}
-use Rattle.rules.specs.MethodSet.{Standing, absent, hidden, given, listed, standing, emptySet, methodSet}
+use Rattle.rules.specs.Members.{Identity, identityOf}
+use Rattle.rules.specs.Ways.{Way, owned}
+use Rattle.rules.specs.MethodSet.{onlyMethod, emptySet, methodSet}
 use Rattle.rules.specs.Answer.{selOf}
+use Rattle.rules.proofs.Sounds.{library-sound}
+use Rattle.rules.proofs.MethodNames.{Lower, ascending-In}
+use Rattle.ways.specs.OfTable.{graph}
 use Rattle.ways.proofs.TableLaws.{bare-in}
-use Rattle.method_names.specs.Names.{identityAt, NamesHeld, Indexed}
-use Rattle.method_reach.specs.Reach.{Met, Wanted}
-use Rattle.method_reach.proofs.OwnedLaws.{under-table}
-use Rattle.method_hits.specs.Hits.{selWord, Small}
-use Rattle.method_hits.specs.Standings.{GivenRow, Shows, Key}
-use Rattle.method_set.specs.Sets.{selAt, selNumbers, SetHeld, emptyRead, isGiven}
-use Rattle.method_set.specs.AllLevels.{Settled}
-use Rattle.method_set.proofs.GivenLaws.{names-enough}
+use Rattle.ways.proofs.NamesInOrder.{gives, same-flat}
+use Rattle.selection.proofs.OwnLaws.{under-in}
+use Rattle.multiples.specs.Records.{Record}
+use Rattle.walks.specs.Rows.{walksOf, keptRows}
+use Rattle.walks.specs.Reads.{keptFrom, keptWays, namesKept}
+use Rattle.walks.proofs.Names.{names-kept-ascend, set-kept}
+use Rattle.walk_rows.specs.Records.{levelOf}
+use Rattle.levels.specs.declared.Found.{Found}
+use Rattle.levels.specs.All.{Keeps}
+use Rattle.first_hits.specs.Names.{identityAt, idAt, Listed}
+use Rattle.first_hits.specs.Hits.{FirstHit, Held, Covered, methodsMet, fieldsMet, hitRow}
+use Rattle.first_hits.proofs.HeldLaws.{held-fits}
+use Rattle.method_set.specs.Sets.{emptyRead, inSet, selAt, selNumbers, SetHeld}
+use Rattle.method_set.proofs.MetLaws.{allMet, met-names, method-met}
+use Rattle.method_set.proofs.HitLaws.{given-met, hit-inside, hit-says}
 
--- ---- the keys of names
+-- ---- the type that the walks start at
 
-module _ (text : Bytes) (rows : Words) where
+module _ (text : Bytes) (rows : Words) (lib : Library text rows) (t : TypeKey) (there : t .0 < typeCount rows) where
   abbrev T : Table
   T = tableOf text rows
 
-  -- names that ascend differ
-  distinct : (l : List ℕ) → Sorted Lower (map (identityAt text rows) l) → (j k : ℕ) → In j l → In k l → identityAt text rows j ≡ identityAt text rows k → j ≡ k
-  distinct (x ∷ l) s j k (inl a) (inl b) e = a ∙ sym b
-  distinct (x ∷ l) s j k (inl a) (inr b) e =
-      let low = s .0 (identityAt text rows k) (map-In-to (identityAt text rows) l k b) in
-      clash (subst (λ (i : Identity). Lower i (identityAt text rows k)) (ap (identityAt text rows) (sym a) ∙ e) low) (below-irrefl (idBytes (identityAt text rows k)))
-  distinct (x ∷ l) s j k (inr a) (inl b) e =
-      let low = s .0 (identityAt text rows j) (map-In-to (identityAt text rows) l j a) in
-      clash (subst (λ (i : Identity). Lower i (identityAt text rows j)) (ap (identityAt text rows) (sym b) ∙ sym e) low) (below-irrefl (idBytes (identityAt text rows j)))
-  distinct (x ∷ l) s j k (inr a) (inr b) e = distinct l (s .1) j k a b e
+  pub bare-there : bareRead rows t .0 < typeCount rows
+  bare-there = rw (← bare-read text rows t there, ← size-read text rows) (bare-in T (library-sound lib) t (rw (size-read text rows) there))
 
-  module _ (lib : Library text rows) (wanted names index : Words) (n : ℕ) (held : NamesHeld text rows wanted names n) (indexed : Indexed text rows wanted names n index) where
-    pub keys-small : Small rows index
-    keys-small = record { keys = λ m l. go m l (wordAt index m) refl }
-      where
-        go : (m : ℕ) → m < memberCountOf rows → (i : ℕ) → wordAt index m ≡ i → wordAt index m ≤ maxMembers
-        go m l zero e = omega (arith, e)
-        go m l (suc j) e = let k = held .keys j (indexed .some m j l e .0) in let b = lib .laid .members in omega (arith, e, k, b)
-
-    one-key : (j k : ℕ) → In j (take n names) → In k (take n names) → identityAt text rows j ≡ identityAt text rows k → j ≡ k
-    one-key = distinct (take n names) (held .ascend)
-
-    pub key-of : (t : TypeKey) → Wanted text rows t wanted → (k : ℕ) → In k (take n names) → Key text rows t index k
-    key-of t want k i = record { hits = λ m l e. indexed .some m k l e .1; misses = λ m l met ne. go m l met ne (wordAt index m) refl }
-      where
-        go : (m : ℕ) → m < memberCountOf rows → Met text rows t m → (wordAt index m ≡ suc k → ⊥) → (j : ℕ) → wordAt index m ≡ j → sameId (identityAt text rows m) (identityAt text rows k) ≡ false
-        go m l met ne zero e = false-of _ (λ h. clash (sameId-eq _ _ (sym (sameId-true (identityAt text rows m) (identityAt text rows k) h))) (indexed .none m k l (want .all m met) e i))
-        go m l met ne (suc j) e =
-            let r = indexed .some m j l e in
-            false-of _ (λ h. ne (e ∙ ap suc (one-key j k (r .0) i (r .1 ∙ sameId-true (identityAt text rows m) (identityAt text rows k) h))))
-
-  -- ---- lines
-
-  module _ (t : TypeKey) (index sels first : Words) (settled : Settled text rows t index sels first) where
-    -- the line of a name that is given
-    line : (k : ℕ) (w : Way) → GivenRow T t (selWord sels (objKey k)) (settled .last) w → selAt sels first (objKey k) ≡ selNumbers (selOf T w)
-    unfolding selAt selNumbers
-    line k w g =
-        let early = g .early in
-        let came = settled .came (g .level) (w .walk) (omega arith) (g .only) (g .fresh) in
-        let s : suc (g .level) - 1 ≡ g .level = omega arith in
-        rw (g .stamp, g .at, g .place, g .member, g .flag, s, came .places)
-
-    lines : (l : List ℕ) → ((k : ℕ) → In k l → Key text rows t index k)
-        → map (λ k. selAt sels first (objKey k)) (keep (isGiven sels) l) ≡ map selNumbers (map (selOf T) (flat (λ q. listed (standing T q t)) (map (identityAt text rows) l)))
-    unfolding isGiven
-    lines [] keys = refl
-    lines (k ∷ l) keys = go (standing T (identityAt text rows k) t) refl (settled .shows k (keys k (inl refl))) (lines l (λ j i. keys j (inr i)))
-      where
-        go : (s : Standing) → standing T (identityAt text rows k) t ≡ s → Shows T t (selWord sels (objKey k)) (settled .last) (standing T (identityAt text rows k) t)
-            → map (λ k. selAt sels first (objKey k)) (keep (isGiven sels) l) ≡ map selNumbers (map (selOf T) (flat (λ q. listed (standing T q t)) (map (identityAt text rows) l)))
-            → map (λ k. selAt sels first (objKey k)) (keep (isGiven sels) (k ∷ l)) ≡ map selNumbers (map (selOf T) (flat (λ q. listed (standing T q t)) (map (identityAt text rows) (k ∷ l))))
-        go absent e h ih = let z : selWord sels (objKey k) 0 ≡ 0 = rw e at h in rw (z, e) ih
-        go hidden e h ih = let z : selWord sels (objKey k) 0 ≡ 1 = rw e at h in rw (z, e) ih
-        go (given w) e h ih = let z : (selWord sels (objKey k) 0 ≡ 2) × GivenRow T t (selWord sels (objKey k)) (settled .last) w = rw e at h in rw (z .0, e) (ap₂ (λ x y. x ∷ y) (line k w (z .1)) ih)
-
-    -- what is given has its level
-    given-stamp : (k : ℕ) → Key text rows t index k → isGiven sels k ≡ true → (1 ≤ selWord sels (objKey k) 1) × (selWord sels (objKey k) 1 ≤ settled .last)
-    unfolding isGiven
-    given-stamp k key y = go (standing T (identityAt text rows k) t) refl (settled .shows k key)
-      where
-        two : selWord sels (objKey k) 0 ≡ 2
-        two = eqb-true (selWord sels (objKey k) 0) 2 y
-
-        go : (s : Standing) → standing T (identityAt text rows k) t ≡ s → Shows T t (selWord sels (objKey k)) (settled .last) (standing T (identityAt text rows k) t)
-            → (1 ≤ selWord sels (objKey k) 1) × (selWord sels (objKey k) 1 ≤ settled .last)
-        go absent e h = let z : selWord sels (objKey k) 0 ≡ 0 = rw e at h in absurd (omega (arith, z, two))
-        go hidden e h = let z : selWord sels (objKey k) 0 ≡ 1 = rw e at h in absurd (omega (arith, z, two))
-        go (given w) e h =
-            let z : (selWord sels (objKey k) 0 ≡ 2) × GivenRow T t (selWord sels (objKey k)) (settled .last) w = rw e at h in
-            let s = z .1 .stamp in
-            let early = z .1 .early in
-            (omega (arith, s), omega (arith, s, early))
-
--- ---- the set
-
-module _ (text : Bytes) (rows : Words) (lib : Library text rows) (t : TypeKey) (there : t .0 < typeCount rows) where
-  abbrev U : Table
-  U = tableOf text rows
-
-  whole : Sound U
-  whole = library-sound lib
-
-  bare-there : bareRead rows t .0 < typeCount rows
-  bare-there = rw (← bare-read text rows t there, ← size-read text rows) (bare-in U whole t (rw (size-read text rows) there))
-
-  empty-is : emptySet U t ≡ emptyRead rows t
+  empty-is : emptySet T t ≡ emptyRead rows t
   unfolding emptyRead
   empty-is =
-      ap₂ _||_ (named-pointer-read text rows t there (under-table text rows lib .within t there))
-      (ap₂ _&&_ (pointer-read text rows t there) (ap (λ v. eqb (kindNumber (kindAt U v)) 9) (bare-read text rows t there) ∙ ap (λ n. eqb n 9) (number-read text rows (bareRead rows t) bare-there)))
+      ap₂ _||_ (named-pointer-read text rows t there (under-in text rows lib t there refl))
+      (ap₂ _&&_ (pointer-read text rows t there) (rw (bare-read text rows t there) (iface-read text rows (bareRead rows t) bare-there (under-in text rows lib (bareRead rows t) bare-there refl))))
 
-  pub set-empty : {b : Bool} (keys sels first : Words) → b ≡ emptyRead rows t → b ≡ true → SetHeld text rows t keys sels first 0
+  -- ---- the names
+
+  names-sorted : (l : List ℕ) → Sorted (λ a b. Lower (identityAt text rows a) (identityAt text rows b)) l → Sorted Lower (map (identityAt text rows) l)
+  names-sorted [] s = tt
+  names-sorted (k ∷ l) s = (λ q i. let j = In-map (identityAt text rows) l q i in subst (Lower (identityAt text rows k)) (sym (j .2)) (s .0 (j .0) (j .1)), names-sorted l (s .1))
+
+  module _ (walk : List Record) (n : ℕ) (keeps : Keeps rows walk n (keptRows (graph T) (bare T t) (pointerAt T t))) (hits : List FirstHit) (keys : List ℕ)
+      (covered : Covered text rows walk (methodsMet rows walk n) (fieldsMet rows walk n) keys hits) where
+    -- what a name gives
+    abbrev chosen : Identity → List Way
+    chosen q = onlyMethod T (keptWays T q t)
+
+    -- the names of the methods that were met are enough
+    names-enough : Listed text rows keys → flat chosen (map (identityAt text rows) keys) ≡ flat chosen (namesKept T t)
+    unfolding idAt
+    names-enough listed = same-flat chosen (map (identityAt text rows) keys) (namesKept T t) (names-sorted keys (listed .sorted)) (names-kept-ascend T (library-sound lib) t) kept met
+      where
+        nameOf : Found → Identity
+        nameOf w = identityAt text rows (w .member .0)
+
+        all : List Identity
+        all = flat (λ w. map (λ p. identityOf T (p .member)) (owned T (w .at))) (keptFrom T t)
+
+        met-all : map nameOf (allMet rows walk n) ≡ all
+        met-all = met-names text rows lib walk n (keeps .state) ∙ ap (λ R. flat (λ w. map (λ p. identityOf T (p .member)) (owned T (w .at))) (walksOf R)) (keeps .held)
+
+        kept : (q : Identity) → gives chosen q ≡ true → In q (namesKept T t)
+        kept q g =
+            let w = given-met text rows lib walk n t keeps q g in
+            let i = method-met text rows lib walk n (keeps .state) (w .0) (w .1) in
+            ascending-In T all q .1 (subst (λ x. In x all) (sym (w .2)) (subst (In (nameOf (w .0))) met-all (map-In-to nameOf (allMet rows walk n) (w .0) i)))
+
+        met : (q : Identity) → gives chosen q ≡ true → In q (map (identityAt text rows) keys)
+        met q g = let w = given-met text rows lib walk n t keeps q g in subst (λ x. In x (map (identityAt text rows) keys)) (sym (w .2)) (covered .all (w .0) (w .1))
+
+    -- ---- the lines
+
+    lines-of : (l : List ℕ) → ((k : ℕ) → In k l → In k keys)
+        → map (selAt rows walk hits) (keep (inSet rows walk hits) l) ≡ map selNumbers (map (selOf T) (flat chosen (map (identityAt text rows) l)))
+    lines-of [] h = refl
+    lines-of (k ∷ l) h =
+        let says = hit-says text rows lib walk n t keeps hits k (covered .hides k (h k (inl refl))) in
+        let rest = lines-of l (λ j i. h j (inr i)) in
+        cases (inSet rows walk hits k)
+        (λ e. rw (says .1, e) (ap₂ (λ a b. a ∷ b) (says .2) rest))
+        (λ e. rw (says .1, e) rest)
+
+    -- THE LINES OF THE NAMES THAT ARE KEPT ARE M'S, if the set is not empty at once.
+    set-lines : Listed text rows keys → emptyRead rows t ≡ false → map (selAt rows walk hits) (keep (inSet rows walk hits) keys) ≡ map selNumbers (map (selOf T) (methodSet T t))
+    set-lines listed some =
+        lines-of keys (λ k i. i)
+        ∙ ap (λ ws. map selNumbers (map (selOf T) ws))
+        (names-enough listed
+        ∙ sym (ap (λ b. cond b [] (flat chosen (namesKept T t))) (empty-is ∙ some))
+        ∙ set-kept T (library-sound lib) t (rw (size-read text rows) there))
+
+    key-short : (k : ℕ) → In k keys → levelOf walk (hitRow hits k) < maxPlaces
+    key-short k i = keeps .short (hitRow hits k) (hit-inside text rows lib walk n t keeps hits k (covered .hides k i))
+
+  -- ---- the set
+
+  pub set-empty : {b : Bool} → b ≡ emptyRead rows t → b ≡ true → (walk : List Record) (names : Words) (hits : List FirstHit) → SetHeld text rows t walk names hits 0
   unfolding methodSet
-  set-empty keys sels first e y = record {
-    lines = let z : emptySet U t ≡ true = empty-is ∙ sym e ∙ y in rw z;
+  set-empty e y walk names hits = record {
+    lines = let z : emptySet T t ≡ true = empty-is ∙ sym e ∙ y in rw z;
     fits = (omega arith, omega arith);
     short = λ k i. absurd i;
   }
 
-  pub set-held : {b : Bool} (wanted names index keys sels first : Words) (n r : ℕ) → b ≡ emptyRead rows t → b ≡ false → Wanted text rows t wanted → NamesHeld text rows wanted names n
-      → Indexed text rows wanted names n index → Settled text rows t index sels first → take r keys ≡ keep (isGiven sels) (take n names) → r ≤ n → maxMembers ≤ length keys
-      → SetHeld text rows t keys sels first r
-  unfolding methodSet
-  set-held wanted names index keys sels first n r e out want held indexed settled list l room = record {
-    lines =
-        let z : emptySet U t ≡ false = empty-is ∙ sym e ∙ out in
-        ap (map (λ k. selAt sels first (objKey k))) list
-        ∙ lines text rows t index sels first settled (take n names) (key-of text rows lib wanted names index n held indexed t want)
-        ∙ rw z (ap (λ ws. map selNumbers (map (selOf U) ws)) (names-enough text rows lib t there wanted names n want held));
-    fits = let f = held .fits .0 in (omega arith, omega arith);
-    short = λ k i. near k (In-keep (isGiven sels) (take n names) k (subst (In k) list i));
-  }
-    where
-      near : (k : ℕ) → In k (take n names) × (isGiven sels k ≡ true) → (1 ≤ selWord sels (objKey k) 1) × (selWord sels (objKey k) 1 ≤ maxPlaces)
-      near k i =
-          let g = given-stamp text rows t index sels first settled k (key-of text rows lib wanted names index n held indexed t want k (i .0)) (i .1) in
-          let few : settled .last ≤ typeCount rows = rw (← size-read text rows) (settled .few) in
-          let small = lib .laid .types in
-          let g1 = g .1 in
-          (g .0, omega arith)
+  pub set-held : {b : Bool} → b ≡ emptyRead rows t → b ≡ false → {u : TypeKey} → u ≡ bareRead rows t → {f : Bool} → f ≡ pointerRead rows t
+      → {walk : List Record} {n : ℕ} → Keeps rows walk n (keptRows (graph T) u f)
+      → {names : Words} {hits : List FirstHit} {count : ℕ} → Held text rows names count hits → Covered text rows walk (methodsMet rows walk n) (fieldsMet rows walk n) (take count names) hits
+      → {after : Words} {r : ℕ} → length after ≡ length names → (take r after ≡ keep (inSet rows walk hits) (take count names)) × (r ≤ count) → SetHeld text rows t walk after hits r
+  set-held e some at removed {walk} {n} keeps {names} {hits} {count} has covered {after} {r} long kept =
+      let keys = take count names in
+      let few = has .few in let fit = held-fits text rows has in let most = lib .laid .members in let less = kept .1 in
+      let rowed = rw (at ∙ sym (bare-read text rows t there), removed ∙ sym (pointer-read text rows t there)) at keeps in
+      record {
+        lines = ap (map (selAt rows walk hits)) (kept .0) ∙ set-lines walk n rowed hits keys covered (has .listed) (sym e ∙ some);
+        fits = (omega arith, omega arith);
+        short = λ k i.
+            let j = In-keep (inSet rows walk hits) keys k (subst (In k) (kept .0) i) .0 in
+            (has .room k (has .listed .keys k j), key-short walk n rowed hits keys covered k j);
+      }

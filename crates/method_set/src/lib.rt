@@ -1,63 +1,93 @@
-// M: the method set of a type, as goscript's `MethodSet::new` gives it.
+// M: the method set of a type, off its kept walks. Of the names of all methods that they come to, those stay that are not hidden and whose receivers allow it.
 ghost use mathlib.Core.Path.{_≡_};
-ghost use Prim.Native.Nat.{_+_, _≤_, _<_};
-ghost use lib.ListN.{length, take, replicate};
-ghost use Rattle.objects.specs.Bounds.{maxMembers, maxPlaces, selWords, firstWords};
-ghost use Rattle.objects.specs.Lists.{keep};
-ghost use Rattle.objects.specs.Table.{bit};
+ghost use Prim.Native.Nat.{_+_, _*_, _≤_, _<_};
+ghost use lib.ListN.{length, take};
+ghost use Rattle.objects.specs.Bounds.{maxPlaces};
+ghost use Rattle.objects.specs.Lists.{In, keep};
 ghost use Rattle.objects.specs.Rows.{typeCount};
 ghost use Rattle.rules.specs.Library.{Library};
-ghost use Rattle.method_hits.specs.Hits.{selWord};
-ghost use Rattle.method_set.specs.Sets.{selAt, SetHeld, emptyRead, isGiven, pushed};
-use crate::all_levels::levels;
-use method_hits::words::sel_word;
-use method_levels::first_level;
-use method_levels::places;
-use method_names::method_names;
-use method_reach::put;
-use method_reach::reach;
+ghost use Rattle.multiples.specs.Records.{maxRecords};
+ghost use Rattle.walk_rows.specs.Records.{levelOf};
+ghost use Rattle.walk_rows.specs.State.{Wide};
+ghost use Rattle.first_hits.specs.Hits.{Held, Room, hitRow};
+ghost use Rattle.method_set.specs.Sets.{emptyRead, flagRead, inSet, selAt, SetHeld};
+use first_hits::FirstHit;
+use first_hits::HIDDEN;
+use first_hits::PLACE;
+use first_hits::ROW;
+use first_hits::cover::first_hits;
+use levels::all::walk_all;
+use multiples::EmbeddedType;
+use multiples::INDIRECT;
+use multiples::TYP;
 use objects::ObjKey;
 use objects::TypeKey;
 use objects::rows::bare;
-use objects::rows::kind_number;
+use objects::rows::has_ptr;
+use objects::rows::iface_under;
 use objects::rows::named_pointer;
 use objects::rows::pointer_at;
-use objects::rows::word;
+use walk_rows::places::write_places;
+use walk_rows::records::record_at;
 
-mod all_levels;
+// ---- one name
 
-// ---- what is given
-
-fn push(given: &mut [u32], has: bool, r: usize, k: u32) -> usize
-    requires { ⌜ r < length (now given) ⌝ }
-    ensures { λ n. ⌜ (now (given .exit) ≡ pushed has (now (given .entry)) r k) × (n ≡ r + bit has) ⌝ }
+// "An interface's method has flag 1."
+fn flag_at(rows: &[u32], walk: &[EmbeddedType], i: u32) -> bool
+    ensures { λ r. ⌜ r ≡ flagRead (now (rows .entry)) (now (walk .entry)) i ⌝ }
 {
-    if has {
-        put(given, r, k);
-        r + 1
+    let e = record_at(walk, i as usize);
+    if e[INDIRECT] == 1 {
+        return true;
+    }
+    let u = e[TYP];
+    iface_under(rows, TypeKey(u))
+}
+
+// Whether the name under key k is in the set.
+fn in_set(rows: &[u32], walk: &[EmbeddedType], hits: &[FirstHit], k: u32) -> bool
+    requires { ⌜ Room (now hits) k ⌝ }
+    ensures { λ r. ⌜ r ≡ inSet (now (rows .entry)) (now (walk .entry)) (now (hits .entry)) k ⌝ }
+{
+    let h = hits[k as usize];
+    if h[HIDDEN] == 1 {
+        return false;
+    }
+    if has_ptr(rows, ObjKey(k)) {
+        flag_at(rows, walk, h[ROW])
     } else {
-        r
+        true
     }
 }
 
-// The keys of the names that are given, in the order of the names.
-fn listed(names: &[u32], n: usize, sels: &[u32], given: &mut [u32]) -> usize
-    requires { ⌜ (n ≤ length (now names)) × (n ≤ length (now given)) ⌝ }
-    ensures { λ r. ⌜ (take r (now (given .exit)) ≡ keep (isGiven (now (sels .entry))) (take n (now (names .entry)))) × (r ≤ n) ⌝ }
+// ---- the set
+
+// The names that are in the set come to the front, in their order. Answers how many they are.
+fn keep_methods(
+    rows: &[u32],
+    walk: &[EmbeddedType],
+    hits: &[FirstHit],
+    names: &mut [u32],
+    n: usize,
+) -> usize
+    requires { ⌜ n ≤ length (now names) ⌝ }
+    requires { ⌜ ((k : _) → In k (take n (now names)) → Room (now hits) k) ⌝ }
+    ensures { λ r. ⌜ (take r (now (names .exit)) ≡ keep (inSet (now (rows .entry)) (now (walk .entry)) (now (hits .entry))) (take n (now (names .entry)))) × (r ≤ n) ⌝ }
 {
     let mut r: usize = 0;
     let mut i: usize = 0;
     while i < n {
-        let k = word(names, i);
-        let stands = sel_word(sels, ObjKey(k), 0);
-        r = push(given, stands == 2, r, k);
+        let k = names[i];
+        if in_set(rows, walk, hits, k) {
+            names[r] = k;
+            r += 1;
+        }
         i += 1;
     }
     r
 }
 
-// ---- the set
-
+// "a named type whose u is a pointer has an empty set"; "a pointer to any type with an interface under it has an empty set"
 fn empty_set(rows: &[u32], t: TypeKey) -> bool
     ensures { λ r. ⌜ r ≡ emptyRead (now (rows .entry)) t ⌝ }
 {
@@ -65,59 +95,48 @@ fn empty_set(rows: &[u32], t: TypeKey) -> bool
         return true;
     }
     if pointer_at(rows, t) {
-        kind_number(rows, bare(rows, t)) == 9
+        iface_under(rows, bare(rows, t))
     } else {
         false
     }
 }
 
-// "ascending by id": the keys of what is given are the first words of `given`, as many as this answers; `selection` writes out what the rows say of each.
+// "ascending by id": the keys of the names of the set are the first words of `names`, as many as this answers; `selection` writes out what is said of each.
 pub fn new(
     text: &[u8],
     rows: &[u32],
     t: TypeKey,
-    given: &mut [u32],
-    sels: &mut [u32],
-    first: &mut [u32],
+    walk: &mut [EmbeddedType],
+    names: &mut [u32],
+    hits: &mut [FirstHit],
 ) -> usize
-    requires { ⌜ Library (now text) (now rows) × (t .0 < typeCount (now rows)) × (maxMembers ≤ length (now given)) × (selWords ≤ length (now sels)) × (firstWords ≤ length (now first)) × (now sels ≡ replicate (length (now sels)) 0) × (now first ≡ replicate (length (now first)) 0) ⌝ }
-    ensures { λ r. ⌜ SetHeld (now (text .entry)) (now (rows .entry)) t (now (given .exit)) (now (sels .exit)) (now (first .exit)) r ⌝ }
+    requires { ⌜ Library (now text) (now rows) ⌝ }
+    requires { ⌜ (t .0 < typeCount (now rows)) × (2 * typeCount (now rows) ≤ length (now walk)) × (length (now walk) ≤ maxRecords) × Wide (now walk) × Held (now text) (now rows) (now names) 0 (now hits) ⌝ }
+    ensures { λ r. ⌜ SetHeld (now (text .entry)) (now (rows .entry)) t (now (walk .exit)) (now (names .exit)) (now (hits .exit)) r ⌝ }
 {
     if empty_set(rows, t) {
         return 0;
     }
-    let mut wanted = [0u32; 1024];
-    reach(text, rows, t, &mut wanted);
-    let mut names = [0u32; 1024];
-    let mut index = [0u32; 1024];
-    let n = method_names(text, rows, &wanted, &mut names, &mut index);
-    let mut level = [0u32; 256];
-    let mut next = [0u32; 256];
-    let span = first_level(text, rows, t, &mut level, first);
-    levels(
-        text,
-        rows,
-        t,
-        &index,
-        span,
-        &mut level,
-        &mut next,
-        sels,
-        first,
-    );
-    listed(&names, n, sels, given)
+    let n = walk_all(text, rows, walk, bare(rows, t), pointer_at(rows, t));
+    let count = first_hits(text, rows, walk, n, names, hits);
+    keep_methods(rows, walk, hits, names, count)
 }
 
-// The numbers of the line `sel` of a name that is given: member, flag, places.
-pub fn selection(sels: &[u32], first: &[u32], k: ObjKey, out: &mut [u32]) -> usize
-    requires { ⌜ (selWord (now sels) k 1 ≤ maxPlaces) × (1 ≤ selWord (now sels) k 1) × (maxPlaces + 2 ≤ length (now out)) ⌝ }
-    ensures { λ r. ⌜ (take r (now (out .exit)) ≡ selAt (now (sels .entry)) (now (first .entry)) k) × (r ≤ maxPlaces + 2) × (r ≤ length (now (out .exit))) ⌝ }
+// The numbers of the line `sel` of a name of the set: member, flag, places.
+pub fn selection(
+    rows: &[u32],
+    walk: &[EmbeddedType],
+    hits: &[FirstHit],
+    k: u32,
+    out: &mut [u32],
+) -> usize
+    requires { ⌜ Room (now hits) k × (levelOf (now walk) (hitRow (now hits) k) < maxPlaces) × (maxPlaces + 2 ≤ length (now out)) ⌝ }
+    ensures { λ r. ⌜ (take r (now (out .exit)) ≡ selAt (now (rows .entry)) (now (walk .entry)) (now (hits .entry)) k) × (r ≤ maxPlaces + 2) ⌝ }
 {
-    let d = sel_word(sels, k, 1) - 1;
-    let at = d as usize;
-    put(out, 0, sel_word(sels, k, 4));
-    put(out, 1, sel_word(sels, k, 5));
-    places(first, TypeKey(sel_word(sels, k, 2)), d, out, 2);
-    put(out, at + 2, sel_word(sels, k, 3));
-    at + 3
+    let h = hits[k as usize];
+    let flag = flag_at(rows, walk, h[ROW]);
+    out[0] = k;
+    out[1] = if flag { 1 } else { 0 };
+    let count = write_places(walk, &mut out[2..], h[ROW], h[PLACE]);
+    count + 2
 }

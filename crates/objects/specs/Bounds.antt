@@ -63,19 +63,6 @@ markWords = 4_096
 abbrev pub workWords : ℕ
 workWords = markWords
 
--- method sets: a row of six words for each name, and a row of four for each type that says how it was first reached
-abbrev pub selRow : ℕ
-selRow = 6
-
-abbrev pub selWords : ℕ
-selWords = 6_144
-
-abbrev pub firstRow : ℕ
-firstRow = 4
-
-abbrev pub firstWords : ℕ
-firstWords = 1_024
-
 -- ---- the rows of a loaded table (specs/Rows.antt): four counts, packages, types, and then members from the front and elements of tuples from the back
 
 -- words of a type's row and of a member's

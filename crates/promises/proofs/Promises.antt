@@ -1,11 +1,12 @@
 -- EVERY PROMISE, as one statement each over texts that load and calls that are made. `called` is what the exported call gives: the contract of `yifgrun_ask`
 -- (crate yifgrun, src/lib.rt) says that number, answer buffer and work area are those of `asked`, for every table, question, buffer and work area.
-use mathlib.Core.Path.{_≡_, ap, _∙_}
+use mathlib.Core.Path.{_≡_, refl, sym, ap, _∙_, subst}
 use mathlib.Core.Bool.{Bool, true}
 use mathlib.Core.List.{List, map}
 use mathlib.Core.Logic.{_↔_}
 use mathlib.Core.Option.{Option, none}
 use Prim.Native.Nat.{ℕ, _<_}
+use native.Mathlib.Omega.{arith}
 use lib.ListN.{length}
 use borrow.Author.Tests.{ltb-true, lt-ltb, le-ltb, not-false}
 use Rattle.objects.specs.Bounds.{workWords}
@@ -13,27 +14,34 @@ use Rattle.objects.specs.Lists.{Bytes}
 use Rattle.objects.specs.declared.TypeKey.{TypeKey}
 use Rattle.objects.specs.declared.PackageKey.{PackageKey}
 use Rattle.objects.specs.Table.{Table, size, hasType, hasPackage, isIface, isNamed, kindAt, under}
-use Rattle.objects.proofs.ListLaws.{and-l}
+use Rattle.objects.proofs.ListLaws.{and-l, In-map, map-In-to, map-map}
 use Rattle.objects.proofs.KindLaws.{iface-is, under-plain}
-use Rattle.rules.specs.Members.{identityFrom}
+use Rattle.rules.specs.Members.{identityFrom, identityOf}
 use Rattle.rules.specs.Load.{load, loaded}
-use Rattle.rules.specs.Question.{Question, askS, askN, askI, askC, inTable}
+use Rattle.rules.specs.Question.{Question, askS, askM, askN, askI, askC, inTable}
 use Rattle.rules.specs.Ways.{Selected, searchedAs, shortest, select}
 use Rattle.rules.specs.Identity.{identical}
 use Rattle.rules.specs.Comparable.{comparable}
 use Rattle.rules.specs.Missing.{Lack, missing}
-use Rattle.rules.specs.Answer.{answer, selected, says, lackAnswer}
+use Rattle.rules.specs.MethodSet.{methodSet}
+use Rattle.rules.specs.Answer.{Sel, answer, selected, set, selOf, says, lackAnswer}
 use Rattle.rules.specs.Asked.{numberOf, written, asked}
 use Rattle.rules.specs.Rows as rows
 use Rattle.rules.specs.Worked.{worked}
 use Rattle.rules.proofs.Computed as computed
 use Rattle.rules.proofs.Numbers.{outcome-bound, answered-fits}
 use Rattle.rules.proofs.Sounds.{loads-sound}
+use Rattle.ways.specs.MethodLevels.{asGo, setByLevels}
+use Rattle.ways.proofs.LevelSets.{set-by-levels}
+use Rattle.walks.specs.Reads.{setKept}
 use Rattle.walks.proofs.Loaded as walks
-use Rattle.goscript.specs.Lookup.{Ambiguous}
+use Rattle.goscript.specs.Lookup.{Ambiguous, enoughTurns}
+use Rattle.goscript.specs.MethodSets.{Selection, newMethodSet}
+use Rattle.goscript.specs.Departures.{lessDeparted}
 use Rattle.goscript.specs.Agrees.{WhichWay}
-use Rattle.goscript.specs.Answer.{Unended, goscriptAnswer, Answers}
+use Rattle.goscript.specs.Answer.{Unended, goscriptAnswer, lineOf, Answers}
 use Rattle.goscript.specs.Answer as returns
+use Rattle.goscript.proofs.DepartedGo.{go-in-goscript, goscript-beside-go}
 use Rattle.goscript.proofs.AnswersAre as goscript
 use Rattle.gospec.specs.Go.{Identical, Comparable}
 use Rattle.gospec.specs.GoSelectors.{OneStar}
@@ -42,7 +50,7 @@ use Rattle.gospec.proofs.Loaded as go
 use Rattle.growth.specs.Grown.{GrownTexts}
 use Rattle.growth.specs.Calls.{Lent, called, PutAgain, Said}
 use Rattle.growth.proofs.Promised.{asked-in, outcome-says, call-says, grown-calls}
-use Rattle.promises.specs.Demands.{CallGives, Answered, CallSays, GoSelects, KeptWalks}
+use Rattle.promises.specs.Demands.{CallGives, Answered, CallSays, GoSelects, GoSet, KeptWalks, BesideGo}
 
 -- ---- DEMAND 1: what every call gives
 
@@ -56,6 +64,19 @@ every-call table c = record {
 
 -- ---- DEMAND 2: what a call says
 
+-- M of every table that loads and every type of it is the Go spec's method set, whether it is asked for or not.
+pub set-is-go : (text : Bytes) (T : Table) → load text ≡ loaded T → (t : TypeKey) → t .0 < size T → GoSet T t (map (selOf T) (methodSet T t))
+set-is-go text T loads t in0 =
+    let M = methodSet T t in
+    record {
+      lists = λ ps m. let both = go.method-set-is-go text T loads t in0 ps m in (
+        λ x. let w = In-map (selOf T) M (x .0) (x .1) in
+            both .0 (record { way = w .0; there = w .1; member = ap (λ (s : Sel). s .member) (sym (w .2)) ∙ x .2; places = ap (λ (s : Sel). s .places) (sym (w .2)) ∙ x .3 }),
+        λ x. let l = both .1 x in (selOf T (l .way), map-In-to (selOf T) M (l .way) (l .there), l .member, l .places),
+      );
+      ascends = rw (map-map (λ (s : Sel). identityOf T (s .member)) (selOf T) M) (go.set-ascends text T loads t in0);
+    }
+
 module _ (text : Bytes) (c : Lent) (T : Table) where
   in-table : (q : Question) → Answered text c T q → inTable T q ≡ true
   in-table q h = asked-in T (c .line) q (h .asks)
@@ -67,8 +88,9 @@ module _ (text : Bytes) (c : Lent) (T : Table) where
   pub call-answers : (q : Question) → Answered text c T q → CallSays text c (answer T q)
   call-answers q h = call-says text _ c (outcome-says text (c .line) (length (c .buffer)) T q (h .loads) (h .asks) (h .second) (h .fits)) (h .words)
 
-  -- every answer is what goscript's function for the question returns, whatever a loop of it would give that did not end: they all end
-  pub answers-are-goscripts : (q : Question) → Answered text c T q → (out : Unended) → CallSays text c (answer T q) × Answers (goscriptAnswer out T q) (answer T q)
+  -- every answer is what goscript's function for the question returns, M's but for the two departures (goscript/specs/Departures.antt), whatever a loop of it would give that
+  -- did not end: they all end
+  pub answers-are-goscripts : (q : Question) → Answered text c T q → (out : Unended) → CallSays text c (answer T q) × Answers T q (goscriptAnswer out T q) (answer T q)
   answers-are-goscripts q h out = (call-answers q h, goscript.answers-are-goscripts T (loads-sound text T (h .loads)) q (in-table q h) out)
 
   -- S: "Selectors" of the Go spec
@@ -79,6 +101,11 @@ module _ (text : Bytes) (c : Lent) (T : Table) where
       let in0 = in-range t (and-l (hasType T t) (hasPackage T pkg) (in-table (askS t a pkg name) h)) in
       let says-it : GoSelects T t a pkg name (select T (identityFrom T pkg name) t a) = record { gives = go.selection-is-go text T (h .loads) t in0 a pkg name; alone = go.go-is-selection text T (h .loads) t in0 a pkg name } in
       (select T (identityFrom T pkg name) t a, call-answers (askS t a pkg name) h, says-it)
+
+  -- M: "Method sets"
+  pub method-set-is-go : (t : TypeKey) → Answered text c T (askM t) → (r : List Sel) × CallSays text c (set r) × GoSet T t r
+  unfolding answer
+  method-set-is-go t h = (map (selOf T) (methodSet T t), call-answers (askM t) h, set-is-go text T (h .loads) t (in-range t (in-table (askM t) h)))
 
   -- I: "Type identity"
   pub identity-is-go : (x y : TypeKey) → Answered text c T (askI x y) → (b : Bool) × CallSays text c (says b) × ((b ≡ true) ↔ Identical T x y)
@@ -123,3 +150,32 @@ which-way text c T t a pkg name h out indices e =
 -- S reads the kept walks, at most two to each type, and no others
 pub kept-walks : (text : Bytes) (T : Table) → load text ≡ loaded T → (t : TypeKey) → t .0 < size T → KeptWalks T t
 kept-walks text T h t in0 = record { twoEach = walks.two-each text T h t in0; few = walks.rows-few text T h t in0; read = walks.searched-kept text T h t in0 }
+
+-- ---- document 02, point 2: a field covers what lies below it
+
+-- M and goscript's `MethodSet::new`: the call says goscript's list without the two departures, in its order; and where that list parts from the Go spec's method set
+pub method-set-beside-goscript : (text : Bytes) (c : Lent) (T : Table) (t : TypeKey) → Answered text c T (askM t) → (out : Unended)
+    → (l : List Selection) × (goscriptAnswer out T (askM t) ≡ returns.set l) × CallSays text c (set (map lineOf (lessDeparted T t l))) × BesideGo T t l
+unfolding answer goscriptAnswer
+method-set-beside-goscript text c T t h out =
+    let sound = loads-sound text T (h .loads) in
+    let in0 = in-range text c T t (in-table text c T (askM t) h) in
+    let turns = enoughTurns T in
+    let l = newMethodSet T (out .methods) turns t in
+    let less : map (selOf T) (methodSet T t) ≡ map lineOf (lessDeparted T t l) = goscript.lines-less T sound t in0 (out .methods) in (
+      l,
+      refl,
+      subst (λ r. CallSays text c (set r)) less (call-answers text c T (askM t) h),
+      record {
+        all = go-in-goscript T sound t in0 (out .methods) turns (omega arith);
+        besides = goscript-beside-go T sound t in0 (out .methods) turns (omega arith);
+      },
+    )
+
+-- M is document 01's levels with the two changes of point 2, for every table
+pub sets-by-levels : (T : Table) (t : TypeKey) → methodSet T t ≡ setByLevels asGo T t
+sets-by-levels = set-by-levels
+
+-- and is read off the kept walks
+pub kept-sets : (text : Bytes) (T : Table) → load text ≡ loaded T → (t : TypeKey) → t .0 < size T → setKept T t ≡ methodSet T t
+kept-sets text T h t in0 = walks.set-kept text T h t in0

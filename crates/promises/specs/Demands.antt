@@ -1,20 +1,22 @@
 -- The words that the promises are said in: what a call gives, and when it answers a question.
 use mathlib.Core.Path.{_≡_}
-use mathlib.Core.Bool.{Bool, false, cond, _&&_}
+use mathlib.Core.Bool.{Bool, true, false, cond, _&&_}
 use mathlib.Core.List.{List, map}
+use mathlib.Core.Logic.{_⊎_, _↔_}
 use mathlib.Core.Option.{Option, some}
 use Prim.Native.Nat.{ℕ, _*_, _≤_, _<_}
 use lib.ListN.{length, replicate}
 use Rattle.objects.specs.Bounds.{workWords, refusalUnit}
-use Rattle.objects.specs.Lists.{Bytes}
+use Rattle.objects.specs.Lists.{Bytes, In, Sorted}
 use Rattle.objects.specs.declared.TypeKey.{TypeKey}
 use Rattle.objects.specs.declared.PackageKey.{PackageKey}
-use Rattle.objects.specs.Table.{Table, size, bare, pointerAt, ifaceUnder}
-use Rattle.rules.specs.Members.{Identity}
+use Rattle.objects.specs.Table.{Table, size, Member, bare, pointerAt, ifaceUnder}
+use Rattle.text.specs.Bytes.{belowBytes}
+use Rattle.rules.specs.Members.{Identity, identityOf, idBytes}
 use Rattle.rules.specs.Load.{load, loaded}
 use Rattle.rules.specs.Question.{Question, questionOf}
 use Rattle.rules.specs.Ways.{Selected, notfound, judged, searched}
-use Rattle.rules.specs.Answer.{Answer, answer, answerBytes}
+use Rattle.rules.specs.Answer.{Answer, Sel, answer, answerBytes}
 use Rattle.rules.specs.Asked.{outcome, refuse, say, refusal, wrongSecond}
 use Rattle.ways.specs.OfTable.{graph}
 use Rattle.walks.specs.Kept.{count}
@@ -22,6 +24,9 @@ use Rattle.walks.specs.Rows.{Row, keptRows}
 use Rattle.walks.specs.Reads.{keptWays}
 use Rattle.gospec.specs.GoSelectors.{OneStar}
 use Rattle.gospec.specs.Says.{Says, Alike}
+use Rattle.gospec.specs.GoMethodSets.{MethodSet}
+use Rattle.goscript.specs.MethodSets.{Selection}
+use Rattle.goscript.specs.Departures.{DenotesField, PointsToNamedInterface}
 use Rattle.growth.specs.Calls.{Lent, called, answersWith}
 
 -- ---- demand 1
@@ -57,6 +62,12 @@ pub record GoSelects (T : Table) (t : TypeKey) (a : Bool) (pkg : Option PackageK
   pub gives : Says T (OneStar T) name pkg t a r
   pub alone : (s : Selected) → Says T (OneStar T) name pkg t a s → Alike s r
 
+-- What M lists is the Go spec's method set of t: each of its methods at the places where it is found, and no other; ascending by id, so each identity once. The
+-- flag is no part of Go.
+pub record GoSet (T : Table) (t : TypeKey) (r : List Sel) : Type 0 where
+  pub lists : (ps : List ℕ) (m : Member) → ((s : Sel) × In s r × (s .member ≡ m) × (s .places ≡ ps)) ↔ MethodSet T t ps m
+  pub ascends : Sorted (λ (a b : Identity). belowBytes (idBytes a) (idBytes b) ≡ true) (map (λ s. identityOf T (s .member)) r)
+
 -- ---- document 02, point 1
 
 -- the rows of the kept walks from t on, one pointer removed, whatever name is asked for
@@ -69,3 +80,11 @@ pub record KeptWalks (T : Table) (t : TypeKey) : Type 0 where
   pub twoEach : (u : TypeKey) → count u (map (λ r. r .type) (rowsFrom T t)) ≤ 2
   pub few : length (rowsFrom T t) ≤ 2 * size T
   pub read : (q : Identity) (a : Bool) → searched T q t a ≡ cond (pointerAt T t && ifaceUnder T (bare T t)) notfound (judged a (keptWays T q t))
+
+-- ---- document 02, point 2
+
+-- goscript's list l beside the Go spec's method set of t: it has all of that, and what it has besides are exactly the methods whose selector denotes a field, and
+-- all of a pointer to a named interface.
+pub record BesideGo (T : Table) (t : TypeKey) (l : List Selection) : Type 0 where
+  pub all : (ps : List ℕ) (m : Member) → MethodSet T t ps m → (s : Selection) × In s l × (s .obj ≡ m) × (s .indices ≡ ps)
+  pub besides : (s : Selection) → In s l → (MethodSet T t (s .indices) (s .obj) → ⊥) ↔ (DenotesField T t (s .obj) ⊎ PointsToNamedInterface T t)

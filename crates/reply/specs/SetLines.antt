@@ -1,32 +1,38 @@
 -- The lines `sel` of a method set that is held as words.
 use mathlib.Core.List.{List, [], _∷_, _++_}
-use Prim.Native.Nat.{ℕ, _≤_}
+use Prim.Native.Nat.{ℕ, _<_}
 use lib.ListN.{length}
 use Rattle.objects.specs.Bounds.{maxPlaces}
 use Rattle.objects.specs.Lists.{Bytes, In, flat}
 use Rattle.objects.specs.Rows.{Words}
-use Rattle.objects.specs.Table.{objKey}
 use Rattle.text.specs.Bytes.{ascii}
+use Rattle.multiples.specs.Records.{Record}
 use Rattle.print.specs.Written.{numberLine}
-use Rattle.method_hits.specs.Hits.{selWord}
+use Rattle.walk_rows.specs.Records.{levelOf}
+use Rattle.first_hits.specs.Hits.{FirstHit, Room, hitRow}
 use Rattle.method_set.specs.Sets.{selAt}
 
 -- a line has fewer bytes than this
 abbrev pub maxLine : ℕ
 maxLine = 8_192
 
--- the line of one name that is given
-unfoldable pub selLine : Words → Words → ℕ → Bytes
-selLine sels first k = numberLine (ascii "sel") (selAt sels first (objKey k))
+-- there is a first hit under key k, and its line is short enough for a row of numbers
+abbrev pub Says : List Record → List FirstHit → ℕ → Type 0
+Says walk hits k = Room hits k × (levelOf walk (hitRow hits k) < maxPlaces)
 
--- the lines of several, one after the other
-unfoldable pub selLines : Words → Words → List ℕ → Bytes
-selLines sels first ks = flat (selLine sels first) ks
+-- so it is with each of them
+abbrev pub Short : List Record → List FirstHit → List ℕ → Type 0
+Short walk hits ks = (k : ℕ) → In k ks → Says walk hits k
 
--- the line of each of them is short enough for a row of numbers
-abbrev pub Short : Words → List ℕ → Type 0
-Short sels ks = (k : ℕ) → In k ks → (1 ≤ selWord sels (objKey k) 1) × (selWord sels (objKey k) 1 ≤ maxPlaces)
+module _ (rows : Words) (walk : List Record) (hits : List FirstHit) where
+  -- the line of one name of the set
+  unfoldable pub selLine : ℕ → Bytes
+  selLine k = numberLine (ascii "sel") (selAt rows walk hits k)
 
--- the lines of a set whose names are these
-unfoldable pub setLines : Words → Words → List ℕ → Bytes
-setLines sels first ks = numberLine (ascii "set") (length ks ∷ []) ++ selLines sels first ks
+  -- the lines of several, one after the other
+  unfoldable pub selLines : List ℕ → Bytes
+  selLines ks = flat selLine ks
+
+  -- the lines of a set whose names are these
+  unfoldable pub setLines : List ℕ → Bytes
+  setLines ks = numberLine (ascii "set") (length ks ∷ []) ++ selLines ks

@@ -20,7 +20,7 @@ use Rattle.rules.specs.Checks.{itemsFrom, lineOfItem, lacking, forbidden
 use Rattle.rules.specs.Load.{added, linesFrom, unless, checked, load}
 use Rattle.rules.specs.Comparable.{comparableKind, comparableIn, comparable}
 use Rattle.rules.specs.Ways.{owned, onward, walks, ways, shortestFrom, shortest, searched, select}
-use Rattle.rules.specs.MethodSet.{below, methodFlag, settled, standingFrom, standing, methodNames, methodSet}
+use Rattle.rules.specs.MethodSet.{methodFlag, callable, onlyMethod, methodNames, methodSet}
 use Rattle.rules.specs.Missing.{unmet, missing}
 use Rattle.rules.specs.Question.{questionForm, questionOf}
 use Rattle.rules.specs.Answer.{answer, answerBytes}
@@ -45,7 +45,7 @@ table lines = "typetable 1" ⏎ lines
 
 -- Everything that is computed: what is opened here is open where `called` and `prints` are.
 unfoldable opened : Bytes → Bytes
-unfolding isName isBlank isPath isTag exported valueFrom isNumeral number digitsOn decimal split pieces fields kindAt pathOf under bare pointerAt ifaceUnder namedPointer allMethods identityFrom identityOf sameId idBytes kindForm lineForm lineOf leads realType ownNumber parts mismatch pairParts identical itemsFrom lineOfItem lacking forbidden clashing containing added linesFrom unless checked load comparableKind comparableIn comparable owned onward walks ways shortestFrom shortest searched select below methodFlag settled standingFrom standing methodNames methodSet unmet missing questionForm questionOf answer answerBytes outcomeOf outcome refusal numberOf written asked inputOf typeask
+unfolding isName isBlank isPath isTag exported valueFrom isNumeral number digitsOn decimal split pieces fields kindAt pathOf under bare pointerAt ifaceUnder namedPointer allMethods identityFrom identityOf sameId idBytes kindForm lineForm lineOf leads realType ownNumber parts mismatch pairParts identical itemsFrom lineOfItem lacking forbidden clashing containing added linesFrom unless checked load comparableKind comparableIn comparable owned onward walks ways shortestFrom shortest searched select methodFlag callable onlyMethod methodNames methodSet unmet missing questionForm questionOf answer answerBytes outcomeOf outcome refusal numberOf written asked inputOf typeask
 opened b = b
 
 -- ---- a call

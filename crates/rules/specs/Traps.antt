@@ -99,13 +99,17 @@ readings =
     ∷ run ("typetable 1" ⏎ "T basic 2" ⏎ "T struct" ⏎ "F X - 0 0" ⏎ "T named 1" ⏎ "T named 1" ⏎ "T struct" ⏎ "F A - 2 1" ⏎ "F B - 3 1" ⏎ []) ("S 4 0 - X" ⏎ "I 2 3" ⏎ []) ("ambiguous 0 0" ⏎ "and 1 0" ⏎ "no" ⏎ [])
     -- "the next one in the order of places": the second, and not the third, which ends in a type identical to the first's
     ∷ run ends ("S 4 0 - X" ⏎ "I 1 3" ⏎ "I 1 2" ⏎ []) ("ambiguous 0 0" ⏎ "and 1 0" ⏎ "yes" ⏎ "no" ⏎ [])
-    -- M: one field at a level neither gives nor hides; 7 has the field X itself, and embeds K
-    ∷ run (levels ("T struct" ⏎ "F X - 0 0" ⏎ "F K - 5 1" ⏎ "T named 6" ⏎ [])) ("M 7" ⏎ []) ("set 1" ⏎ "sel 1 0 1 0" ⏎ [])
-    -- .. two fields hide for good: 8 has two ways to s, and one to K a level below
+    -- M, document 02: "one field at a level hides its name for all deeper levels": 7 has the field X itself, and embeds K
+    ∷ run (levels ("T struct" ⏎ "F X - 0 0" ⏎ "F K - 5 1" ⏎ "T named 6" ⏎ [])) ("M 7" ⏎ "S 7 0 - X" ⏎ []) ("set 0" ⏎ "entry 2 0 0" ⏎ [])
+    -- .. its name is its identity: the field x of package 0 does not hide the method x of package 1
+    ∷ run ("typetable 1" ⏎ "P a" ⏎ "P b" ⏎ "T tuple" ⏎ "T func 0 0 0" ⏎ "T struct" ⏎ "T named 2" ⏎ "M x 1 1 0" ⏎ "T struct" ⏎ "F x 0 1 0" ⏎ "F K - 3 1" ⏎ []) ("M 4" ⏎ []) ("set 1" ⏎ "sel 0 0 1 0" ⏎ [])
+    -- .. two fields hide too: 8 has two ways to s, and one to K a level below
     ∷ run (levels ("T struct" ⏎ "F K - 5 1" ⏎ "T named 6" ⏎ "T struct" ⏎ "F A - 3 1" ⏎ "F B - 3 1" ⏎ "F C - 7 1" ⏎ [])) ("M 8" ⏎ "M 7" ⏎ []) ("set 0" ⏎ "set 1" ⏎ "sel 1 0 0 0" ⏎ [])
-    -- M: a type that is not named is entered again: 8 reaches s at level 1, and at level 2 beside K
-    ∷ run (levels ("T struct" ⏎ "F A - 3 1" ⏎ "F B - 5 1" ⏎ "T named 6" ⏎ "T struct" ⏎ "F C - 3 1" ⏎ "F D - 7 1" ⏎ [])) ("M 8" ⏎ []) ("set 0" ⏎ [])
-    -- M: a named type is not: 7 embeds a pointer to itself and K, and X is reached once more behind it
+    -- M, document 02: "a pointer to any type with an interface under it has an empty set"; "An interface's method has flag 1."
+    ∷ run ("typetable 1" ⏎ "T tuple" ⏎ "T func 0 0 0" ⏎ "T iface" ⏎ "M X - 1 0" ⏎ "T named 2" ⏎ "T pointer 3" ⏎ "T pointer 2" ⏎ []) ("M 2" ⏎ "M 3" ⏎ "M 4" ⏎ "M 5" ⏎ []) ("set 1" ⏎ "sel 0 1 0" ⏎ "set 1" ⏎ "sel 0 1 0" ⏎ "set 0" ⏎ "set 0" ⏎ [])
+    -- M: "ascending by id", and "a pointer-receiver method with flag 0" is not in the set
+    ∷ run ("typetable 1" ⏎ "T tuple" ⏎ "T func 0 0 0" ⏎ "T struct" ⏎ "T named 2" ⏎ "M B - 1 0" ⏎ "M A - 1 0" ⏎ "M C - 1 1" ⏎ "T pointer 3" ⏎ []) ("M 3" ⏎ "M 4" ⏎ []) ("set 2" ⏎ "sel 1 0 1" ⏎ "sel 0 0 0" ⏎ "set 3" ⏎ "sel 1 1 1" ⏎ "sel 0 1 0" ⏎ "sel 2 1 2" ⏎ [])
+    -- M: a named struct embeds a pointer to itself, and K: X is reached once, by K, and not once more behind the pointer; the pointer's number is the smaller one (8)
     ∷ run (levels ("T struct" ⏎ "F A - 8 1" ⏎ "F B - 5 1" ⏎ "T named 6" ⏎ "T pointer 7" ⏎ [])) [] ("refused 8 11" ⏎ [])
     ∷ run (levels ("T named 8" ⏎ "T pointer 6" ⏎ "T struct" ⏎ "F A - 7 1" ⏎ "F B - 5 1" ⏎ [])) ("M 6" ⏎ []) ("set 1" ⏎ "sel 1 0 1 0" ⏎ [])
     ∷ []

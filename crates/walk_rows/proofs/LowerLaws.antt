@@ -173,7 +173,7 @@ module _ (T : Table) (up : Above) where
       ∙ ap (map (rowBelow up)) (map-append (stepOf T) (keep emb ps) (keep emb qs))
       ∙ map-append (rowBelow up) (map (stepOf T) (keep emb ps)) (map (stepOf T) (keep emb qs))
 
-places-append : (n : ℕ) (l m : List Member) → placesFrom n (l ++ m) ≡ placesFrom n l ++ placesFrom (n + length l) m
+pub places-append : (n : ℕ) (l m : List Member) → placesFrom n (l ++ m) ≡ placesFrom n l ++ placesFrom (n + length l) m
 places-append n [] m = let e : n + 0 ≡ n = omega arith in rw e
 places-append n (x ∷ l) m = let e : n + suc (length l) ≡ suc n + length l = omega arith in rw e (ap (λ r. record { place = n; member = x } ∷ r) (places-append (suc n) l m))
 

@@ -2,7 +2,7 @@
 use mathlib.Core.Path.{_≡_}
 use mathlib.Core.Bool.{true, false, _||_}
 use mathlib.Core.List.{List, [], _∷_, _++_, map}
-use Prim.Native.Nat.{ℕ, suc, _+_, _*_, _≤_, _<_}
+use Prim.Native.Nat.{ℕ, zero, suc, _+_, _*_, _≤_, _<_}
 use lib.ListN.{length, take}
 use Rattle.objects.specs.Lists.{In, keep}
 use Rattle.objects.specs.declared.TypeKey.{TypeKey}
@@ -14,7 +14,7 @@ use Rattle.ways.specs.Graph.{Step}
 use Rattle.ways.specs.OfTable.{stepOf}
 use Rattle.multiples.specs.Records.{maxRecords, Record, recordWords, typColumn, parentColumn, multiplesColumn, levelColumn}
 use Rattle.walks.specs.Kept.{count}
-use Rattle.walks.specs.Rows.{Row, walkAt, enterAll}
+use Rattle.walks.specs.Rows.{Row, enterAll}
 use Rattle.walk_rows.specs.declared.Above.{Above}
 use Rattle.walk_rows.specs.Records.{recordAt, rowOf, rowsOf, levelOf, markOf, firstOf}
 
@@ -107,7 +107,12 @@ FieldsTyped rows first total = (j : ℕ) → j < total → memberTypeRead rows (
 
 -- ---- the way to a row
 
+-- the places of the d steps to row i, up through the records that it was reached from
+unfoldable pub placesRead : List Record → ℕ → ℕ → List ℕ
+placesRead walk zero i = []
+placesRead walk (suc d) i = placesRead walk d (rowOf walk i .parent) ++ (rowOf walk i .place ∷ [])
+
 -- So many places in front of a lent row are those of the way to row i, and a last one.
 pub record Written (walk : List Record) (i last : ℕ) (places : Words) (times : ℕ) : Type 0 where
   pub long : times ≡ levelOf walk i + 1
-  pub way : (n : ℕ) → Rowed walk n → i < n → take times places ≡ walkAt (rowsOf walk n) i .places ++ (last ∷ [])
+  pub read : take times places ≡ placesRead walk (levelOf walk i) i ++ (last ∷ [])

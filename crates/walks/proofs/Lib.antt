@@ -3,6 +3,7 @@ pub mod Levels
 pub mod RowsKept
 pub mod Select
 pub mod Tables
+pub mod Names
 pub mod Few
 pub mod Loops
 pub mod Loaded

@@ -1,4 +1,4 @@
--- The kept walks of every table that loads, from every type of it: no type has three, and S is read off them.
+-- The kept walks of every table that loads, from every type of it: no type has three, and S and M are read off them.
 use mathlib.Core.Path.{_≡_}
 use mathlib.Core.Bool.{Bool, cond, _&&_}
 use mathlib.Core.List.{map}
@@ -10,13 +10,15 @@ use Rattle.objects.specs.Table.{Table, size, bare, pointerAt, ifaceUnder}
 use Rattle.rules.specs.Members.{Identity}
 use Rattle.rules.specs.Load.{load, loaded}
 use Rattle.rules.specs.Ways.{notfound, judged, searched}
+use Rattle.rules.specs.MethodSet.{methodSet}
 use Rattle.rules.proofs.Sounds.{loads-sound}
 use Rattle.ways.specs.OfTable.{graph}
 use Rattle.ways.proofs.TableLaws.{closed, bare-in}
 use Rattle.walks.specs.Kept.{count}
 use Rattle.walks.specs.Rows.{keptRows}
-use Rattle.walks.specs.Reads.{keptWays}
+use Rattle.walks.specs.Reads.{keptWays, setKept}
 use Rattle.walks.proofs.Tables as tables
+use Rattle.walks.proofs.Names as names
 use Rattle.walks.proofs.Few as few
 
 module _ (text : Bytes) (T : Table) (h : load text ≡ loaded T) (t : TypeKey) (in0 : t .0 < size T) where
@@ -31,3 +33,7 @@ module _ (text : Bytes) (T : Table) (h : load text ≡ loaded T) (t : TypeKey) (
   -- S, for every name and package
   pub searched-kept : (q : Identity) (a : Bool) → searched T q t a ≡ cond (pointerAt T t && ifaceUnder T (bare T t)) notfound (judged a (keptWays T q t))
   searched-kept q = tables.searched-kept T (loads-sound text T h) q t in0
+
+  -- M
+  pub set-kept : setKept T t ≡ methodSet T t
+  set-kept = names.set-kept T (loads-sound text T h) t in0

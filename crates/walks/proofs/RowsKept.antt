@@ -62,7 +62,7 @@ pub range-append : (lo m n : ℕ) → range lo (m + n) ≡ range lo m ++ range (
 range-append lo zero n = rw (zero-add n, add-zero lo)
 range-append lo (suc m) n = rw (suc-add m n) (ap (λ l. lo ∷ l) (range-append (suc lo) m n ∙ rw (suc-add lo m, add-suc lo m)))
 
-range-last : (n : ℕ) → range 0 (suc n) ≡ range 0 n ++ (n ∷ [])
+pub range-last : (n : ℕ) → range 0 (suc n) ≡ range 0 n ++ (n ∷ [])
 range-last n = ap (range 0) (sym (add-one n)) ∙ range-append 0 n 1 ∙ rw (zero-add n)
 
 pub map-range : {B : Type 0} (f : ℕ → B) (g : Row → B) (F : List Row) (lo : ℕ) → ((j : ℕ) → j < length F → f (lo + j) ≡ g (row F j)) → map f (range lo (length F)) ≡ map g F

@@ -20,10 +20,11 @@ use Rattle.rules.specs.Ways.{Walk, Way, judged}
 use Rattle.ways.specs.Graph.{Graph, walks, matching, ends, ways, shortest, start}
 use Rattle.ways.proofs.Order.{long}
 use Rattle.ways.proofs.Bound.{Closed, none-longer}
+use Rattle.ways.proofs.Numbered.{numbered, numbered-lawful}
 use Rattle.walks.specs.Kept.{new, kept}
 use Rattle.walks.specs.Rows.{walksOf, stage, keptRows, range}
 use Rattle.walks.specs.Reads.{asShort, shortestOf}
-use Rattle.walks.proofs.Levels.{spot, numbered, numbered-lawful, two-enough}
+use Rattle.walks.proofs.Levels.{spot, two-enough}
 use Rattle.walks.proofs.RowsKept.{In-two, rows-kept}
 
 module _ (G : Graph) (r0 : Walk) where

@@ -1,7 +1,6 @@
 -- S of a table, read off the kept walks, is the rules' S.
 use mathlib.Core.Path.{_≡_, sym, ap, _∙_}
 use mathlib.Core.Bool.{Bool, cond, _&&_}
-use mathlib.Core.List.{_∷_}
 use Prim.Native.Nat.{_<_}
 use lib.ListN.{take}
 use Rattle.objects.specs.declared.TypeKey.{TypeKey}

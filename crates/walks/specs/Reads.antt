@@ -1,5 +1,5 @@
--- What S reads off the kept walks.
-use mathlib.Core.Bool.{Bool}
+-- What S and M read off the kept walks.
+use mathlib.Core.Bool.{Bool, cond}
 use mathlib.Core.List.{List, [], _∷_, map}
 use Prim.Native.Nat.{ℕ, zero, suc}
 use lib.Dec.{eqb}
@@ -7,8 +7,9 @@ use lib.ListN.{length}
 use Rattle.objects.specs.Lists.{keep, flat}
 use Rattle.objects.specs.declared.TypeKey.{TypeKey}
 use Rattle.objects.specs.Table.{Table, bare, pointerAt}
-use Rattle.rules.specs.Members.{Identity}
-use Rattle.rules.specs.Ways.{Walk, Way, Selected, notfound, judged}
+use Rattle.rules.specs.Members.{Identity, identityOf}
+use Rattle.rules.specs.Ways.{Walk, Way, Selected, notfound, owned, judged}
+use Rattle.rules.specs.MethodSet.{onlyMethod, ascending, emptySet}
 use Rattle.ways.specs.Graph.{Graph, ends}
 use Rattle.ways.specs.OfTable.{graph}
 use Rattle.walks.specs.Rows.{walkAt, walksOf, Stage, level, below, keptRows}
@@ -39,3 +40,11 @@ module _ (T : Table) where
   -- the shortest ways to a name that they make
   abbrev pub keptWays : Identity → TypeKey → List Way
   keptWays q t = shortestOf (graph T) (keptFrom t) q
+
+  -- the identities of the members that the types of the kept walks have, ascending, each once
+  abbrev pub namesKept : TypeKey → List Identity
+  namesKept t = ascending T (flat (λ w. map (λ p. identityOf T (p .member)) (owned T (w .at))) (keptFrom t))
+
+  -- M
+  abbrev pub setKept : TypeKey → List Way
+  setKept t = cond (emptySet T t) [] (flat (λ q. onlyMethod T (keptWays q t)) (namesKept t))

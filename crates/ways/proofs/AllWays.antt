@@ -1,24 +1,23 @@
 -- The rules' list of ways has every way and nothing else; and where there is no way of as many places as there are types, or fewer, there is none at all.
 use mathlib.Core.Path.{_≡_, refl, sym, ap, _∙_, subst}
-use mathlib.Core.Bool.{Bool, true, false}
-use mathlib.Core.List.{List, [], _∷_, _++_, map}
-use mathlib.Core.Logic.{_⊎_, inl, inr, _↔_}
+use mathlib.Core.Bool.{Bool}
+use mathlib.Core.List.{[]}
+use mathlib.Core.Logic.{inl, _↔_}
 use Prim.Native.Nat.{ℕ, zero, suc, _<_, _≤_}
 use native.Mathlib.Omega.{arith}
-use lib.ListN.{length}
-use Rattle.objects.specs.Lists.{any, keep, flat, In}
-use Rattle.objects.proofs.ListLaws.{cases, clash, In-keep, In-map, In-flat, map-In-to, flat-In-to, any-ext, keep-In-to}
-use Rattle.objects.proofs.KeyLaws.{same-key, same-self}
+use Rattle.objects.specs.Lists.{any, flat, In}
+use Rattle.objects.proofs.ListLaws.{In-keep, In-map, In-flat, map-In-to, flat-In-to, keep-In-to}
+use Rattle.objects.proofs.KeyLaws.{same-key}
 use Rattle.objects.specs.declared.TypeKey.{TypeKey}
 use Rattle.objects.specs.Table.{Table, size, sameType, isEmbedded, bare}
 use Rattle.rules.specs.Members.{Identity, identityOf, sameId}
 use Rattle.rules.specs.Ways.{Place, Walk, Way, start, along, fieldPlaces, embedded, owned, onward, walks, matching, ends, ways}
 use Rattle.ways.specs.Graph as over
-use Rattle.ways.specs.OfTable.{graph, graphUpTo, stepOf}
+use Rattle.ways.specs.OfTable.{graph, graphUpTo}
 use Rattle.ways.specs.IsWay.{IsWalk, starts, takes, IsWay}
 use Rattle.ways.proofs.Merge.{Lawful}
-use Rattle.ways.proofs.Same.{Alike}
 use Rattle.ways.proofs.Bound.{Closed, none-longer}
+use Rattle.ways.proofs.Numbered.{numbered-lawful}
 use Rattle.ways.proofs.Bridge.{ways-are}
 
 -- ---- every way is listed, and nothing else
@@ -68,19 +67,8 @@ module _ (T : Table) (t : TypeKey) where
 abbrev pub plain : Table → over.Graph
 plain T = graphUpTo T sameType
 
-plain-same : (T : Table) (a b c : TypeKey) → sameType a b ≡ true → sameType a c ≡ sameType b c
-plain-same T a b c e = ap (λ x. sameType x c) (same-key a b e)
-
-turned : (a b : TypeKey) → sameType a b ≡ sameType b a
-turned a b = cases (sameType a b) (λ e. e ∙ sym (ap (λ x. sameType b x) (same-key a b e) ∙ same-self b)) (λ e. e ∙ sym (cases (sameType b a) (λ f. clash (ap (λ x. sameType x b) (sym (same-key b a f)) ∙ same-self b) e) (λ f. f)))
-
 pub plain-lawful : (T : Table) → Lawful (plain T)
-plain-lawful T = record {
-  self = same-self;
-  turn = turned;
-  chain = plain-same T;
-  alike = λ a b u e. ap (λ x. any (λ s. sameType u (s .target)) (plain T .steps x)) (same-key a b e);
-}
+plain-lawful T = numbered-lawful (graph T)
 
 module _ (T : Table) (closed : Closed (graph T)) (q : Identity) (t : TypeKey) (in0 : bare T t .0 < size T) where
   -- "Ways may be of any length": none of as many places as there are types or fewer (a way of d steps has d + 1 places), none at all

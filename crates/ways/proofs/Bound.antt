@@ -1,15 +1,15 @@
 -- No shortest way has as many steps as there are types.
 use mathlib.Core.Path.{_≡_, refl, ap, _∙_}
-use mathlib.Core.Bool.{true, false, not}
-use mathlib.Core.List.{List, [], _∷_, _++_, map, cons≢nil}
-use mathlib.Core.Logic.{_⊎_, inl, inr}
-use Prim.Native.Nat.{ℕ, zero, suc, _+_, _≤_, _<_}
+use mathlib.Core.Bool.{true, false}
+use mathlib.Core.List.{List, [], _∷_, cons≢nil}
+use mathlib.Core.Logic.{inl}
+use Prim.Native.Nat.{ℕ, zero, suc, _≤_, _<_}
 use native.Mathlib.Omega.{arith}
 use native.Mathlib.Decide.{decLt}
 use lib.ListN.{length}
 use Rattle.objects.proofs.Pigeons.{Distinct, pigeons}
 use Rattle.objects.proofs.KeyLaws.{key-eq}
-use Rattle.objects.specs.Lists.{any, keep, flat, In}
+use Rattle.objects.specs.Lists.{keep, flat, In}
 use Rattle.objects.proofs.ListLaws.{cases, clash, either, or-true, any-In, In-keep, In-map, In-flat, any-yes, keep-none}
 use Rattle.objects.specs.declared.TypeKey.{TypeKey}
 use Rattle.rules.specs.Members.{Identity}
@@ -93,6 +93,11 @@ module _ (G : Graph) (r0 : Walk) (key : Identity) where
           cases (has G key (w .at))
           (λ f. absurd (cons≢nil (rw f at e)))
           (λ f. rw (keep-none (G .hit key) (G .members (w .at)) f) (go ws (rw f at e)))
+
+module _ (G : Graph) (law : Lawful G) (r0 : Walk) (key : Identity) (al : Alike G key) where
+  pub none-before : (d : ℕ) → ((j : ℕ) → j < d → ways G key r0 j ≡ []) → NoneYet G r0 key d
+  none-before zero h = λ u e. clash e refl
+  none-before (suc d) h = later G law r0 key al d (none-before d (λ j l. h j (omega arith))) (none-good G r0 key d (h d (omega arith)))
 
 module _ (G : Graph) (law : Lawful G) (cl : Closed G) (r0 : Walk) (in0 : r0 .at .0 < G .size) (key : Identity) (al : Alike G key) where
   -- no way of fewer than d steps, and d is not less than the number of types: none of d steps

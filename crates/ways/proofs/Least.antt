@@ -13,8 +13,8 @@ use Rattle.rules.specs.Ways.{Walk, Way, notfound, judged}
 use Rattle.ways.specs.Graph.{Graph, walks, ways, shortest, start, select}
 use Rattle.ways.specs.Levels.{raw}
 use Rattle.ways.proofs.Merge.{Lawful}
-use Rattle.ways.proofs.Same.{Keyed, reached, hits, later, hit-fresh, has, NoneYet, good}
-use Rattle.ways.proofs.Bound.{Closed, bound, none-longer, none-good}
+use Rattle.ways.proofs.Same.{Keyed, reached, hits, hit-fresh, has, good}
+use Rattle.ways.proofs.Bound.{Closed, bound, none-before, none-longer}
 
 -- d steps have a way, and no fewer have one
 pub record Least (G : Graph) (key : Identity) (r0 : Walk) (d : ℕ) : Type 0 where
@@ -48,10 +48,6 @@ module _ (G : Graph) (key : Identity) (r0 : Walk) where
           go (w ∷ ws) e = inl (k, record { some = λ f. cons≢nil (sym e ∙ f); none = h })
 
 module _ (G : Graph) (law : Lawful G) (cl : Closed G) (r0 : Walk) (in0 : r0 .at .0 < G .size) (key : Identity) (kd : Keyed G key) where
-  none-before : (d : ℕ) → ((j : ℕ) → j < d → ways G key r0 j ≡ []) → NoneYet G r0 key d
-  none-before zero h = λ u e. clash e refl
-  none-before (suc d) h = later G law r0 key (kd .alike) d (none-before d (λ j l. h j (omega arith))) (none-good G r0 key d (h d (omega arith)))
-
   pub least-bound : (d : ℕ) → Least G key r0 d → d < G .size
   least-bound d l = go (good G r0 key d) refl
     where
@@ -59,7 +55,7 @@ module _ (G : Graph) (law : Lawful G) (cl : Closed G) (r0 : Walk) (in0 : r0 .at 
       go [] e = absurd (l .some (hits G key (walks G r0 d) kd ∙ rw e))
       go (w ∷ ws) e =
           let i = In-keep (λ x. has G key (x .at)) (walks G r0 d) w (rw e (inl refl)) in
-          let f = hit-fresh G law r0 key (kd .alike) d (none-before d (l .none)) (raw w) (i .1) in
+          let f = hit-fresh G law r0 key (kd .alike) d (none-before G law r0 key (kd .alike) d (l .none)) (raw w) (i .1) in
           bound G law cl r0 in0 d w (i .0) (cases (reached G r0 d (w .at)) (λ t. clash f (rw t)) (λ t. t))
 
   -- every question has a least length, or no way of any length

@@ -5,7 +5,7 @@ use mathlib.Core.Bool.{Bool, true, false, not, _||_}
 use mathlib.Core.List.{List, [], _∷_, _++_, map}
 use Prim.Native.Nat.{ℕ, zero, suc}
 use Rattle.objects.specs.Lists.{any, keep, flat, empty}
-use Rattle.objects.proofs.ListLaws.{cases, clash, any-flat, any-map, any-ext}
+use Rattle.objects.proofs.ListLaws.{cases, any-flat, any-map, any-ext}
 use Rattle.objects.proofs.KeyLaws.{same-key}
 use Rattle.objects.specs.declared.TypeKey.{TypeKey}
 use Rattle.objects.specs.Table.{Table, size, sameType, bare}

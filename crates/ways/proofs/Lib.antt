@@ -1,6 +1,9 @@
 pub mod Merge
 pub mod Same
 pub mod Bound
+pub mod ListLaws
+pub mod NamesInOrder
+pub mod Numbered
 pub mod Least
 pub mod Order
 pub mod Extra
@@ -11,6 +14,5 @@ pub mod TableLaws
 pub mod Selects
 pub mod Loaded
 pub mod MemberSorts
-pub mod MethodSets
-pub mod GivenWays
-pub mod GivenAlike
+pub mod MethodLevels
+pub mod LevelSets

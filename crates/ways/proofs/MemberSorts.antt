@@ -1,16 +1,16 @@
 -- Which of a type's own members are methods, on a sound table: those of a named type's list and of an interface's, and no field of a struct.
 use mathlib.Core.Path.{_≡_, refl, sym, ap, _∙_, subst}
 use mathlib.Core.Bool.{Bool, true, false, _||_}
-use mathlib.Core.List.{List}
+use mathlib.Core.List.{List, _++_}
 use borrow.Author.Tests.{eqb-true}
 use Rattle.objects.specs.Lists.{In}
-use Rattle.objects.proofs.ListLaws.{clash, or-true}
+use Rattle.objects.proofs.ListLaws.{clash, either, or-true, In-append}
 use Rattle.objects.proofs.KindLaws.{if-In, named-is, under-named}
 use Rattle.objects.specs.declared.TypeKey.{TypeKey}
-use Rattle.objects.specs.Table.{Table, Entity, Field, Method, Member, isMethod, Kind, Named, kindNumber, isStruct, isIface, isNamed, membersOf, fieldsOf, declaredOf, allMethodsOf, kindAt, under, ifaceUnder}
+use Rattle.objects.specs.Table.{Table, Entity, Field, Method, Member, isMethod, Kind, Named, kindNumber, isStruct, isIface, isNamed, membersOf, fieldsOf, declaredOf, allMethodsOf, kindAt, under, ifaceUnder, allMethods}
 use Rattle.rules.specs.Load.{stands}
-use Rattle.rules.specs.Sound.{Sound}
-use Rattle.rules.specs.Ways.{Place, placesFrom, Way, fieldPlaces}
+use Rattle.rules.specs.Sound.{Sound, MemberOf}
+use Rattle.rules.specs.Ways.{Place, placesFrom, Way, fieldPlaces, owned}
 use Rattle.rules.specs.MethodSet.{methodFlag}
 use Rattle.ways.proofs.TableLaws.{places-from, names-neither}
 
@@ -75,3 +75,13 @@ module _ (T : Table) (sound : Sound T) (u : TypeKey) (p : Place) where
   field-no-method i =
       let d = field-In i in
       stands-field (p .member .entity) (kindAt T (under T u)) (sound .standing (under T u) (p .member) (d .1)) (d .0)
+
+module _ (T : Table) (sound : Sound T) where
+  -- a type's own member stands under a T line: the type's, or that of the struct or interface under it
+  pub owned-member : (u : TypeKey) (p : Place) → In p (owned T u) → (v : TypeKey) × MemberOf T v (p .member)
+  unfolding owned allMethods
+  owned-member u p i =
+      let declared = placesFrom 0 (declaredOf (kindAt T u)) in
+      either (In-append (declared ++ fieldPlaces T u) (placesFrom 0 (allMethods T u)) p i)
+      (λ j. either (In-append declared (fieldPlaces T u) p j) (λ d. (u, declared-In T sound u p d .1)) (λ f. (under T u, field-In T sound u p f .1)))
+      (λ l. (under T u, iface-In T sound u p l .1))

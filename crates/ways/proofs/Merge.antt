@@ -1,15 +1,11 @@
 -- Merging identical types: what it keeps, and that it may be done before or after the next step.
 use mathlib.Core.Path.{_≡_, refl, sym, ap, ap₂, _∙_}
-use mathlib.Core.Bool.{Bool, true, false, cond, not, _&&_, _||_}
-use mathlib.Core.List.{List, [], _∷_, _++_, map, append-assoc}
-use mathlib.Core.Logic.{_⊎_, inl, inr}
-use Prim.Native.Nat.{ℕ, zero, suc}
+use mathlib.Core.Bool.{Bool, true, false, not, _&&_, _||_}
+use mathlib.Core.List.{List, [], _∷_, _++_, map}
 use Rattle.objects.specs.Lists.{any, keep, flat, In}
-use Rattle.objects.proofs.ListLaws.{cases, clash, or-assoc, or-false, or-true, not-or, any-append, keep-append, keep-keep, keep-swap, keep-weaker, any-keep, keep-none, remove-none, any-ext, keep-ext, any-map, keep-map, any-flat, keep-flat, map-append, any-In, any-none, none-In, some-In, map-In, map-map, keep-yes, un-not}
+use Rattle.objects.proofs.ListLaws.{cases, clash, or-assoc, or-false, or-true, not-or, any-append, keep-append, keep-keep, keep-swap, keep-weaker, any-keep, remove-none, any-ext, keep-ext, any-map, keep-map, any-flat, keep-flat, any-In, any-none, some-In, map-In, map-map, keep-yes, un-not}
 use Rattle.objects.specs.declared.TypeKey.{TypeKey}
-use Rattle.rules.specs.Members.{Identity}
-use Rattle.rules.specs.Ways.{Place, Walk, Way}
-use Rattle.ways.specs.Graph.{Graph, Step, along}
+use Rattle.ways.specs.Graph.{Graph, along}
 use Rattle.ways.specs.Levels.{EmbeddedType, at, mark, twin, merge, next}
 
 -- What identity keeps. `alike`: identical types embed identical types.

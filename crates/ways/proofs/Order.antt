@@ -1,15 +1,13 @@
 -- `walks` lists every walk, nothing else, and in the strict order of places.
-use mathlib.Core.Path.{_≡_, refl, sym, ap, ap₂, _∙_, subst}
-use mathlib.Core.Bool.{Bool, true, false}
+use mathlib.Core.Path.{_≡_, refl, sym, _∙_, subst}
 use mathlib.Core.List.{List, [], _∷_, _++_, map}
-use mathlib.Core.Logic.{_⊎_, inl, inr, _↔_}
-use Prim.Native.Nat.{ℕ, zero, suc, _+_, _≤_, _<_}
+use mathlib.Core.Logic.{_⊎_, inl, inr}
+use Prim.Native.Nat.{ℕ, zero, suc, _+_, _<_}
 use native.Mathlib.Omega.{arith}
 use lib.ListN.{length, length-append}
 use Rattle.objects.specs.Lists.{flat, In, Sorted}
-use Rattle.objects.proofs.ListLaws.{either, In-append, In-map, In-flat, In-append-l, In-append-r, map-In-to, flat-In-to}
+use Rattle.objects.proofs.ListLaws.{either, In-append, In-map, In-flat, map-In-to, flat-In-to}
 use Rattle.objects.specs.declared.TypeKey.{TypeKey}
-use Rattle.rules.specs.Members.{Identity}
 use Rattle.rules.specs.Ways.{Walk}
 use Rattle.ways.specs.Graph.{Graph, Step, along, onward, walks}
 

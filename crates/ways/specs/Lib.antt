@@ -2,3 +2,4 @@ pub mod Graph
 pub mod Levels
 pub mod OfTable
 pub mod IsWay
+pub mod MethodLevels

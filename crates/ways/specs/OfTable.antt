@@ -1,6 +1,6 @@
 -- The graph of a table: what the rules' walks and ways are over.
 use mathlib.Core.Bool.{Bool}
-use mathlib.Core.List.{List, map}
+use mathlib.Core.List.{map}
 use Rattle.objects.specs.declared.TypeKey.{TypeKey}
 use Rattle.objects.specs.Table.{Table, size, bare, pointerAt}
 use Rattle.rules.specs.Members.{identityOf, sameId}

@@ -1,6 +1,8 @@
 //! When goscript's answer and the library's agree. Of an ambiguous name goscript shows one shortest way and the library
-//! the first two, in the order of places; goscript's must be one of these. Every other answer is the same in both.
+//! the first two, in the order of places; goscript's must be one of these. A method set is goscript's but for the two
+//! departures of document 02, point 2. Every other answer is the same in both.
 
+use crate::departures::Departure;
 use crate::table::number;
 use std::fmt::{self, Display, Formatter};
 
@@ -13,6 +15,8 @@ pub enum Agreement {
     First,
     /// `ambiguous`, and goscript's way is the second.
     Second,
+    /// The library's set is goscript's without what departs.
+    Departs(Departure),
 }
 
 const AMBIGUOUS: &str = "ambiguous\t";
@@ -21,7 +25,16 @@ pub fn is_ambiguous(answer: &str) -> bool {
     answer.starts_with(AMBIGUOUS)
 }
 
-/// How goscript's answer and the library's agree; nothing if they do not.
+/// How the library's answer agrees with the one that is due where goscript's departs so, or not at all; nothing if it
+/// does not.
+pub fn agrees_with((due, departs): (&str, Option<Departure>), library: &str) -> Option<Agreement> {
+    match departs {
+        Some(departure) => (due == library).then_some(Agreement::Departs(departure)),
+        None => agrees(due, library),
+    }
+}
+
+/// How goscript's answer and the library's agree, where goscript's does not depart; nothing if they do not.
 pub fn agrees(goscript: &str, library: &str) -> Option<Agreement> {
     if !is_ambiguous(goscript) {
         return (goscript == library).then_some(Agreement::Equal);
@@ -50,6 +63,10 @@ pub struct Agreed {
     pub equal: u64,
     pub first: u64,
     pub second: u64,
+    /// Sets without the methods that a field covers.
+    pub covered: u64,
+    /// Sets that are empty, of pointers to named interfaces.
+    pub emptied: u64,
 }
 
 impl Agreed {
@@ -58,7 +75,21 @@ impl Agreed {
             Agreement::Equal => &mut self.equal,
             Agreement::First => &mut self.first,
             Agreement::Second => &mut self.second,
+            Agreement::Departs(Departure::Covered) => &mut self.covered,
+            Agreement::Departs(Departure::NamedInterface) => &mut self.emptied,
         } += 1;
+    }
+
+    /// Whether every way to agree was met.
+    pub fn all_met(&self) -> bool {
+        let counts = [
+            self.equal,
+            self.first,
+            self.second,
+            self.covered,
+            self.emptied,
+        ];
+        counts.iter().all(|&count| count > 0)
     }
 }
 
@@ -68,10 +99,14 @@ impl Display for Agreed {
             equal,
             first,
             second,
+            covered,
+            emptied,
         } = self;
         write!(f, "{equal} answers equal; of {} ambiguous ", first + second)?;
         write!(f, "goscript's way is the first in {first}, ")?;
-        write!(f, "the second in {second}")
+        write!(f, "the second in {second}; {covered} sets without ")?;
+        write!(f, "what a field covers, {emptied} of pointers to named ")?;
+        write!(f, "interfaces empty")
     }
 }
 
@@ -174,12 +209,19 @@ mod tests {
     #[test]
     fn agreements_are_counted() {
         let mut agreed = Agreed::default();
-        let all = [Agreement::Equal, Agreement::First, Agreement::Second];
+        let all = [
+            Agreement::Equal,
+            Agreement::First,
+            Agreement::Second,
+            Agreement::Departs(Departure::Covered),
+            Agreement::Departs(Departure::NamedInterface),
+        ];
         for (times, how) in (1..).zip(all) {
+            assert!(!agreed.all_met());
             (0..times).for_each(|_| agreed.count(how));
         }
-        let due =
-            "1 answers equal; of 5 ambiguous goscript's way is the first in 2, the second in 3";
+        assert!(agreed.all_met());
+        let due = "1 answers equal; of 5 ambiguous goscript's way is the first in 2, the second in 3; 4 sets without what a field covers, 5 of pointers to named interfaces empty";
         assert_eq!(agreed.to_string(), due);
     }
 }

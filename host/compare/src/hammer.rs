@@ -5,8 +5,9 @@
 #[path = "../../tests/archive/lent.rs"]
 mod lent;
 
-use crate::agreement::{agrees, is_ambiguous, Agreed};
+use crate::agreement::{agrees_with, is_ambiguous, Agreed};
 use crate::damage::{self, damage, misdirect};
+use crate::departures::{self, Departure};
 use crate::engine::{self, Engine};
 use crate::prng::Prng;
 use crate::random::{self, Shape};
@@ -96,6 +97,9 @@ fn question(prng: &mut Prng, table: &Table) -> Vec<u8> {
 /// What a call gives: an answer, or a refusal's number and line.
 type Outcome = Result<String, (u8, usize)>;
 
+/// The answer that goscript's stands for, and whether goscript's departs from it.
+type Due = (String, Option<Departure>);
+
 /// How many calls gave what.
 #[derive(Default)]
 pub struct Counts {
@@ -133,7 +137,7 @@ impl Hammer {
         match self.due(call) {
             Ok(None) => assert!(matches!(given, Ok(_) | Err((13, 0))), "{given:?}"),
             Ok(Some(theirs)) => {
-                let answer = self.whole(call, &theirs);
+                let answer = self.whole(call, theirs);
                 let fits = answer.len() <= call.room;
                 let due = if fits { Ok(answer) } else { Err((13, 0)) };
                 assert_eq!(given, due, "the second is due");
@@ -142,24 +146,24 @@ impl Hammer {
         }
     }
 
-    /// The answer that is due, in a buffer with room for it, where goscript gives this one, and counts how the two agree.
-    /// Of an ambiguous name goscript shows one way, so that the two that are due are the library's own.
-    fn whole(&mut self, call: &Call, theirs: &str) -> String {
-        let whole = if is_ambiguous(theirs) {
+    /// The answer that is due, in a buffer with room for it, where goscript's stands for this one, and counts how the two
+    /// agree. Of an ambiguous name goscript shows one way, so that the two that are due are the library's own.
+    fn whole(&mut self, call: &Call, (theirs, departs): Due) -> String {
+        let whole = if is_ambiguous(&theirs) {
             let answer = yifgrun::answer(&call.table, &call.question);
             let answer = answer.unwrap_or_else(|refusal| panic!("{refusal}, not {theirs}"));
             String::from_utf8(answer).expect("an answer is text")
         } else {
-            theirs.to_owned()
+            theirs.clone()
         };
-        let how = agrees(theirs, &whole);
+        let how = agrees_with((&theirs, departs), &whole);
         let how = how.unwrap_or_else(|| panic!("goscript: {theirs:?}, the library: {whole:?}"));
         self.counts.agreed.count(how);
         whole
     }
 
-    /// goscript's answer or the refusal that is due; no answer if there is nothing to compare with.
-    fn due(&mut self, call: &Call) -> Result<Option<String>, (u8, usize)> {
+    /// What goscript's answer stands for, or the refusal that is due; no answer if there is nothing to compare with.
+    fn due(&mut self, call: &Call) -> Result<Option<Due>, (u8, usize)> {
         if call.words < WORK_WORDS {
             return Err((1, 0));
         }
@@ -174,21 +178,24 @@ impl Hammer {
     pub fn printed(&mut self, call: &Call) -> Option<String> {
         let known = |answer: &String| answer.len() <= ANSWER_BYTES && !is_ambiguous(answer);
         Some(match self.due(call) {
-            Ok(answer) => answer.filter(known)?,
+            Ok(due) => due.map(|(answer, _)| answer).filter(known)?,
             Err((number, line)) => format!("refused\t{number}\t{line}\n"),
         })
     }
 
-    fn answer(&mut self, call: &Call, table: &Table) -> Option<String> {
+    fn answer(&mut self, call: &Call, table: &Table) -> Option<Due> {
         if call.question == b"V" {
             let (p, t, m) = (&table.packages, &table.types, &table.members);
-            return Some(format!("ok\t{}\t{}\t{}\n", p.len(), t.len(), m.len()));
+            let counts = format!("ok\t{}\t{}\t{}\n", p.len(), t.len(), m.len());
+            return Some((counts, None));
         }
-        let goscript = self.goscript.as_mut()?;
+        let goscript = self.goscript.as_mut()?.as_mut();
         let text = |bytes| str::from_utf8(bytes).expect("what loads is text");
         goscript.load(text(&call.table)).expect("it loads");
-        let answer = goscript.ask(text(&call.question));
-        Some(answer.expect("the question has the right form"))
+        let question = text(&call.question);
+        let answer = goscript.ask(question);
+        let answer = answer.expect("the question has the right form");
+        Some(departures::due(goscript, table, question, answer))
     }
 }
 

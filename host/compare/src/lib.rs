@@ -2,6 +2,7 @@
 
 pub mod agreement;
 pub mod damage;
+pub mod departures;
 pub mod engine;
 #[cfg(feature = "library")]
 pub mod hammer;

@@ -1,7 +1,9 @@
 //! goscript and the library on the same questions.
 
-use crate::agreement::{agrees, Agreed};
+use crate::agreement::{agrees_with, Agreed};
+use crate::departures::due;
 use crate::engine::Engine;
+use crate::table::Table;
 
 /// Counts how the answers of goscript and the library agree; where two do not, gives the table, the question and both.
 pub fn hold(
@@ -15,10 +17,15 @@ pub fn hold(
             return Err(format!("{table}\n{} does not load it", engine.name()));
         }
     }
+    let parsed = Table::parse(table).expect("what loads is a table");
     for question in questions {
         let (theirs, ours) = (goscript.ask(question), library.ask(question));
-        let how = theirs.as_ref().zip(ours.as_ref());
-        let Some(how) = how.and_then(|(theirs, ours)| agrees(theirs, ours)) else {
+        let both = theirs.clone().zip(ours.as_ref());
+        let how = both.and_then(|(theirs, ours)| {
+            let (due, departs) = due(goscript, &parsed, question, theirs);
+            agrees_with((&due, departs), ours)
+        });
+        let Some(how) = how else {
             let (one, other) = (goscript.name(), library.name());
             let answers = format!("{one}: {theirs:?}\n{other}: {ours:?}");
             return Err(format!("{table}\n{question}\n{answers}"));

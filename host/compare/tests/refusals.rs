@@ -21,7 +21,9 @@ fn refusals_agree_with_the_vectors() {
         }
     }
     if let Some(folder) = batches::vectors_02() {
-        all_agree(&folder, "1");
+        for name in ["1", "2"] {
+            all_agree(&folder, name);
+        }
     }
 }
 

@@ -17,8 +17,8 @@ fn vectors() -> Option<PathBuf> {
     folder("TYPEASK_VECTORS", "../shared/vectors")
 }
 
-/// The folder of document 02's vectors, if it is at hand: `TYPEASK_VECTORS_02`, or `../shared/vectors02`. Its pair `1`
-/// has what is due with point 1 in force.
+/// The folder of document 02's vectors, if it is at hand: `TYPEASK_VECTORS_02`, or `../shared/vectors02`. Its pair `2`
+/// has what is due with points 1 and 2 in force, `1` what is due with point 1.
 fn vectors_02() -> Option<PathBuf> {
     folder("TYPEASK_VECTORS_02", "../shared/vectors02")
 }
@@ -51,15 +51,24 @@ pub fn cases() -> Vec<Case> {
         cases.extend(base.filter(|case| still_due(&case.output)));
     }
     if let Some(folder) = vectors_02() {
-        cases.extend(cases_of(&folder, "1"));
+        cases.extend(cases_of(&folder, "2"));
+        let of_point_1 = cases_of(&folder, "1").into_iter();
+        cases.extend(of_point_1.filter(|case| !lists(&case.output)));
     }
     cases
 }
 
-/// Whether what the base gave is due: point 1 of document 02 changes every answer `ambiguous`.
+/// Whether what the base gave is due: point 1 of document 02 changes every answer `ambiguous`, and point 2 may change a
+/// method set that lists something.
 pub fn still_due(output: &[u8]) -> bool {
     let mut lines = output.split(|&b| b == b'\n');
-    !lines.any(|line| line.starts_with(b"ambiguous\t"))
+    !lists(output) && !lines.any(|line| line.starts_with(b"ambiguous\t"))
+}
+
+/// Whether a method set that lists something is among the answers.
+fn lists(output: &[u8]) -> bool {
+    let mut lines = output.split(|&b| b == b'\n');
+    lines.any(|line| line.starts_with(b"sel\t"))
 }
 
 /// The stored calls of the sample, a line each.

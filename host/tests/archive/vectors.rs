@@ -82,10 +82,15 @@ fn stored_calls_return_what_is_stored() {
     calls.retain(|call| still_due(&call.answer));
     calls.extend(sample.lines().map(Call::of));
     calls.iter().for_each(Call::run);
-    let both = calls.iter().filter(|call| !still_due(&call.answer)).count();
+    let answered = |by: &[u8]| {
+        let given = |call: &&Call| call.answer.windows(by.len()).any(|w| w == by);
+        calls.iter().filter(given).count()
+    };
+    let (both, listed) = (answered(b"\nand\t"), answered(b"\nsel\t"));
+    let count = calls.len();
     say(&format!(
-        "{} calls, {both} answered by two ways",
-        calls.len()
+        "{count} calls, {both} answered by two ways, {listed} by a set with methods"
     ));
     assert!(both > 0, "no call is answered by two ways");
+    assert!(listed > 0, "no call is answered by a set with methods");
 }

@@ -1,7 +1,6 @@
-use mathlib.Core.Path.{refl}
-use native.Mathlib.Omega.{arith}
-use Rattle.method_levels.proofs.StartLaws.{zero-blank}
-use Rattle.method_set.proofs.SetLaws.{set-empty, set-held, keys-small}
+-- `new` meets its contract: the names of the methods of the kept walks, each settled by its first hit and the fields that hide it.
+use Rattle.first_hits.proofs.HeldLaws.{held-fits}
+use Rattle.method_set.proofs.SetLaws.{bare-there, set-empty, set-held}
 use borrow.Author.Needs.{needs}
 use Rattle.method_set.proofs.new.Statement.{statement}
 use Rattle.method_set.proofs.new.Tie as tie
@@ -10,49 +9,28 @@ empty-set-requires : tie.Need-empty-set-requires
 empty-set-requires c κs = search needs
 
 returns : tie.Need-returns
-returns c = set-empty _ _ (c .before .before .before .before .before .before .before .pre .0) _ (c .before .before .before .before .before .before .before .pre .1) _ _ _ (c .before .empty-set .ensures) (c .if1 .taken)
+returns c = let start = c .before .before .before .before .before in set-empty _ _ (start .pre .0) (start .args .t) (start .pre .1 .0) (c .before .empty-set .ensures) (c .if1 .taken) _ _ _
 
-slice-aggregate-reach : tie.Need-slice-aggregate-reach
-slice-aggregate-reach c = search needs
+bare-requires : tie.Need-bare-requires
+bare-requires c κs = search needs
 
-reach-requires : tie.Need-reach-requires
-reach-requires c κs = ((c .before .before .before .before .before .before .before .before .pre .0), (c .before .before .before .before .before .before .before .before .pre .1), omega arith)
+pointer-at-requires : tie.Need-pointer-at-requires
+pointer-at-requires c κs = search needs
 
-slice-aggregate-method-names : tie.Need-slice-aggregate-method-names
-slice-aggregate-method-names c = search needs
+walk-all-requires : tie.Need-walk-all-requires
+walk-all-requires c κs =
+    let start = c .before .before .before .before .before .before .before .before in
+    let own = start .pre .1 in
+    (start .pre .0, (rw (c .before .bare .ensures) (bare-there _ _ (start .pre .0) (start .args .t) (own .0)), own .1, own .2, own .3))
 
-slice-aggregate-method-names-2 : tie.Need-slice-aggregate-method-names-2
-slice-aggregate-method-names-2 c = search needs
+first-hits-requires : tie.Need-first-hits-requires
+first-hits-requires c κs =
+    let walked = c .before .before .before .before in
+    let start = walked .before .before .before .before .before .before .before .before .before in
+    (start .pre .0, (walked .walk-all .ensures .state, start .pre .1 .4))
 
-slice-aggregate-method-names-3 : tie.Need-slice-aggregate-method-names-3
-slice-aggregate-method-names-3 c = search needs
-
-method-names-requires : tie.Need-method-names-requires
-method-names-requires c κs = ((c .before .before .before .before .before .before .before .before .before .before .before .before .before .pre .0), omega arith, omega arith, refl, omega (arith, (c .before .before .before .before .reach .kept)))
-
-slice-aggregate-first-level : tie.Need-slice-aggregate-first-level
-slice-aggregate-first-level c = search needs
-
-first-level-requires : tie.Need-first-level-requires
-first-level-requires c κs = ((c .before .before .before .before .before .before .before .before .before .before .before .before .before .before .before .before .before .before .pre .0), (c .before .before .before .before .before .before .before .before .before .before .before .before .before .before .before .before .before .before .pre .1), omega arith, (c .before .before .before .before .before .before .before .before .before .before .before .before .before .before .before .before .before .before .pre .4), refl, (c .before .before .before .before .before .before .before .before .before .before .before .before .before .before .before .before .before .before .pre .6))
-
-slice-aggregate-levels : tie.Need-slice-aggregate-levels
-slice-aggregate-levels c = search needs
-
-slice-aggregate-levels-2 : tie.Need-slice-aggregate-levels-2
-slice-aggregate-levels-2 c = search needs
-
-slice-aggregate-levels-3 : tie.Need-slice-aggregate-levels-3
-slice-aggregate-levels-3 c = search needs
-
-levels-requires : tie.Need-levels-requires
-levels-requires c κs = ((c .before .before .before .before .before .before .before .before .before .before .before .before .before .before .before .before .before .before .before .before .before .before .before .before .before .before .before .pre .0), (c .before .before .before .before .before .before .before .before .before .before .before .before .before .before .before .before .before .before .before .before .before .before .before .before .before .before .before .pre .1), keys-small _ _ (c .before .before .before .before .before .before .before .before .before .before .before .before .before .before .before .before .before .before .before .before .before .before .before .before .before .before .before .pre .0) _ _ _ _ (c .before .before .before .before .before .before .before .before .before .before .before .before .before .method-names .ensures .0) (c .before .before .before .before .before .before .before .before .before .before .before .before .before .method-names .ensures .1), (c .before .before .before .before .before .before .before .before .first-level .ensures .0), omega (arith, (c .before .before .before .before .before .before .before .before .first-level .kept)), omega arith, omega (arith, (c .before .before .before .before .before .before .before .before .before .before .before .before .before .before .before .before .before .before .before .before .before .before .before .before .before .before .before .pre .4), (c .before .before .before .before .before .before .before .before .first-level .kept)), (c .before .before .before .before .before .before .before .before .before .before .before .before .before .before .before .before .before .before .before .before .before .before .before .before .before .before .before .pre .3), (c .before .before .before .before .before .before .before .before .before .before .before .before .before .before .before .before .before .before .before .before .before .before .before .before .before .before .before .pre .5), (c .before .before .before .before .before .before .before .before .first-level .ensures .1), (c .before .before .before .before .before .before .before .before .first-level .ensures .2), zero-blank _ refl)
-
-slice-aggregate-listed : tie.Need-slice-aggregate-listed
-slice-aggregate-listed c = search needs
-
-listed-requires : tie.Need-listed-requires
-listed-requires c κs = ((c .before .before .before .before .before .before .before .before .before .before .before .before .before .before .before .before .before .before .before .before .before .before .before .method-names .ensures .0 .fits .1), omega (arith, (c .before .before .before .before .before .before .before .before .before .before .before .before .before .before .before .before .before .before .before .before .before .before .before .method-names .ensures .0 .fits .0), (c .before .before .before .before .before .before .before .before .before .before .before .before .before .before .before .before .before .before .before .before .before .before .before .before .before .before .before .before .before .before .before .before .before .before .before .before .before .pre .2)))
+keep-methods-requires : tie.Need-keep-methods-requires
+keep-methods-requires c κs = let has = c .before .before .before .before .before .before .first-hits .ensures .0 in (held-fits _ _ has, λ k i. has .room k (has .listed .keys k i))
 
 same-length : tie.Need-same-length
 same-length c = search needs
@@ -64,7 +42,14 @@ same-length-3 : tie.Need-same-length-3
 same-length-3 c = search needs
 
 returns-2 : tie.Need-returns-2
-returns-2 c = set-held _ _ (c .before .before .before .before .before .before .before .before .before .before .before .before .before .before .before .before .before .before .before .before .before .before .before .before .before .before .before .before .before .before .before .before .before .before .before .before .before .before .before .before .pre .0) _ (c .before .before .before .before .before .before .before .before .before .before .before .before .before .before .before .before .before .before .before .before .before .before .before .before .before .before .before .before .before .before .before .before .before .before .before .before .before .before .before .before .pre .1) _ _ _ _ _ _ _ _ (c .before .before .before .before .before .before .before .before .before .before .before .before .before .before .before .before .before .before .before .before .before .before .before .before .before .before .before .before .before .before .before .before .before .before .empty-set .ensures) (c .before .before .before .before .before .before .before .before .before .before .before .before .before .before .before .before .before .before .before .before .before .before .before .before .before .before .before .before .before .before .before .before .before .if1 .left) (c .before .before .before .before .before .before .before .before .before .before .before .before .before .before .before .before .before .before .before .before .before .before .before .before .before .before .before .before .before .before .before .reach .ensures) (c .before .before .before .before .before .before .before .before .before .before .before .before .before .before .before .before .before .before .before .before .before .before .before .before .before .before .method-names .ensures .0) (c .before .before .before .before .before .before .before .before .before .before .before .before .before .before .before .before .before .before .before .before .before .before .before .before .before .before .method-names .ensures .1) (c .before .before .before .before .before .before .before .before .before .before .before .before .levels .ensures) (c .before .before .listed .ensures .0) (c .before .before .listed .ensures .1) (omega (arith, (c .before .before .before .before .before .before .before .before .before .before .before .before .before .before .before .before .before .before .before .before .before .before .before .before .before .before .before .before .before .before .before .before .before .before .before .before .before .before .before .before .pre .2), (c .before .before .listed .kept)))
+returns-2 c =
+    let kept = c .before .before .keep-methods in
+    let met = c .before .before .before .before .before .before .before .before .before in
+    let walked = met .before .before .before .before .before in
+    let start = walked .before .before .before .before .before .before .before .before .before in
+    let own = start .pre .1 in
+    let hits = met .first-hits .ensures in
+    set-held _ _ (start .pre .0) (start .args .t) (own .0) (walked .before .before .before .before .before .empty-set .ensures) (walked .before .before .before .before .if1 .left) (walked .before .before .bare .ensures) (walked .before .pointer-at .ensures) (walked .walk-all .ensures) (hits .0) (hits .1) (kept .kept .1 .1 .1 .0) (kept .ensures)
 
 pub new-spec : {M : Type 1} → statement M
 new-spec =
@@ -72,20 +57,11 @@ new-spec =
     (tie.spec
     empty-set-requires
     returns
-    slice-aggregate-reach
-    reach-requires
-    slice-aggregate-method-names
-    slice-aggregate-method-names-2
-    slice-aggregate-method-names-3
-    method-names-requires
-    slice-aggregate-first-level
-    first-level-requires
-    slice-aggregate-levels
-    slice-aggregate-levels-2
-    slice-aggregate-levels-3
-    levels-requires
-    slice-aggregate-listed
-    listed-requires
+    bare-requires
+    pointer-at-requires
+    walk-all-requires
+    first-hits-requires
+    keep-methods-requires
     same-length
     same-length-2
     same-length-3

@@ -1,70 +1,93 @@
+-- `selection` meets its contract.
+use mathlib.Core.Path.{_≡_, sym, ap, _∙_}
+use mathlib.Core.Logic.{⊎-elim}
 use native.Mathlib.Omega.{arith}
-use Rattle.method_set.proofs.LineLaws.{selection-is}
+use lib.ListN.{length-set}
+use Rattle.objects.specs.Table.{bit}
+use Rattle.objects.specs.Rows.{wordAt}
+use Rattle.method_set.proofs.KeepLaws.{line-room, line-back, line-few, line-written}
 use borrow.Author.Needs.{needs}
 use Rattle.method_set.proofs.selection.Statement.{statement}
 use Rattle.method_set.proofs.selection.Tie as tie
 
-sel-word-requires : tie.Need-sel-word-requires
-sel-word-requires c κs = search needs
+cast-h : tie.Need-cast-h
+cast-h c = search needs
 
-sub-d : tie.Need-sub-d
-sub-d c = omega (arith, (c .sel-word) .ensures, (c .before .before .before .before .pre) .1)
+mul-h : tie.Need-mul-h
+mul-h c = search needs
 
-cast-at : tie.Need-cast-at
-cast-at c = search needs
+shared-slice-copy-out-h : tie.Need-shared-slice-copy-out-h
+shared-slice-copy-out-h c = search needs
 
-sel-word-requires-2 : tie.Need-sel-word-requires-2
-sel-word-requires-2 c κs = search needs
+array-read-flag-at : tie.Need-array-read-flag-at
+array-read-flag-at c = search needs
 
-put-requires : tie.Need-put-requires
-put-requires c κs = omega (arith, (c .before .before .before .before .before .before .pre) .2)
+flag-at-requires : tie.Need-flag-at-requires
+flag-at-requires c κs = search needs
 
-sel-word-requires-3 : tie.Need-sel-word-requires-3
-sel-word-requires-3 c κs = search needs
+slice-write-out : tie.Need-slice-write-out
+slice-write-out c = search needs
 
-put-requires-2 : tie.Need-put-requires-2
-put-requires-2 c κs = omega (arith, (c .before .before .before .before .before .before .before .before .before .before .before .pre) .2, (c .before .before .before .before .put) .kept)
+slice-write-out-2 : tie.Need-slice-write-out-2
+slice-write-out-2 c = let long = c .before .before .before .before .before .pre .2 in simp length-set (omega arith)
 
-sel-word-requires-4 : tie.Need-sel-word-requires-4
-sel-word-requires-4 c κs = search needs
+sub-write-places : tie.Need-sub-write-places
+sub-write-places c = let long = c .before .before .before .before .before .pre .2 in simp length-set (omega arith)
 
-places-requires : tie.Need-places-requires
-places-requires c κs = (omega (arith, (c .before .before .before .before .before .before .before .before .before .before .before .before .sel-word) .ensures, (c .before .before .before .before .before .before .before .before .before .before .before .before .before .before .before .before .pre) .0), omega (arith, (c .before .before .before .before .before .before .before .before .before .before .before .before .before .before .before .before .pre) .2, (c .before .before .before .before .before .before .before .before .before .before .before .before .before .before .before .before .pre) .0, (c .before .before .before .before .before .before .before .before .before .before .before .before .sel-word) .ensures, (c .before .before .before .before .before .before .before .before .before .put) .kept, (c .before .before .before .before .put2) .kept))
+part-write-places-start : tie.Need-part-write-places-start
+part-write-places-start c = let long = c .before .before .before .before .before .pre .2 in simp length-set (omega arith)
 
-add-put : tie.Need-add-put
-add-put c = omega (arith, (c .before .before .before .before .before .before .before .before .before .before .before .before .before .before .before .before .sel-word) .ensures, (c .before .before .before .before .before .before .before .before .before .before .before .before .before .before .before .before .before .before .before .before .pre) .0)
+part-write-places-end : tie.Need-part-write-places-end
+part-write-places-end c = search needs
 
-sel-word-requires-5 : tie.Need-sel-word-requires-5
-sel-word-requires-5 c κs = search needs
+array-read-write-places : tie.Need-array-read-write-places
+array-read-write-places c = search needs
 
-put-requires-3 : tie.Need-put-requires-3
-put-requires-3 c κs = omega (arith, (c .before .before .before .before .before .before .before .before .before .before .before .before .before .before .before .before .before .before .before .before .before .pre) .2, (c .before .before .before .before .before .before .before .before .before .before .before .before .before .before .before .before .before .before .before .before .before .pre) .0, (c .before .before .before .before .before .before .before .before .before .before .before .before .before .before .before .before .before .sel-word) .ensures, (c .before .before .before .before .before .before .before .before .before .before .before .before .before .before .put) .kept, (c .before .before .before .before .before .before .before .before .before .put2) .kept, (c .before .before .before .before .places) .kept)
+array-read-write-places-2 : tie.Need-array-read-write-places-2
+array-read-write-places-2 c = search needs
+
+write-places-requires : tie.Need-write-places-requires
+unfolding wordAt
+write-places-requires c κs = let start = c .before .before .before .before .before .before in let given = start .args in (start .pre .1, line-room (given .rows .now) (given .walk .now) (given .hits .now) (given .k) (given .out .now) (c .before .if1 .out) (start .pre .2))
 
 add-result : tie.Need-add-result
-add-result c = omega (arith, (c .before .before .before .before .before .before .before .before .before .before .before .before .before .before .before .before .before .before .before .before .sel-word) .ensures, (c .before .before .before .before .before .before .before .before .before .before .before .before .before .before .before .before .before .before .before .before .before .before .before .before .pre) .0)
+unfolding wordAt
+add-result c = let low = c .before .before .before .before .before .before .before .before .before .pre .1 in let count = c .before .before .write-places .ensures .long in omega arith
 
 same-length : tie.Need-same-length
-same-length c = search needs
+same-length c =
+    let start = c .before .before .before .before .before .before .before .before .before in
+    let places = c .before .before .write-places in
+    line-back (start .args .rows .now) (start .args .walk .now) (start .args .hits .now) (start .args .k) (start .args .out .now) (c .before .before .before .before .if1 .out) (start .pre .2) (places .last .1 .0) (places .kept .1 .0)
 
 returns : tie.Need-returns
-returns c = (selection-is _ _ ((c .before .before .before .before .before .before .before .before .before .before .before .before .before .before .before .before .before .before .before .before .before .before .before .before .args .out .now)) _ _ _ _ _ _ _ _ _ _ ((c .before .before .before .before .before .before .before .before .before .before .before .before .before .before .before .before .before .before .before .before .sel-word) .ensures) ((c .before .before .before .before .before .before .before .before .before .before .before .before .before .before .before .before .before .before .sel-word2) .ensures) ((c .before .before .before .before .before .before .before .before .before .before .before .before .before .sel-word3) .ensures) ((c .before .before .before .before .before .before .before .before .before .sel-word4) .ensures) ((c .before .before .before .sel-word5) .ensures) ((c .before .before .before .before .before .before .before .before .before .before .before .before .before .before .before .before .before .put) .ensures) ((c .before .before .before .before .before .before .before .before .before .before .before .before .put2) .ensures) ((c .before .before .before .before .before .before .before .places) .ensures) ((c .before .before .put3) .ensures) (omega (arith, (c .before .before .before .before .before .before .before .before .before .before .before .before .before .before .before .before .before .before .before .before .sel-word) .ensures, (c .before .before .before .before .before .before .before .before .before .before .before .before .before .before .before .before .before .before .before .before .before .before .before .before .pre) .0, (c .before .before .before .before .before .before .before .before .before .before .before .before .before .before .before .before .before .before .before .before .before .before .before .before .pre) .2)), omega (arith, (c .before .before .before .before .before .before .before .before .before .before .before .before .before .before .before .before .before .before .before .before .sel-word) .ensures, (c .before .before .before .before .before .before .before .before .before .before .before .before .before .before .before .before .before .before .before .before .before .before .before .before .pre) .0), omega (arith, (c .before .before .before .before .before .before .before .before .before .before .before .before .before .before .before .before .before .before .before .before .before .before .before .before .pre) .2, (c .before .before .before .before .before .before .before .before .before .before .before .before .before .before .before .before .before .before .before .before .before .before .before .before .pre) .0, (c .before .before .before .before .before .before .before .before .before .before .before .before .before .before .before .before .before .before .before .before .sel-word) .ensures, (c .before .before .before .before .before .before .before .before .before .before .before .before .before .before .before .before .before .put) .kept, (c .before .before .before .before .before .before .before .before .before .before .before .before .put2) .kept, (c .before .before .before .before .before .before .before .places) .kept, (c .before .before .put3) .kept))
+unfolding wordAt
+returns c =
+    let start = c .before .before .before .before .before .before .before .before .before in
+    let flag = c .before .before .before .before .if1 in
+    let places = c .before .before .write-places in
+    let said : flag .out ≡ bit (c .before .before .before .before .before .flag-at .result) = ⊎-elim (λ w. w .1 ∙ ap bit (sym (w .0 .taken))) (λ w. w .1 ∙ ap bit (sym (w .0 .left))) (flag .came) in (
+      line-written (start .args .rows .now) (start .args .walk .now) (start .args .hits .now) (start .args .k) (start .args .out .now) (flag .out) (start .pre .2) (places .ensures) (start .pre .1) (places .kept .1 .0) (c .before .before .before .before .before .flag-at .ensures) said,
+      line-few (start .args .rows .now) (start .args .walk .now) (start .args .hits .now) (start .args .k) (start .args .out .now) (flag .out) (start .pre .2) (places .ensures) (start .pre .1),
+    )
 
 pub selection-spec : {M : Type 1} → statement M
 selection-spec =
     tie.close
     (tie.spec
-    sel-word-requires
-    sub-d
-    cast-at
-    sel-word-requires-2
-    put-requires
-    sel-word-requires-3
-    put-requires-2
-    sel-word-requires-4
-    places-requires
-    add-put
-    sel-word-requires-5
-    put-requires-3
+    cast-h
+    mul-h
+    shared-slice-copy-out-h
+    array-read-flag-at
+    flag-at-requires
+    slice-write-out
+    slice-write-out-2
+    sub-write-places
+    part-write-places-start
+    part-write-places-end
+    array-read-write-places
+    array-read-write-places-2
+    write-places-requires
     add-result
     same-length
     returns)

@@ -110,13 +110,15 @@ impl<'a> Maker<'a> {
         Plan::Struct
     }
 
-    /// Lets a named type stand for a type that is neither named nor a tuple, mostly a struct.
+    /// Lets a named type stand for a type that is neither named nor a tuple, mostly a struct, often an interface.
     fn name(&mut self, t: usize) {
-        let structs = self.prng.chance(75);
+        let what = self.prng.below(100);
+        let (structs, interfaces) = (what < 70, (70..88).contains(&what));
         let allowed = |u: &usize| match self.plan[*u] {
-            Plan::Struct => true,
+            Plan::Struct => !interfaces,
+            Plan::Iface => !structs,
             Plan::Named | Plan::Tuple => false,
-            _ => !structs,
+            _ => !structs && !interfaces,
         };
         let found: Vec<usize> = (0..self.plan.len()).filter(allowed).collect();
         let u = self.prng.pick(&found).copied().unwrap_or(0);
@@ -160,7 +162,7 @@ impl<'a> Maker<'a> {
                 None => Kind::Slice(self.target(t)),
             },
             Plan::Slice => Kind::Slice(self.target(t)),
-            Plan::Pointer => Kind::Pointer(self.target(t)),
+            Plan::Pointer => Kind::Pointer(self.pointed(t)),
             Plan::Map => Kind::Map(self.target(t), self.target(t)),
             Plan::Chan => Kind::Chan(self.prng.below(3), self.target(t)),
             Plan::Tuple => {
@@ -215,6 +217,17 @@ impl<'a> Maker<'a> {
         let allowed = |e: &usize| self.refers(t, *e) && self.plan[*e] != Plan::Tuple;
         let found: Vec<usize> = (0..self.plan.len()).filter(allowed).collect();
         self.prng.pick(&found).copied().unwrap_or(0)
+    }
+
+    /// The type that a pointer leads to, now and then a named interface, whose methods the pointer does not have.
+    fn pointed(&mut self, t: usize) -> usize {
+        let names_interface =
+            |e: &usize| matches!(self.kinds[*e], Kind::Named(u) if self.plan[u] == Plan::Iface);
+        let found: Vec<usize> = (0..self.plan.len()).filter(names_interface).collect();
+        match self.prng.pick(&found) {
+            Some(&e) if self.prng.chance(25) => e,
+            _ => self.target(t),
+        }
     }
 
     /// The type of a field, often one that has members, so that ways branch and meet again.

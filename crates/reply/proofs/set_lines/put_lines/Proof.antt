@@ -12,13 +12,14 @@ use Rattle.reply.proofs.set_lines.put_lines.Statement.{statement}
 use Rattle.reply.proofs.set_lines.put_lines.Tie as tie
 
 abbrev Inv-loop : tie.InvT-loop
-Inv-loop answer₀ at given n sels first numbers₀ end₀ i₀ answer numbers end i =
-    (written answer₀ at (selLines sels first (take n given)) ≡ written answer end (selLines sels first (drop i (take n given))))
-    × (end + length (selLines sels first (drop i (take n given))) ≡ at + length (selLines sels first (take n given)))
+Inv-loop answer₀ at rows walk hits names n numbers₀ end₀ i₀ answer numbers end i =
+    let lines = selLines rows walk hits in
+    (written answer₀ at (lines (take n names)) ≡ written answer end (lines (drop i (take n names))))
+    × (end + length (lines (drop i (take n names))) ≡ at + length (lines (take n names)))
     × (i ≤ n) × (length answer ≡ length answer₀) × (length numbers ≡ length numbers₀)
 
 abbrev μ-loop : tie.MeasureT-loop
-μ-loop answer₀ at given n sels first numbers₀ end₀ i₀ answer numbers end i = n - i
+μ-loop answer₀ at rows walk hits names n numbers₀ end₀ i₀ answer numbers end i = n - i
 
 loop-holds : tie.Need-loop-holds Inv-loop μ-loop
 loop-holds c = (refl, refl, omega arith, refl, refl)
@@ -30,7 +31,14 @@ shared-slice-read-put-sel : tie.Need-shared-slice-read-put-sel Inv-loop μ-loop
 shared-slice-read-put-sel c = search needs
 
 put-sel-requires : tie.Need-put-sel-requires Inv-loop μ-loop
-put-sel-requires c κs = ((short-at _ (c .before .before .before .before .before .before .before .before .before .before .args .first .now) (c .before .before .before .before .before .before .before .before .before .before .args .given .now) (c .before .before .before .before .before .before .before .before .before .before .args .n) (c .before .before .before .before .loop .i) (omega arith) (c .before .before .before .loop-test .taken) (c .before .before .before .before .before .before .before .before .before .before .pre .1 .0) .0, short-at _ (c .before .before .before .before .before .before .before .before .before .before .args .first .now) (c .before .before .before .before .before .before .before .before .before .before .args .given .now) (c .before .before .before .before .before .before .before .before .before .before .args .n) (c .before .before .before .before .loop .i) (omega arith) (c .before .before .before .loop-test .taken) (c .before .before .before .before .before .before .before .before .before .before .pre .1 .0) .1, omega arith), omega (arith, next-length (c .before .before .before .before .before .before .before .before .before .before .args .sels .now) (c .before .before .before .before .before .before .before .before .before .before .args .first .now) (c .before .before .before .before .before .before .before .before .before .before .args .given .now) (c .before .before .before .before .before .before .before .before .before .before .args .n) (c .before .before .before .before .loop .i) (omega arith) (c .before .before .before .loop-test .taken), (c .before .before .before .before .loop .inv .1), (c .before .before .before .before .loop .inv .3), (c .before .before .before .before .before .before .before .before .before .before .pre .1 .1)))
+put-sel-requires c κs =
+    let start = c .before .before .before .before .before .before .before .before .before in
+    let given = start .args in
+    let loop = c .before .before .before .before .loop in
+    let more = c .before .before .before .loop-test .taken in (
+      (short-at (given .rows .now) (given .walk .now) (given .hits .now) (given .names .now) (given .n) (loop .i) (omega arith) more (start .pre .1 .0), omega arith),
+      omega (arith, next-length (given .rows .now) (given .walk .now) (given .hits .now) (given .names .now) (given .n) (loop .i) (omega arith) more, loop .inv .1, loop .inv .3, start .pre .1 .1),
+    )
 
 add-i : tie.Need-add-i Inv-loop μ-loop
 add-i c = search needs
@@ -39,22 +47,29 @@ loop-less : tie.Need-loop-less Inv-loop μ-loop
 loop-less c = search needs
 
 loop-again : tie.Need-loop-again Inv-loop μ-loop
-loop-again c = (
-  (c .before .before .before .before .before .before .before .before .before .loop .inv .0) ∙ lines-wrote _ _ (c .before .before .before .before .before .before .before .before .before .before .before .before .before .before .before .args .given .now) (c .before .before .before .before .before .before .before .before .before .before .before .before .before .before .before .args .n) (c .before .before .before .before .before .before .before .before .before .loop .i) (omega arith) (c .before .before .before .before .before .before .before .before .loop-test .taken) (c .before .before .before .before .put-sel .ensures),
-  omega (arith, (c .before .before .before .before .before .before .before .before .before .loop .inv .1), next-length (c .before .before .before .before .before .before .before .before .before .before .before .before .before .before .before .args .sels .now) (c .before .before .before .before .before .before .before .before .before .before .before .before .before .before .before .args .first .now) (c .before .before .before .before .before .before .before .before .before .before .before .before .before .before .before .args .given .now) (c .before .before .before .before .before .before .before .before .before .before .before .before .before .before .before .args .n) (c .before .before .before .before .before .before .before .before .before .loop .i) (omega arith) (c .before .before .before .before .before .before .before .before .loop-test .taken), (c .before .before .before .before .put-sel .ensures .past)),
-  omega arith,
-  wrote-length (c .before .before .before .before .put-sel .ensures) ∙ (c .before .before .before .before .before .before .before .before .before .loop .inv .3),
-  (c .before .before .before .before .put-sel .kept .1 .1 .1 .1 .1 .0) ∙ (c .before .before .before .before .before .before .before .before .before .loop .inv .4),
-)
+loop-again c =
+    let given = c .before .before .before .before .before .before .before .before .before .before .before .before .before .before .args in
+    let loop = c .before .before .before .before .before .before .before .before .before .loop in
+    let more = c .before .before .before .before .before .before .before .before .loop-test .taken in
+    let line = c .before .before .before .before .put-sel in (
+      loop .inv .0 ∙ lines-wrote (given .rows .now) (given .walk .now) (given .hits .now) (given .names .now) (given .n) (loop .i) (omega arith) more (line .ensures),
+      omega (arith, loop .inv .1, next-length (given .rows .now) (given .walk .now) (given .hits .now) (given .names .now) (given .n) (loop .i) (omega arith) more, line .ensures .past),
+      omega arith,
+      wrote-length (line .ensures) ∙ loop .inv .3,
+      line .kept .1 .1 .1 .1 .1 .1 .0 ∙ loop .inv .4,
+    )
 
 same-length : tie.Need-same-length Inv-loop μ-loop
-same-length c = (c .before .loop .inv .3)
+same-length c = c .before .loop .inv .3
 
 same-length-2 : tie.Need-same-length-2 Inv-loop μ-loop
-same-length-2 c = (c .before .loop .inv .4)
+same-length-2 c = c .before .loop .inv .4
 
 returns : tie.Need-returns Inv-loop μ-loop
-returns c = all-wrote _ _ (c .before .before .before .before .before .before .before .args .given .now) (c .before .before .before .before .before .before .before .args .n) (c .before .loop .i) (c .loop-test .left) _ _ _ _ (c .before .loop .inv .0) (c .before .loop .inv .1)
+returns c =
+    let given = c .before .before .before .before .before .before .args in
+    let loop = c .before .loop in
+    all-wrote (given .rows .now) (given .walk .now) (given .hits .now) (given .names .now) (given .n) (loop .i) (c .loop-test .left) _ _ _ _ (loop .inv .0) (loop .inv .1)
 
 pub put-lines-spec : {M : Type 1} → statement M
 put-lines-spec =

@@ -10,11 +10,12 @@ use Rattle.reply.proofs.set_lines.total_length.Statement.{statement}
 use Rattle.reply.proofs.set_lines.total_length.Tie as tie
 
 abbrev Inv-loop : tie.InvT-loop
-Inv-loop given n sels first numbers₀ total₀ i₀ numbers total i = (length (selLines sels first (take n given)) ≡ total + length (selLines sels first (drop i (take n given))))
-    × (total ≤ i * maxLine) × (i ≤ n) × (length numbers ≡ length numbers₀)
+Inv-loop rows walk hits names n numbers₀ total₀ i₀ numbers total i =
+    let lines = selLines rows walk hits in
+    (length (lines (take n names)) ≡ total + length (lines (drop i (take n names)))) × (total ≤ i * maxLine) × (i ≤ n) × (length numbers ≡ length numbers₀)
 
 abbrev μ-loop : tie.MeasureT-loop
-μ-loop given n sels first numbers₀ total₀ i₀ numbers total i = n - i
+μ-loop rows walk hits names n numbers₀ total₀ i₀ numbers total i = n - i
 
 loop-holds : tie.Need-loop-holds Inv-loop μ-loop
 loop-holds c = (omega arith, omega arith, omega arith, refl)
@@ -26,7 +27,11 @@ shared-slice-read-sel-length : tie.Need-shared-slice-read-sel-length Inv-loop μ
 shared-slice-read-sel-length c = search needs
 
 sel-length-requires : tie.Need-sel-length-requires Inv-loop μ-loop
-sel-length-requires c κs = (short-at _ (c .before .before .before .before .before .before .before .before .args .first .now) (c .before .before .before .before .before .before .before .before .args .given .now) (c .before .before .before .before .before .before .before .before .args .n) (c .before .before .before .loop .i) (omega arith) (c .before .before .loop-test .taken) (c .before .before .before .before .before .before .before .before .pre .1) .0, short-at _ (c .before .before .before .before .before .before .before .before .args .first .now) (c .before .before .before .before .before .before .before .before .args .given .now) (c .before .before .before .before .before .before .before .before .args .n) (c .before .before .before .loop .i) (omega arith) (c .before .before .loop-test .taken) (c .before .before .before .before .before .before .before .before .pre .1) .1, omega arith)
+sel-length-requires c κs =
+    let start = c .before .before .before .before .before .before .before in
+    let given = start .args in
+    let loop = c .before .before .before .loop in
+    (short-at (given .rows .now) (given .walk .now) (given .hits .now) (given .names .now) (given .n) (loop .i) (omega arith) (c .before .before .loop-test .taken) (start .pre .1), omega arith)
 
 add-total : tie.Need-add-total Inv-loop μ-loop
 add-total c = omega arith
@@ -38,13 +43,24 @@ loop-less : tie.Need-loop-less Inv-loop μ-loop
 loop-less c = search needs
 
 loop-again : tie.Need-loop-again Inv-loop μ-loop
-loop-again c = (omega (arith, (c .before .before .before .before .before .before .loop .inv .0), next-length (c .before .before .before .before .before .before .before .before .before .before .before .args .sels .now) (c .before .before .before .before .before .before .before .before .before .before .before .args .first .now) (c .before .before .before .before .before .before .before .before .before .before .before .args .given .now) (c .before .before .before .before .before .before .before .before .before .before .before .args .n) (c .before .before .before .before .before .before .loop .i) (omega arith) (c .before .before .before .before .before .loop-test .taken), (c .before .before .sel-length .ensures .0)), omega arith, omega arith, (c .before .before .sel-length .kept .1 .1 .1 .0) ∙ (c .before .before .before .before .before .before .loop .inv .3))
+loop-again c =
+    let given = c .before .before .before .before .before .before .before .before .before .before .args in
+    let loop = c .before .before .before .before .before .before .loop in
+    let line = c .before .before .sel-length in (
+      omega (arith, loop .inv .0, next-length (given .rows .now) (given .walk .now) (given .hits .now) (given .names .now) (given .n) (loop .i) (omega arith) (c .before .before .before .before .before .loop-test .taken), line .ensures .0),
+      omega arith,
+      omega arith,
+      line .kept .1 .1 .1 .1 .0 ∙ loop .inv .3,
+    )
 
 same-length : tie.Need-same-length Inv-loop μ-loop
 same-length c = search needs
 
 returns : tie.Need-returns Inv-loop μ-loop
-returns c = (omega (arith, (c .before .loop .inv .0), end-length (c .before .before .before .before .before .before .args .sels .now) (c .before .before .before .before .before .before .args .first .now) (c .before .before .before .before .before .before .args .given .now) (c .before .before .before .before .before .before .args .n) (c .before .loop .i) (c .loop-test .left)), omega arith)
+returns c =
+    let given = c .before .before .before .before .before .args in
+    let loop = c .before .loop in
+    (omega (arith, loop .inv .0, end-length (given .rows .now) (given .walk .now) (given .hits .now) (given .names .now) (given .n) (loop .i) (c .loop-test .left)), omega arith)
 
 pub total-length-spec : {M : Type 1} → statement M
 total-length-spec =

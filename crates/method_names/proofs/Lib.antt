@@ -1,4 +1,0 @@
-pub mod KeyMembers
-pub mod SortedParts
-pub mod SearchLaws
-pub mod GatherLaws

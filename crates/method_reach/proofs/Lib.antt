@@ -1,3 +1,0 @@
-pub mod OwnedLaws
-pub mod QueueLaws
-pub mod ReachLaws
