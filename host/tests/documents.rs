@@ -162,7 +162,8 @@ const FORMS: [&str; 12] = [
 #[test]
 fn the_manual_is_right_and_shows_every_answer_and_refusal() {
     let (mut words, mut forms) = (BTreeSet::new(), BTreeSet::new());
-    for example in run("docs/MANUAL.md", 25) {
+    let (manual, refusals) = (run("docs/MANUAL.md", 13), run("docs/REFUSALS.md", 12));
+    for example in manual.iter().chain(&refusals) {
         words.extend(typeask::words(example.output.as_bytes()));
         forms.extend(example.forms());
     }

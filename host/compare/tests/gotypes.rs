@@ -223,7 +223,7 @@ struct Difference {
     table: &'static str,
     question: &'static str,
     goscript: &'static str,
-    library: &'static str,
+    ours: &'static str,
     go: &'static str,
 }
 
@@ -233,14 +233,14 @@ const DIFFERENCES: [Difference; 4] = [
         table: "T basic 2\nT tuple\nT func 0 1 1\nT struct\nT named 3\nM X - 2 0\nT struct\nF X - 0 0\nF K - 4 1\n",
         question: "M 5",
         goscript: "set 1\nsel 0 0 1 0\n",
-        library: "set 0\n",
+        ours: "set 0\n",
         go: "set 0\n",
     },
     Difference {
         table: "T tuple\nT func 0 0 0\nT iface\nM X - 1 0\nT named 2\nT pointer 3\n",
         question: "M 4",
         goscript: "set 1\nsel 0 1 0\n",
-        library: "set 0\n",
+        ours: "set 0\n",
         go: "set 0\n",
     },
     // The Go spec's words alone would allow a second pointer to be removed; go/types does not.
@@ -248,14 +248,14 @@ const DIFFERENCES: [Difference; 4] = [
         table: "T basic 2\nT struct\nF X - 0 0\nT pointer 1\nT pointer 2\nT named 3\n",
         question: "S 4 0 - X",
         goscript: "notfound\n",
-        library: "notfound\n",
+        ours: "notfound\n",
         go: "notfound\n",
     },
     Difference {
         table: "T tuple\nT func 0 0 0\nT struct\nT named 2\nM X - 1 1\nT iface\nM X - 1 0\n",
         question: "N 3 4 0",
         goscript: "missing 1 0\n",
-        library: "missing 1 0\n",
+        ours: "missing 1 0\n",
         go: "missing 1 1\n",
     },
 ];
@@ -266,7 +266,7 @@ fn each_difference_at_its_smallest() {
         let tabbed = |text: &str| text.replace(' ', "\t");
         let table = tabbed("typetable 1\n") + &tabbed(d.table);
         for (engine, due) in [
-            (engine::library(), d.library),
+            (engine::library(), d.ours),
             (engine::goscript(), d.goscript),
         ] {
             let Some(mut engine) = engine else { continue };
