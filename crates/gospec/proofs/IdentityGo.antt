@@ -1,51 +1,38 @@
 -- IDENTITY IS GO'S: `identical` is false exactly for what the Go specification calls different, and true exactly for what it calls identical.
 use mathlib.Core.Path.{_≡_, refl, sym, ap, _∙_, subst}
-use mathlib.Core.Bool.{true, false, _&&_, Bool·beq}
-use mathlib.Core.List.{List, [], _∷_, append-nil}
+use mathlib.Core.Bool.{true, false}
+use mathlib.Core.List.{List, [], append-nil}
 use mathlib.Core.Logic.{_⊎_, inl, inr, _↔_}
-use Prim.Native.Nat.{ℕ, zero, suc}
-use native.Mathlib.Omega.{arith}
 use lib.Dec.{eqb}
-use lib.ListN.{length}
 use borrow.Author.Tests.{eqb-true, eqb-false, not-true, not-false}
 use Rattle.objects.specs.Lists.{In, Sorted}
 use Rattle.objects.specs.declared.TypeKey.{TypeKey}
 use Rattle.objects.specs.Table.{Table, dirNumber, bit, Entity, Field, Method, isEmbedded, tagOf, Member, Kind, Struct, Iface, kindNumber, membersOf, allMethodsOf, kindAt}
 use Rattle.objects.proofs.ListLaws.{cases, clash, either}
-use Rattle.objects.proofs.BoolLaws.{and-no, beq-self}
 use Rattle.objects.proofs.PairLaws.{AllPairs, pairs-map, pairs-self, pairs-long}
 use Rattle.objects.proofs.KeyLaws.{key-eq}
-use Rattle.text.specs.Bytes.{sameBytes}
-use Rattle.text.proofs.ByteLaws.{same-refl}
 use Rattle.rules.specs.Members.{identityOf, sameMember}
 use Rattle.rules.specs.Chains.{Chain, here, there}
-use Rattle.rules.specs.Identity.{ownNumber, parts, Pair, corresponding, alikeMember, alike, mismatched, mismatch, pairParts, identical}
+use Rattle.rules.specs.Identity.{ownNumber, parts, Pair, corresponding, alike, mismatched, mismatch, pairParts, identical}
 use Rattle.rules.specs.Load.{stands}
 use Rattle.rules.specs.Sound.{Sound, Lower}
 use Rattle.rules.proofs.MemberLaws.{sameId-true, sameId-eq, Alike, alike-join}
 use Rattle.rules.proofs.StepLaws.{matched}
 use Rattle.rules.proofs.AscendLaws.{SameIdentity, lacking-or, aligned}
 use Rattle.rules.proofs.IdentityLaws.{pair, identical-chain}
-use Rattle.gospec.specs.Go.{At, at-first, at-later, SameForm, basics, arrays, slices, pointers, maps, chans, tuples, funcs, structs, ifaces, nameds, Different, names, predeclared, forms, array-elements, array-lengths, slice-elements, struct-counts, struct-embedding, struct-names, struct-types, struct-tags, pointer-bases, func-parameters, func-results, func-variadic, tuple-counts, tuple-types, iface-lacks, iface-adds, iface-types, map-keys, map-elements, chan-elements, chan-directions, Identical}
+use Rattle.gospec.specs.Go.{SameForm, basics, arrays, slices, pointers, maps, chans, tuples, funcs, structs, ifaces, nameds, Different, names, predeclared, forms, array-elements, array-lengths, slice-elements, struct-counts, struct-embedding, struct-names, struct-types, struct-tags, pointer-bases, func-parameters, func-results, func-variadic, tuple-counts, tuple-types, iface-lacks, iface-adds, iface-types, map-keys, map-elements, chan-elements, chan-directions, Identical}
+use Rattle.gospec.specs.Fields.{FieldsDiffer, counts, embedded-marks, tags}
+use Rattle.gospec.specs.Fields as fields
 use Rattle.gospec.proofs.Forms.{form-number, number-form}
 use Rattle.gospec.proofs.Names.{names-differ, same-names}
 use Rattle.gospec.proofs.Places.{At-In, pairs-at, corr-at, members-at}
+use Rattle.gospec.proofs.FieldsGo.{fields-differ}
 use Rattle.gospec.proofs.DifferentLaws.{basic-real, different-false}
 
 -- a method is not embedded and has no tag
 plain : (e : Entity) (ms : List Member) → stands e (Iface ms) ≡ true → (isEmbedded e ≡ false) × (tagOf e ≡ [])
 plain (Field emb tag) ms h = clash h refl
 plain (Method ptr) ms h = (refl, refl)
-
--- equally many of which not all are alike: two at one place that are not
-unlike : (T : Table) (fs gs : List Member) → length fs ≡ length gs → alike T fs gs ≡ false → (i : ℕ) × (f : Member) × (g : Member) × At fs i f × At gs i g × (alikeMember T f g ≡ false)
-unlike T [] [] e h = clash refl h
-unlike T [] (g ∷ gs) e h = absurd (omega arith)
-unlike T (f ∷ fs) [] e h = absurd (omega arith)
-unlike T (f ∷ fs) (g ∷ gs) e h =
-    either (and-no (alikeMember T f g) (alike T fs gs) h)
-    (λ k. (zero, f, g, at-first, at-first, k))
-    (λ k. let r = unlike T fs gs (omega arith) k in (suc (r .0), r .1, r .2, at-later (r .3), at-later (r .4), r .5))
 
 module _ (T : Table) (s : Sound T) where
   ascending : (x : TypeKey) (ms : List Member) → kindAt T x ≡ Iface ms → Sorted (Lower T) ms
@@ -85,16 +72,11 @@ module _ (T : Table) (s : Sound T) where
   owns-differ x y k l p q (ifaces {ms = ms} {ns = ns}) h = either (iface-or x y ms ns p q) (λ d. d) (λ a. absurd (h (pairs-long (Alike T) ms ns a)))
   owns-differ x y k l p q nameds h = names p q (λ e. h (ap (λ (t : TypeKey). t .0) e))
 
-  fields-differ : (x y : TypeKey) (fs gs : List Member) → kindAt T x ≡ Struct fs → kindAt T y ≡ Struct gs → length fs ≡ length gs → alike T fs gs ≡ false → Different T x y
-  fields-differ x y fs gs p q e h =
-      let r = unlike T fs gs e h in
-      let f = r .1 in
-      let g = r .2 in
-      either (and-no (sameMember T f g && Bool·beq (isEmbedded (f .entity)) (isEmbedded (g .entity))) (sameBytes (tagOf (f .entity)) (tagOf (g .entity))) (r .5))
-      (λ z. either (and-no (sameMember T f g) (Bool·beq (isEmbedded (f .entity)) (isEmbedded (g .entity))) z)
-      (λ w. struct-names f g p q (r .3) (r .4) (names-differ T f g w))
-      (λ w. struct-embedding f g p q (r .3) (r .4) (λ b. clash (rw b (beq-self (isEmbedded (g .entity)))) w)))
-      (λ z. struct-tags f g p q (r .3) (r .4) (λ b. clash (rw b (same-refl (tagOf (g .entity)))) z))
+  struct-fields : (x y : TypeKey) (fs gs : List Member) → kindAt T x ≡ Struct fs → kindAt T y ≡ Struct gs → FieldsDiffer T fs gs → Different T x y
+  struct-fields x y fs gs p q (counts h) = struct-counts p q h
+  struct-fields x y fs gs p q (embedded-marks f g i j h) = struct-embedding f g p q i j h
+  struct-fields x y fs gs p q (fields.names f g i j h) = struct-names f g p q i j h
+  struct-fields x y fs gs p q (tags f g i j h) = struct-tags f g p q i j h
 
   members-differ : (x y : TypeKey) (k l : Kind) → kindAt T x ≡ k → kindAt T y ≡ l → SameForm k l → ownNumber x k ≡ ownNumber y l → alike T (membersOf k) (membersOf l) ≡ false → Different T x y
   unfolding ownNumber
@@ -106,7 +88,7 @@ module _ (T : Table) (s : Sound T) where
   members-differ x y k l p q chans e h = clash refl h
   members-differ x y k l p q tuples e h = clash refl h
   members-differ x y k l p q funcs e h = clash refl h
-  members-differ x y k l p q (structs {fs = fs} {gs = gs}) e h = fields-differ x y fs gs p q e h
+  members-differ x y k l p q (structs {fs = fs} {gs = gs}) e h = struct-fields x y fs gs p q (fields-differ T fs gs e h)
   members-differ x y k l p q (ifaces {ms = ms} {ns = ns}) e h = either (iface-or x y ms ns p q) (λ d. d) (λ a. clash (alike-join T ms ns a) h)
   members-differ x y k l p q (nameds {ms = ms} {ns = ns}) e h =
       let f : ms ≡ ns = ap membersOf (sym p ∙ ap (kindAt T) (key-eq x y e) ∙ q) in

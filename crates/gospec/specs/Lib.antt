@@ -1,4 +1,5 @@
 pub mod Go
+pub mod Fields
 pub mod GoSelectors
 pub mod Says
 pub mod GoImplements

@@ -13,14 +13,14 @@ use Rattle.objects.specs.Bounds.{workWords}
 use Rattle.objects.specs.Lists.{Bytes}
 use Rattle.objects.specs.declared.TypeKey.{TypeKey}
 use Rattle.objects.specs.declared.PackageKey.{PackageKey}
-use Rattle.objects.specs.Table.{Table, size, hasType, hasPackage, isIface, isNamed, kindAt, under}
+use Rattle.objects.specs.Table.{Table, size, hasType, hasPackage, Member, Struct, isIface, isNamed, kindAt, under}
 use Rattle.objects.proofs.ListLaws.{and-l, In-map, map-In-to, map-map}
 use Rattle.objects.proofs.KindLaws.{iface-is, under-plain}
 use Rattle.rules.specs.Members.{identityFrom, identityOf}
 use Rattle.rules.specs.Load.{load, loaded}
 use Rattle.rules.specs.Question.{Question, askS, askM, askN, askI, askC, inTable}
 use Rattle.rules.specs.Ways.{Selected, searchedAs, shortest, select}
-use Rattle.rules.specs.Identity.{identical}
+use Rattle.rules.specs.Identity.{mismatch, identical}
 use Rattle.rules.specs.Comparable.{comparable}
 use Rattle.rules.specs.Missing.{Lack, missing}
 use Rattle.rules.specs.MethodSet.{methodSet}
@@ -44,8 +44,10 @@ use Rattle.goscript.specs.Answer as returns
 use Rattle.goscript.proofs.DepartedGo.{go-in-goscript, goscript-beside-go}
 use Rattle.goscript.proofs.AnswersAre as goscript
 use Rattle.gospec.specs.Go.{Identical, Comparable}
+use Rattle.gospec.specs.Fields.{FieldsDiffer}
 use Rattle.gospec.specs.GoSelectors.{OneStar}
 use Rattle.gospec.specs.GoImplements.{Implements}
+use Rattle.gospec.proofs.FieldsGo.{structs-told-apart}
 use Rattle.gospec.proofs.Loaded as go
 use Rattle.growth.specs.Grown.{GrownTexts}
 use Rattle.growth.specs.Calls.{Lent, called, PutAgain, Said}
@@ -179,3 +181,11 @@ sets-by-levels = set-by-levels
 -- and is read off the kept walks
 pub kept-sets : (text : Bytes) (T : Table) → load text ≡ loaded T → (t : TypeKey) → t .0 < size T → setKept T t ≡ methodSet T t
 kept-sets text T h t in0 = walks.set-kept text T h t in0
+
+-- ---- document 02, point 3: names before types in a struct
+
+-- Structs whose fields differ in the count, the embedded marks, the names or the tags are exactly those that are told apart whatever the types of their fields
+-- are. Of such types the contract of `identical_impl` (crate typ, src/identical.rt) says `AtOnce`: the answer is no, and every mark and label is as it was,
+-- whatever comparison the two are a part of.
+pub names-before-types : (T : Table) (x y : TypeKey) (fs gs : List Member) → kindAt T x ≡ Struct fs → kindAt T y ≡ Struct gs → FieldsDiffer T fs gs ↔ (mismatch T (record { left = x; right = y }) ≡ true)
+names-before-types = structs-told-apart

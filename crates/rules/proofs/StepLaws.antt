@@ -8,7 +8,7 @@ use Prim.Native.Nat.{ℕ, zero, suc, _+_}
 use native.Mathlib.Omega.{arith}
 use lib.Dec.{eqb}
 use lib.ListN.{length, length-map}
-use borrow.Author.Tests.{eqb-true, eq-eqb}
+use borrow.Author.Tests.{eqb-true, eq-eqb, not-false}
 use Rattle.objects.specs.Lists.{In}
 use Rattle.objects.specs.declared.TypeKey.{TypeKey}
 use Rattle.objects.specs.Table.{Table, Kind, Basic, Array, Slice, Pointer, Map, Chan, Tuple, Func, Struct, Iface, Named, kindNumber, membersOf, kindAt}
@@ -187,11 +187,19 @@ abbrev pub Differ : Table → TypeKey → TypeKey → Type 0
 Differ T x y = Chain (pairParts T) (mismatch T) (record { left = x; right = y })
 
 module _ (T : Table) where
+  -- what is no mismatch has that in common, and back
+  pub match-common : (x y : TypeKey) → mismatch T (record { left = x; right = y }) ≡ false → Matched T x (kindAt T x) y (kindAt T y)
+  unfolding mismatch
+  match-common x y h = matched T x y (kindAt T x) (kindAt T y) (not-false _ h)
+
+  pub common-match : (x y : TypeKey) → Matched T x (kindAt T x) y (kindAt T y) → mismatch T (record { left = x; right = y }) ≡ false
+  unfolding mismatch
+  common-match x y m =
+      rw (eq-eqb (kindNumber (kindAt T x)) (kindNumber (kindAt T y)) (m .0), eq-eqb (ownNumber x (kindAt T x)) (ownNumber y (kindAt T y)) (m .1), alike-join T (membersOf (kindAt T x)) (membersOf (kindAt T y)) (m .2))
+
   -- a mismatch is what no step survives
   pub agree-match : (R : TypeKey → TypeKey → Bool) (x y : TypeKey) → Agree T R x y → mismatch T (record { left = x; right = y }) ≡ false
-  unfolding mismatch
-  agree-match R x y a =
-      rw (eq-eqb (kindNumber (kindAt T x)) (kindNumber (kindAt T y)) (a .kinds), eq-eqb (ownNumber x (kindAt T x)) (ownNumber y (kindAt T y)) (a .owns), alike-join T (membersOf (kindAt T x)) (membersOf (kindAt T y)) (a .members))
+  agree-match R x y a = common-match x y (a .kinds, a .owns, a .members)
 
   -- a chain that reaches a mismatch is seen at some number of steps
   pub chain-false : (p : Pair) → Chain (pairParts T) (mismatch T) p → (n : ℕ) × (sameIn T n (p .left) (p .right) ≡ false)

@@ -32,8 +32,8 @@ module _ (text : Bytes) (rows : Words) (lib : Library text rows) where
     parts-within x y k = (
       omega arith,
       λ i hi. within (partAt rows x i) (partAt rows y i)
-          (part-inside text rows lib x (left-in text rows lib x y k) i hi)
-          (part-inside text rows lib y (right-in text rows lib x y k) i (right-part text rows lib x y k i (partCount rows x) refl hi)) .1,
+          (part-inside text rows lib x (left-in text rows x y k) i hi)
+          (part-inside text rows lib y (right-in text rows x y k) i (right-part text rows x y k i (partCount rows x) refl hi)) .1,
     )
 
   -- a type that is neither an interface nor named has as many levels below it as its number says, and its parts one less, or they have none
@@ -48,13 +48,13 @@ module _ (text : Bytes) (rows : Words) (lib : Library text rows) where
   -- two types that are not one, and no interfaces: the greater number is not 0, so that there is a level left
   pub next-within : (x y : TypeKey) (k : Kin (tableOf text rows) x y) → x .0 ≢ y .0 → numberRead rows x ≢ 9 → (level : ℕ) → Within rows x y level → (level + 1 < deepest) × PartsWithin rows x y (level + 1)
   unfolding PartsWithin
-  next-within x y k apart n level w = (omega (arith, left, right), λ i hi. (fits-part x hx n level left i hi, fits-part y hy n′ level right i (right-part text rows lib x y k i (partCount rows x) refl hi)))
+  next-within x y k apart n level w = (omega (arith, left, right), λ i hi. (fits-part x hx n level left i hi, fits-part y hy n′ level right i (right-part text rows x y k i (partCount rows x) refl hi)))
     where
       hx : x .0 < typeCount rows
-      hx = left-in text rows lib x y k
+      hx = left-in text rows x y k
 
       hy : y .0 < typeCount rows
-      hy = right-in text rows lib x y k
+      hy = right-in text rows x y k
 
       kinds : numberRead rows x ≡ numberRead rows y
       kinds = sym (number-read text rows x hx) ∙ k .kinds ∙ number-read text rows y hy

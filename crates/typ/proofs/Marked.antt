@@ -16,7 +16,7 @@ use Rattle.objects.proofs.ListLaws.{cases, clash, either}
 use Rattle.objects.proofs.KeyLaws.{key-eq}
 use Rattle.rules.specs.StepIdentity.{sameIn}
 use Rattle.rules.proofs.StepLaws.{same-less, same-self}
-use Rattle.type_parts.specs.Parts.{Kin}
+use Rattle.type_parts.specs.Parts.{Peers}
 use Rattle.typ.specs.Marks.{met, meet}
 use Rattle.typ.specs.Compared.{pair, opened, Apart, Well, AllMet, NewMet, Leads, Grown, Compared, PartsCompared}
 use Rattle.typ.proofs.Bits.{met-same, met-other, unmet-falls}
@@ -102,7 +102,7 @@ module _ (T : Table) where
       differ-if = λ _. d;
     }
 
-  -- ---- types of one kind and one own number
+  -- ---- types that nothing but their parts tells apart
 
   pub went-parts : (x y : TypeKey) (l l′ : List ℕ) (r : Bool) → PartsCompared T l l′ x y r → Compared T l l′ x y r
   went-parts x y l l′ r w = record {
@@ -113,7 +113,7 @@ module _ (T : Table) where
     differ-if = w .differ-if;
   }
 
-  module _ (x y : TypeKey) (k : Kin T x y) (few : size T ≤ maxTypes) (l : List ℕ) (hl : markWords ≤ length l) (u : met l (pair x y) ≡ false) where
+  module _ (x y : TypeKey) (k : Peers T x y) (few : size T ≤ maxTypes) (l : List ℕ) (hl : markWords ≤ length l) (u : met l (pair x y) ≡ false) where
     hx : x .0 < maxTypes
     hx = omega (arith, k .left, few)
 

@@ -2,19 +2,17 @@
 use mathlib.Core.Path.{_≡_, refl}
 use mathlib.Core.Bool.{Bool, true, false, not}
 use mathlib.Core.List.{List}
-use Prim.Native.Nat.{ℕ, zero, suc, _+_, _<_, _≤_}
+use Prim.Native.Nat.{ℕ, suc, _+_, _<_, _≤_}
 use native.Mathlib.Omega.{arith}
 use borrow.Author.Count.{below-more}
 use borrow.Author.Tests.{not-true, not-false}
 use Rattle.objects.specs.declared.TypeKey.{TypeKey}
 use Rattle.objects.specs.Lists.{Bytes}
-use Rattle.objects.specs.Table.{kindNumber, kindAt}
-use Rattle.objects.specs.Rows.{Words, typeCount, tableOf}
+use Rattle.objects.specs.Rows.{Words, tableOf}
 use Rattle.objects.proofs.ListLaws.{clash}
 use Rattle.objects.proofs.BoolLaws.{false-of}
-use Rattle.rules.specs.Identity.{ownNumber}
 use Rattle.rules.specs.StepIdentity.{sameIn}
-use Rattle.type_parts.specs.Parts.{partCount, partAt, alikeAt}
+use Rattle.type_parts.specs.Parts.{partCount, partAt, Peers}
 use Rattle.type_parts.proofs.StepAt.{PartSame, step-join, step-split}
 use Rattle.typ.specs.Compared.{Apart, Well, AllMet, NewMet, Leads, Grown, Compared, PartsCompared}
 use Rattle.typ.proofs.Marked.{grown-refl, grown-trans, all-less, new-none, new-more, leads-none, leads-more, leads-on}
@@ -34,38 +32,20 @@ module _ (text : Bytes) (rows : Words) where
     same-if = λ n a. (λ j h. absurd (omega arith), new-none (tableOf text rows) n l);
   }
 
-  module _ (x y : TypeKey) (hx : x .0 < typeCount rows) (hy : y .0 < typeCount rows)
-      (kinds : kindNumber (kindAt (tableOf text rows) x) ≡ kindNumber (kindAt (tableOf text rows) y))
-      (owns : ownNumber x (kindAt (tableOf text rows) x) ≡ ownNumber y (kindAt (tableOf text rows) y)) where
+  module _ (x y : TypeKey) (peers : Peers (tableOf text rows) x y) where
     pub at-end : (l r : List ℕ) (i n : ℕ) → Passed l r x y i → n ≡ partCount rows x → i ≤ n → n ≤ i → PartsCompared (tableOf text rows) l r x y true
     at-end l r i n p e h k = record {
       grown = p .grown;
       well = p .well;
       leads = p .leads;
-      same-if = λ _ m a. let q = p .same-if m a in (step-join text rows x y hx hy kinds owns m (λ j lt. q .0 j (omega arith)), q .1);
+      same-if = λ _ m a. let q = p .same-if m a in (step-join text rows x y peers m (λ j lt. q .0 j (omega arith)), q .1);
       differ-if = λ q. clash refl q;
     }
 
     module _ (i n : ℕ) (e : n ≡ partCount rows x) (h : i < n) where
-      in-parts : i < partCount rows x
-      in-parts = omega arith
-
       -- what makes the i-th parts differ makes x and y differ
       part-apart : Apart (tableOf text rows) (partAt rows x i) (partAt rows y i) → Apart (tableOf text rows) x y
-      part-apart d = (suc (d .0), false-of (sameIn (tableOf text rows) (suc (d .0)) x y) (λ q. clash (step-split text rows x y hx hy kinds owns (d .0) q i in-parts .1) (d .1)))
-
-      -- the members at place i are not called alike
-      pub at-name : (l m : List ℕ) (b : Bool) → Passed l m x y i → b ≡ alikeAt text rows x y i → not b ≡ true → PartsCompared (tableOf text rows) l m x y false
-      at-name l m b p f z = record {
-        grown = p .grown;
-        well = p .well;
-        leads = p .leads;
-        same-if = λ q. clash q refl;
-        differ-if = λ _. (suc zero, false-of (sameIn (tableOf text rows) (suc zero) x y) (λ q. clash (step-split text rows x y hx hy kinds owns zero q i in-parts .0) (differs f (not-true b z))));
-      }
-        where
-          differs : b ≡ alikeAt text rows x y i → b ≡ false → alikeAt text rows x y i ≡ false
-          differs f g = rw (← f) g
+      part-apart d = (suc (d .0), false-of (sameIn (tableOf text rows) (suc (d .0)) x y) (λ q. clash (step-split text rows x y peers (d .0) q i (omega arith)) (d .1)))
 
       -- the parts at place i were compared
       module _ (l m r : List ℕ) (p q : TypeKey) (b : Bool) (g : Passed l m x y i) (left : p ≡ partAt rows x i) (right : q ≡ partAt rows y i) (w : Compared (tableOf text rows) m r p q b) where
@@ -84,16 +64,13 @@ module _ (text : Bytes) (rows : Words) where
           differ-if = λ _. part-apart (went .differ-if (not-true b z));
         }
 
-        pub at-same : (a : Bool) → a ≡ alikeAt text rows x y i → not a ≡ false → not b ≡ false → Passed l r x y (i + 1)
-        at-same a f z d = record {
+        pub at-same : not b ≡ false → Passed l r x y (i + 1)
+        at-same d = record {
           grown = grown-trans (g .grown) (w .grown);
           well = w .well;
           leads = leads-part;
           same-if = λ k o.
               let before = g .same-if k (all-less (tableOf text rows) k m r (w .grown) o) in
               let now = went .same-if (not-false b d) k o in
-              (below-more (PartSame text rows k x y) i (before .0) (alike f (not-false a z), now .0), new-more (tableOf text rows) k l m r (before .1) (now .1));
+              (below-more (PartSame text rows k x y) i (before .0) (now .0), new-more (tableOf text rows) k l m r (before .1) (now .1));
         }
-          where
-            alike : a ≡ alikeAt text rows x y i → a ≡ true → alikeAt text rows x y i ≡ true
-            alike f g = rw (← f) g

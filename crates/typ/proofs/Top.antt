@@ -20,7 +20,7 @@ use Rattle.rules.specs.StepIdentity.{sameIn}
 use Rattle.rules.specs.Sound.{Sound}
 use Rattle.rules.proofs.StepLaws.{same-zero}
 use Rattle.rules.proofs.IdentityLaws.{identical-steps, identical-self}
-use Rattle.type_parts.specs.Parts.{Kin}
+use Rattle.type_parts.specs.Parts.{Peers}
 use Rattle.typ.specs.Marks.{met, meet, unmet}
 use Rattle.typ.specs.Compared.{pairs, pairWords, pair, opened, Clean, WordClean, AllClean, Grown, Apart, Well, AllMet, NewMet, Leads, Compared, PartsCompared, State, Turn}
 use Rattle.typ.proofs.Bits.{met-other, unmet-falls}
@@ -62,7 +62,7 @@ module _ (T : Table) (x y : TypeKey) where
       is-met : met l (pair (first p) (second p)) ≡ true
       is-met = ap (met l) (number p) ∙ sym e ∙ not-false r h
 
-      pub known : Kin T (first p) (second p)
+      pub known : Peers T (first p) (second p)
       unfolding Well
       known = s .well (first p) (second p) (omega arith) (omega arith) is-met
 

@@ -10,8 +10,9 @@ use lib.ListN.{length}
 use Rattle.objects.specs.declared.TypeKey.{TypeKey}
 use Rattle.objects.specs.Bounds.{maxTypes}
 use Rattle.objects.specs.Table.{Table}
+use Rattle.rules.specs.Identity.{mismatch}
 use Rattle.rules.specs.StepIdentity.{sameIn}
-use Rattle.type_parts.specs.Parts.{Kin}
+use Rattle.type_parts.specs.Parts.{pairOf, Peers}
 use Rattle.typ.specs.Marks.{met, meet, unmet}
 use Rattle.typ.specs.Classes.{OneClass, Joined}
 
@@ -35,16 +36,15 @@ pub record Grown (l l′ : List ℕ) : Type 0 where
   pub fewer : unmet l′ ≤ unmet l
   pub kept : (p : ℕ) → met l p ≡ true → met l′ p ≡ true
 
--- whether the pair numbered p is opened now: it counts as identical where it was met before, and where it is put off
+-- the pair numbered p, which was not met, is met now, and opened or put off
 pub record Entered (l l′ : List ℕ) (p : ℕ) (r : Bool) : Type 0 where
-  pub passed : r ≡ false → ((met l p ≡ true) × (l′ ≡ l)) ⊎ ((met l p ≡ false) × (l′ ≡ meet l p))
-  pub entered : r ≡ true → (met l p ≡ false) × (met (meet l p) (pairs + p) ≡ false) × (l′ ≡ meet (meet l p) (pairs + p))
+  pub passed : r ≡ false → l′ ≡ meet l p
+  pub entered : r ≡ true → (met (meet l p) (pairs + p) ≡ false) × (l′ ≡ meet (meet l p) (pairs + p))
 
--- the same of the pair of x and y, with the labels c before and c′ after: it counts as identical also where the two are of one class, and they are joined
--- only if their pair is met
+-- the same of the pair of x and y, with the labels c before and c′ after: the two may be joined
 pub record PairEntered (l l′ c c′ : List ℕ) (x y : TypeKey) (r : Bool) : Type 0 where
-  pub marked : (OneClass c x y × (r ≡ false) × (l′ ≡ l)) ⊎ Entered l l′ (pair x y) r
-  pub linked : (c′ ≡ c) ⊎ (Joined c c′ x y × (met l′ (pair x y) ≡ true))
+  pub marked : Entered l l′ (pair x y) r
+  pub linked : (c′ ≡ c) ⊎ Joined c c′ x y
 
 -- the pair numbered p is not put off
 unfoldable pub Clean : List ℕ → ℕ → Type 0
@@ -62,9 +62,9 @@ module _ (T : Table) where
   abbrev pub Apart : TypeKey → TypeKey → Type 0
   Apart x y = (n : ℕ) × (sameIn T n x y ≡ false)
 
-  -- every pair met is one of kin
+  -- every pair met is one that only its parts can tell apart
   unfoldable pub Well : List ℕ → Type 0
-  Well l = (a b : TypeKey) → a .0 < maxTypes → b .0 < maxTypes → met l (pair a b) ≡ true → Kin T a b
+  Well l = (a b : TypeKey) → a .0 < maxTypes → b .0 < maxTypes → met l (pair a b) ≡ true → Peers T a b
 
   -- every pair met agrees for n steps
   unfoldable pub AllMet : ℕ → List ℕ → Type 0
@@ -97,6 +97,12 @@ module _ (T : Table) where
 
   abbrev pub PartsCompared : List ℕ → List ℕ → TypeKey → TypeKey → Bool → Type 0
   PartsCompared = Went suc
+
+  -- Document 02, point 3: "comparing two structs that differ in any of these marks no pair of interfaces". Types that are told apart whatever their parts are,
+  -- as two structs are by the count, the embedded marks, the names and the tags of their fields, are told apart with the marks l and the labels c as they were:
+  -- no pair is met, put off, opened or joined.
+  unfoldable pub AtOnce : List ℕ → List ℕ → List ℕ → List ℕ → TypeKey → TypeKey → Bool → Type 0
+  AtOnce l l′ c c′ x y r = mismatch T (pairOf x y) ≡ true → (r ≡ false) × (l′ ≡ l) × (c′ ≡ c)
 
   -- what is known while pairs that were put off are opened
   pub record State (l : List ℕ) (x y : TypeKey) : Type 0 where

@@ -3,17 +3,18 @@
 // since identity is symmetric and transitive.
 ghost use mathlib.Core.Path.{_≡_};
 ghost use mathlib.Core.Bool.{true, false};
+ghost use mathlib.Core.Logic.{_⊎_};
 ghost use Prim.Native.Nat.{ℕ, _+_, _<_, _≤_};
 ghost use lib.ListN.{length, replicate};
 ghost use Rattle.objects.specs.Bounds.{maxTypes, markWords};
 ghost use Rattle.objects.specs.Rows.{typeCount, tableOf};
-ghost use Rattle.objects.specs.Types.{numberRead};
 ghost use Rattle.rules.specs.Library.{Library};
 ghost use Rattle.rules.specs.Identity.{identical};
-ghost use Rattle.type_parts.specs.Parts.{ownRead, Kin};
+ghost use Rattle.type_parts.specs.Parts.{sameNumbers, Peers};
 ghost use Rattle.typ.specs.Marks.{met};
+ghost use Rattle.typ.specs.Classes.{OneClass};
 ghost use Rattle.typ.specs.Depth.{openLevels, deepest, Within, PartsWithin};
-ghost use Rattle.typ.specs.Compared.{pairs, Entered, PairEntered, Well, Follows, Compared, PartsCompared};
+ghost use Rattle.typ.specs.Compared.{pairs, pair, Entered, PairEntered, Well, Follows, Compared, PartsCompared, AtOnce};
 use crate::classes::join;
 use crate::classes::number;
 use crate::marks::clear;
@@ -25,10 +26,8 @@ use objects::TypeKey;
 use objects::rows::first_member;
 use objects::rows::kind_number;
 use objects::rows::type_word;
-use type_parts::parts::alike_at;
-use type_parts::parts::alike_in;
-use type_parts::parts::nameless;
-use type_parts::parts::own_number;
+use type_parts::parts::kin;
+use type_parts::parts::mismatch;
 use type_parts::parts::part_at;
 use type_parts::parts::part_count;
 use type_parts::parts::part_in;
@@ -42,25 +41,39 @@ pub const PAIRS: usize = 65_536;
 // what they end in: 506 levels at most, for each call requires `level < deepest` (specs/Depth.antt). docs/ENTRY.md has what stack they take.
 const DEEP: usize = 250;
 
-// Kinds of several parts: map, tuple, func, struct and iface.
-fn several(kind: u32) -> bool
-    ensures { λ r. ⌜ (r ≡ false → kind ≡ 9 → ⊥) ⌝ }
+// The level that decides whether a pair of this kind is put off. Map, tuple, func, struct and iface have several parts; pairs of the other kinds never are, for
+// their numbers fall.
+fn deferral(kind: u32, level: usize) -> usize
+    ensures { λ r. ⌜ (r ≡ level) ⊎ (kind ≡ 9 → ⊥) ⌝ }
 {
     if kind == 4 {
-        return true;
+        return level;
     }
-    5 < kind
+    if 5 < kind {
+        return level;
+    }
+    0
 }
 
-// Whether the pair numbered p is opened now. It is not if it was met before; and below DEEP levels it is put off: met, and not opened.
+// The pair of x and y was met, or follows from pairs that were.
+fn known(marks: &[u32], labels: &[u32], x: TypeKey, y: TypeKey) -> bool
+    requires { ⌜ (x .0 < maxTypes) × (y .0 < maxTypes) ⌝ }
+    requires { ⌜ (markWords ≤ length (now marks)) × (maxTypes ≤ length (now labels)) ⌝ }
+    ensures { λ r. ⌜ (r ≡ true → OneClass (now (labels .entry)) x y ⊎ (met (now (marks .entry)) (pair x y) ≡ true)) ⌝ }
+    ensures { λ r. ⌜ (r ≡ false → met (now (marks .entry)) (pair x y) ≡ false) ⌝ }
+{
+    if labels[x.0 as usize] == labels[y.0 as usize] {
+        return true;
+    }
+    is_met(marks, TYPES * (x.0 as usize) + y.0 as usize)
+}
+
+// The pair numbered p is met. Whether it is opened now: below DEEP levels it is put off.
 fn enter(marks: &mut [u32], p: usize, level: usize) -> bool
-    requires { ⌜ (p < pairs) × (markWords ≤ length (now marks)) ⌝ }
+    requires { ⌜ (p < pairs) × (markWords ≤ length (now marks)) × (met (now marks) p ≡ false) ⌝ }
     ensures { λ r. ⌜ Entered (now (marks .entry)) (now (marks .exit)) p r ⌝ }
     ensures { λ r. ⌜ (r ≡ true → level < openLevels) ⌝ }
 {
-    if is_met(marks, p) {
-        return false;
-    }
     set_met(marks, p);
     if DEEP <= level {
         return false;
@@ -72,8 +85,8 @@ fn enter(marks: &mut [u32], p: usize, level: usize) -> bool
     true
 }
 
-// Whether the pair of x and y, of kind k, is opened now. It is not if they are of one class. Each pair of interfaces that is met joins two classes, so that
-// there are at most 255 of them; no other types are joined, for a join goes over all labels.
+// The pair of x and y, of kind k, is met. Whether it is opened now. Each pair of interfaces that is met joins two classes, so that there are at most 255 of
+// them; no other types are joined, for a join goes over all labels.
 fn enter_pair(
     marks: &mut [u32],
     labels: &mut [u32],
@@ -82,14 +95,11 @@ fn enter_pair(
     y: TypeKey,
     level: usize,
 ) -> bool
-    requires { ⌜ (x .0 < maxTypes) × (y .0 < maxTypes) ⌝ }
+    requires { ⌜ (x .0 < maxTypes) × (y .0 < maxTypes) × (met (now marks) (pair x y) ≡ false) ⌝ }
     requires { ⌜ (markWords ≤ length (now marks)) × (maxTypes ≤ length (now labels)) ⌝ }
     ensures { λ r. ⌜ PairEntered (now (marks .entry)) (now (marks .exit)) (now (labels .entry)) (now (labels .exit)) x y r ⌝ }
     ensures { λ r. ⌜ (r ≡ true → level < openLevels) ⌝ }
 {
-    if labels[x.0 as usize] == labels[y.0 as usize] {
-        return false;
-    }
     let opened = enter(marks, TYPES * (x.0 as usize) + y.0 as usize, level);
     if k == 9 {
         join(labels, x, y);
@@ -97,9 +107,9 @@ fn enter_pair(
     opened
 }
 
-// Types x and y are compared, below `level` calls of this function. Interfaces lie on cycles, so that a pair of them must be marked; every other pair of
-// several parts is marked too, for it would be compared twice as often at each level otherwise.
-fn identical_impl(
+// Types x and y are compared, below `level` calls of this function. Whatever else tells them apart is looked at before the pair is met and before their parts
+// are (`AtOnce`). Interfaces lie on cycles, so that a pair of them must be met once and no more; every other pair is too, since it may come up many times.
+pub fn identical_impl(
     text: &[u8],
     rows: &[u32],
     marks: &mut [u32],
@@ -115,28 +125,27 @@ fn identical_impl(
     requires { ⌜ (level < deepest) × Within (now rows) x y level ⌝ }
     ensures { λ r. ⌜ Compared (tableOf (now (text .entry)) (now (rows .entry))) (now (marks .entry)) (now (marks .exit)) x y r ⌝ }
     ensures { λ _. ⌜ Follows (tableOf (now (text .entry)) (now (rows .entry))) (now (marks .exit)) (now (labels .exit)) ⌝ }
+    ensures { λ r. ⌜ AtOnce (tableOf (now (text .entry)) (now (rows .entry))) (now (marks .entry)) (now (marks .exit)) (now (labels .entry)) (now (labels .exit)) x y r ⌝ }
 {
     if x.0 == y.0 {
         return true;
     }
+    if known(marks, labels, x, y) {
+        return true;
+    }
+    let told_apart = mismatch(text, rows, x, y);
+    if told_apart {
+        return false;
+    }
     let k = kind_number(rows, x);
-    if k != kind_number(rows, y) {
-        return false;
+    let at = deferral(k, level);
+    if !enter_pair(marks, labels, k, x, y, at) {
+        return true;
     }
-    if own_number(rows, x) != own_number(rows, y) {
-        return false;
-    }
-    let next = level + 1;
-    if several(k) {
-        if !enter_pair(marks, labels, k, x, y, level) {
-            return true;
-        }
-        return identical_impl_o(text, rows, marks, labels, x, y, next);
-    }
-    identical_impl_o(text, rows, marks, labels, x, y, next)
+    identical_impl_o(text, rows, marks, labels, x, y, level + 1)
 }
 
-// The parts of x and y, which have one kind and one own number, are compared in turn, below `level` calls of `identical_impl`.
+// The parts of x and y, which nothing else tells apart, are compared in turn, below `level` calls of `identical_impl`.
 pub fn identical_impl_o(
     text: &[u8],
     rows: &[u32],
@@ -147,7 +156,7 @@ pub fn identical_impl_o(
     level: usize,
 ) -> bool
     requires { ⌜ Library (now text) (now rows) ⌝ }
-    requires { ⌜ Kin (tableOf (now text) (now rows)) x y × (markWords ≤ length (now marks)) ⌝ }
+    requires { ⌜ Peers (tableOf (now text) (now rows)) x y × (markWords ≤ length (now marks)) ⌝ }
     requires { ⌜ Well (tableOf (now text) (now rows)) (now marks) ⌝ }
     requires { ⌜ Follows (tableOf (now text) (now rows)) (now marks) (now labels) ⌝ }
     requires { ⌜ (level < deepest) × PartsWithin (now rows) x y level ⌝ }
@@ -155,16 +164,12 @@ pub fn identical_impl_o(
     ensures { λ _. ⌜ Follows (tableOf (now (text .entry)) (now (rows .entry))) (now (marks .exit)) (now (labels .exit)) ⌝ }
 {
     let n = part_count(rows, x);
-    let plain = nameless(rows, x);
     let j = type_word(rows, x, 0);
     let k = type_word(rows, y, 0);
     let first = first_member(rows, x);
     let second = first_member(rows, y);
     let mut i: u32 = 0;
     while i < n {
-        if !alike_in(text, rows, x, y, i, plain) {
-            return false;
-        }
         let p = part_in(rows, x, j, first, i);
         let q = part_in(rows, y, k, second, i);
         if !identical_impl(text, rows, marks, labels, p, q, level) {
@@ -177,35 +182,24 @@ pub fn identical_impl_o(
 
 // Types p and q differ by kind or own number, whatever their parts are.
 fn unlike(rows: &[u32], p: TypeKey, q: TypeKey) -> bool
-    ensures { λ r. ⌜ (r ≡ true → numberRead (now (rows .entry)) p ≡ numberRead (now (rows .entry)) q → ownRead (now (rows .entry)) p ≡ ownRead (now (rows .entry)) q → ⊥) ⌝ }
+    ensures { λ r. ⌜ (r ≡ true → sameNumbers (now (rows .entry)) p q ≡ false) ⌝ }
 {
     if p.0 == q.0 {
         return false;
     }
-    let k = kind_number(rows, p);
-    let l = kind_number(rows, q);
-    if k != l {
-        return true;
-    }
-    let a = own_number(rows, p);
-    let b = own_number(rows, q);
-    a != b
+    !kin(rows, p, q)
 }
 
-// Types x and y, of one kind and one own number, are told apart by members that are not called alike or by parts that are unlike. This looks one level deep
-// and takes no marks, so that none need be cleared.
+// Types x and y, which nothing but their parts tells apart, have parts that are unlike. This looks one level deep and takes no marks, so that none need be
+// cleared.
 fn apart(text: &[u8], rows: &[u32], x: TypeKey, y: TypeKey) -> bool
     requires { ⌜ Library (now text) (now rows) ⌝ }
-    requires { ⌜ Kin (tableOf (now text) (now rows)) x y ⌝ }
+    requires { ⌜ Peers (tableOf (now text) (now rows)) x y ⌝ }
     ensures { λ r. ⌜ (r ≡ true → identical (tableOf (now (text .entry)) (now (rows .entry))) x y ≡ false) ⌝ }
 {
     let n = part_count(rows, x);
     let mut i: u32 = 0;
     while i < n {
-        let named_alike = alike_at(text, rows, x, y, i);
-        if !named_alike {
-            return true;
-        }
         let p = part_at(rows, x, i);
         let q = part_at(rows, y, i);
         if unlike(rows, p, q) {
@@ -226,12 +220,12 @@ fn decide_by(
     y: TypeKey,
 ) -> bool
     requires { ⌜ Library (now text) (now rows) ⌝ }
-    requires { ⌜ (x .0 < typeCount (now rows)) × (y .0 < typeCount (now rows)) × (markWords ≤ length (now marks)) ⌝ }
+    requires { ⌜ Peers (tableOf (now text) (now rows)) x y × (markWords ≤ length (now marks)) ⌝ }
     requires { ⌜ ((p : ℕ) → met (now marks) p ≡ false) ⌝ }
     requires { ⌜ Follows (tableOf (now text) (now rows)) (now marks) (now labels) ⌝ }
     ensures { λ r. ⌜ r ≡ identical (tableOf (now (text .entry)) (now (rows .entry))) x y ⌝ }
 {
-    if !identical_impl(text, rows, marks, labels, x, y, 0) {
+    if !identical_impl_o(text, rows, marks, labels, x, y, 0) {
         return false;
     }
     while !settled(marks) {
@@ -246,7 +240,7 @@ fn decide_by(
 // The same, where every type begins as a class of its own.
 fn decide(text: &[u8], rows: &[u32], marks: &mut [u32], x: TypeKey, y: TypeKey) -> bool
     requires { ⌜ Library (now text) (now rows) ⌝ }
-    requires { ⌜ (x .0 < typeCount (now rows)) × (y .0 < typeCount (now rows)) × (markWords ≤ length (now marks)) ⌝ }
+    requires { ⌜ Peers (tableOf (now text) (now rows)) x y × (markWords ≤ length (now marks)) ⌝ }
     requires { ⌜ ((p : ℕ) → met (now marks) p ≡ false) ⌝ }
     ensures { λ r. ⌜ r ≡ identical (tableOf (now (text .entry)) (now (rows .entry))) x y ⌝ }
 {
@@ -255,8 +249,8 @@ fn decide(text: &[u8], rows: &[u32], marks: &mut [u32], x: TypeKey, y: TypeKey) 
     decide_by(text, rows, marks, &mut labels, x, y)
 }
 
-// Types x and y are identical. The marks are 0 before and after. Types that differ at once or by their parts at once, and one type with itself, leave them
-// alone; so does a named type, whose own number is its alone.
+// Types x and y are identical. The marks are 0 before and after. Types that are told apart whatever their parts are or by their parts at once, and one type
+// with itself, leave them alone; so does a named type, whose own number is its alone.
 pub fn identical(text: &[u8], rows: &[u32], marks: &mut [u32], x: TypeKey, y: TypeKey) -> bool
     requires { ⌜ Library (now text) (now rows) ⌝ }
     requires { ⌜ (x .0 < typeCount (now rows)) × (y .0 < typeCount (now rows)) × (markWords ≤ length (now marks)) ⌝ }
@@ -267,10 +261,7 @@ pub fn identical(text: &[u8], rows: &[u32], marks: &mut [u32], x: TypeKey, y: Ty
     if x.0 == y.0 {
         return true;
     }
-    if kind_number(rows, x) != kind_number(rows, y) {
-        return false;
-    }
-    if own_number(rows, x) != own_number(rows, y) {
+    if mismatch(text, rows, x, y) {
         return false;
     }
     if apart(text, rows, x, y) {

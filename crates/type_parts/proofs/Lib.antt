@@ -4,3 +4,4 @@ pub mod StepAt
 pub mod MemberRead
 pub mod Rank
 pub mod KinLaws
+pub mod MatchLaws

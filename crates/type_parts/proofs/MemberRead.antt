@@ -1,12 +1,11 @@
 -- What is read off a member's row is what the rules say of it: its tag, and whether two members are called alike.
 use mathlib.Core.Path.{_≡_, refl, sym, ap, _∙_}
 use mathlib.Core.Bool.{Bool, true, false, cond, not, _&&_, Bool·beq}
-use mathlib.Core.Option.{none}
 use Prim.Native.Nat.{ℕ, _+_, _-_, _<_, _≤_}
 use native.Mathlib.Omega.{arith}
 use lib.Dec.{ltb}
 use lib.ListN.{take, drop}
-use borrow.Author.Tests.{lt-ltb, le-ltb, not-true, not-false}
+use borrow.Author.Tests.{lt-ltb, not-true, not-false}
 use Rattle.objects.specs.declared.TypeKey.{TypeKey}
 use Rattle.objects.specs.declared.ObjKey.{ObjKey}
 use Rattle.objects.specs.Lists.{Bytes}
@@ -20,7 +19,7 @@ use Rattle.rules.specs.Members.{sameMember}
 use Rattle.rules.specs.Identity.{alikeMember}
 use Rattle.rules.specs.Library.{Library}
 use Rattle.rules.proofs.Sounds.{library-sound}
-use Rattle.type_parts.specs.Parts.{partCount, tagLength, alikeAt}
+use Rattle.type_parts.specs.Parts.{partCount, tagLength}
 use Rattle.type_parts.proofs.StepAt.{named-count, members-read, count-members}
 
 -- parts of the text, given by numbers that were read
@@ -73,17 +72,6 @@ module _ (text : Bytes) (rows : Words) where
         → a ≡ embeddedRead rows m → b ≡ embeddedRead rows n → not (Bool·beq a b) ≡ false → s ≡ sameBytes (tagAt m) (tagAt n)
         → s ≡ alikeMember (tableOf text rows) (memberAt text rows m) (memberAt text rows n)
     alike-tags r a b s e z p q d f = f ∙ sym (alike-is ∙ rw (sym e ∙ not-false r z, ← p, ← q, not-false (Bool·beq a b) d))
-
-  -- ---- the i-th members of x and y
-
-  pub alike-none : (x y : TypeKey) (i k : ℕ) → k ≡ numberRead rows x → k < 8 → true ≡ alikeAt text rows x y i
-  unfolding alikeAt
-  alike-none x y i k e h = rw (← e, lt-ltb k 8 h)
-
-  pub alike-some : (x y : TypeKey) (i k a b : ℕ) (r : Bool) → k ≡ numberRead rows x → 8 ≤ k → a ≡ firstRead rows x → b ≡ firstRead rows y
-      → r ≡ alikeMember (tableOf text rows) (memberAt text rows (objKey (a + i))) (memberAt text rows (objKey (b + i))) → r ≡ alikeAt text rows x y i
-  unfolding alikeAt
-  alike-some x y i k a b r e h p q f = rw (← e, le-ltb k 8 h, ← p, ← q) f
 
 -- the i-th member of a struct or an interface has a package of the table, or none
 pub member-packaged : (text : Bytes) (rows : Words) → Library text rows → (x : TypeKey) → x .0 < typeCount rows → (k i a : ℕ) → k ≡ numberRead rows x → 8 ≤ k → i < partCount rows x → a ≡ firstRead rows x

@@ -1,12 +1,12 @@
 -- What is read off a type's row (specs/Parts.antt) is what the rules say of the table that the rows hold: its own number and its parts.
 use mathlib.Core.Path.{_≡_, refl, sym, ap, _∙_}
-use mathlib.Core.Bool.{Bool, true}
+use mathlib.Core.Bool.{false}
 use mathlib.Core.List.{map, append-nil}
 use mathlib.Core.Logic.{_⊎_, inl, inr}
 use Prim.Native.Nat.{ℕ, suc, _+_, _-_, _<_, _≤_}
 use native.Mathlib.Omega.{arith}
-use lib.Dec.{ltb}
-use borrow.Author.Tests.{ne-eqb}
+use lib.Dec.{eqb}
+use borrow.Author.Tests.{ne-eqb, eq-eqb}
 use Rattle.objects.specs.declared.TypeKey.{TypeKey}
 use Rattle.objects.specs.declared.«Type».{«Type»}
 use Rattle.objects.specs.Lists.{Bytes, upTo}
@@ -18,7 +18,7 @@ use Rattle.objects.proofs.ListLaws.{map-map}
 use Rattle.objects.proofs.Reading.{is-tuple, is-func, is-struct, is-iface}
 use Rattle.objects.proofs.RowLaws.{type-meant, kind-read, members-length, elements-length}
 use Rattle.rules.specs.Identity.{realType, ownNumber, parts}
-use Rattle.type_parts.specs.Parts.{ownIn, countIn, partIn, ownRead, partCount, partAt, alikeAt}
+use Rattle.type_parts.specs.Parts.{ownIn, countIn, partIn, ownRead, partCount, partAt, sameNumbers}
 use Rattle.type_parts.proofs.Spans.{SpanIs, span-is, span-small}
 
 module _ (text : Bytes) (rows : Words) where
@@ -138,10 +138,16 @@ module _ (rows : Words) (t : TypeKey) {k : ℕ} (k-is : k ≡ typeWord rows t 0)
   unfolding partIn
   results-part i w q n e = part-second rows t (is-func rows t k-is refl refl refl refl e q) refl i n
 
--- what is called nothing is called alike
-pub alike-nameless : (text : Bytes) (rows : Words) (x y : TypeKey) (i : ℕ) (b : Bool) → b ≡ ltb (numberRead rows x) 8 → b ≡ true → true ≡ alikeAt text rows x y i
-unfolding alikeAt
-alike-nameless text rows x y i b e q = rw (← e, q)
+-- ---- the numbers of two types, as code reads them
+
+module _ (rows : Words) (x y : TypeKey) (a b : ℕ) where
+  pub kinds-other : a ≡ numberRead rows x → b ≡ numberRead rows y → (a ≡ b → ⊥) → false ≡ sameNumbers rows x y
+  unfolding sameNumbers
+  kinds-other p q h = rw (← p, ← q, ne-eqb a b h)
+
+  pub owns-tell : (c d : ℕ) → a ≡ numberRead rows x → b ≡ numberRead rows y → a ≡ b → c ≡ ownRead rows x → d ≡ ownRead rows y → eqb c d ≡ sameNumbers rows x y
+  unfolding sameNumbers
+  owns-tell c d p q e r s = rw (← p, ← q, ← r, ← s, eq-eqb a b e)
 
 -- "Byte is Uint8, Rune is Int32"
 pub real-byte : (k : ℕ) → k ≡ 26 → 8 ≡ realType k

@@ -1,34 +1,30 @@
--- One step of identity by places: two types of one kind and one own number agree for one step more exactly if at each place their members are called
--- alike and their parts agree.
+-- One step of identity by places: two types that nothing but their parts tells apart agree for one step more exactly if their parts at each place agree.
 use mathlib.Core.Path.{_≡_, refl, sym, ap, _∙_}
 use mathlib.Core.Bool.{true}
 use mathlib.Core.List.{[], map}
 use mathlib.Core.Logic.{_≢_}
-use Prim.Native.Nat.{ℕ, suc, _+_, _<_, _≤_}
+use Prim.Native.Nat.{ℕ, suc, _<_, _≤_}
 use native.Mathlib.Omega.{arith}
-use lib.Dec.{eqb, ltb}
 use lib.ListN.{length, length-map}
-use borrow.Author.Tests.{eqb-true, eqb-false, eq-eqb, lt-ltb, le-ltb, ltb-true, ltb-false}
+use borrow.Author.Tests.{eq-eqb}
 use Rattle.objects.specs.declared.TypeKey.{TypeKey}
 use Rattle.objects.specs.Lists.{Bytes, upTo}
-use Rattle.objects.specs.Table.{Member, Kind, Basic, Array, Slice, Pointer, Map, Chan, Tuple, Func, Struct, Iface, Named, objKey, kindNumber, membersOf, kindAt}
-use Rattle.objects.specs.Rows.{Words, typeCount, memberAt, membersFrom, tableOf}
+use Rattle.objects.specs.Table.{Kind, Basic, Array, Slice, Pointer, Map, Chan, Tuple, Func, Struct, Iface, Named, kindNumber, membersOf, kindAt}
+use Rattle.objects.specs.Rows.{Words, typeCount, membersFrom, tableOf}
 use Rattle.objects.specs.Types.{numberRead, firstRead, totalRead}
-use Rattle.objects.proofs.ListLaws.{cases}
 use Rattle.objects.proofs.KeyLaws.{key-eq}
-use Rattle.objects.proofs.PairLaws.{AllPairs, pairs-self, pairs-at, pairs-from}
+use Rattle.objects.proofs.PairLaws.{AllPairs}
 use Rattle.objects.proofs.Numbers.{each-length, each-pairs, pairs-each}
-use Rattle.objects.proofs.RowLaws.{kind-read, number-read, number-meant, members-meant, members-length, members-at}
+use Rattle.objects.proofs.RowLaws.{size-read, kind-read, number-read, number-meant, members-meant, members-length}
 use Rattle.rules.specs.Identity.{ownNumber, parts}
 use Rattle.rules.specs.StepIdentity.{sameIn}
-use Rattle.rules.proofs.MemberLaws.{Alike, alikeMember-split, alikeMember-join}
-use Rattle.rules.proofs.StepLaws.{Holds, same-split, same-join, parts-long}
-use Rattle.type_parts.specs.Parts.{partCount, partAt, alikeAt}
+use Rattle.rules.proofs.StepLaws.{Holds, Matched, match-common, same-split, same-join, parts-long}
+use Rattle.type_parts.specs.Parts.{partCount, partAt, Peers}
 use Rattle.type_parts.proofs.ReadLaws.{parts-read}
 
 -- ---- members of a kind
 
-members-none : (k : Kind) → kindNumber k < 8 → membersOf k ≡ []
+pub members-none : (k : Kind) → kindNumber k < 8 → membersOf k ≡ []
 members-none (Basic k) h = refl
 members-none (Array n e) h = refl
 members-none (Slice e) h = refl
@@ -75,10 +71,6 @@ named-own x (Struct ms) e = absurd (omega arith)
 named-own x (Iface ms) e = absurd (omega arith)
 named-own x (Named u ms) e = refl
 
--- what holds of the places below i
-abbrev pub PartSame : Bytes → Words → ℕ → TypeKey → TypeKey → ℕ → Type 0
-PartSame text rows n x y i = (alikeAt text rows x y i ≡ true) × (sameIn (tableOf text rows) n (partAt rows x i) (partAt rows y i) ≡ true)
-
 module _ (text : Bytes) (rows : Words) where
   module _ (x : TypeKey) (h : x .0 < typeCount rows) where
     pub count-parts : length (parts (kindAt (tableOf text rows) x)) ≡ partCount rows x
@@ -106,86 +98,43 @@ module _ (text : Bytes) (rows : Words) where
     pub numbers : numberRead rows x ≡ numberRead rows y
     numbers = sym (number-read text rows x hx) ∙ kinds ∙ number-read text rows y hy
 
-    one-name : numberRead rows x ≡ 10 → x ≡ y
+    -- a named type is kin to itself alone
+    pub one-name : numberRead rows x ≡ 10 → x ≡ y
     one-name e =
         key-eq x y (sym (named-own x (kindAt (tableOf text rows) x) (number-read text rows x hx ∙ e)) ∙ owns ∙ named-own y (kindAt (tableOf text rows) y) (sym kinds ∙ number-read text rows x hx ∙ e))
 
-    -- the i-th members, of a struct or an interface
-    pub alike-at : 8 ≤ numberRead rows x → (i : ℕ) → alikeAt text rows x y i ≡ true
-        → Alike (tableOf text rows) (memberAt text rows (objKey (firstRead rows x + i))) (memberAt text rows (objKey (firstRead rows y + i)))
-    unfolding alikeAt
-    alike-at g i e = alikeMember-split (tableOf text rows) _ _ (rw (le-ltb (numberRead rows x) 8 g) at e)
+-- ---- one step
 
-    at-alike : 8 ≤ numberRead rows x → (i : ℕ) → Alike (tableOf text rows) (memberAt text rows (objKey (firstRead rows x + i))) (memberAt text rows (objKey (firstRead rows y + i)))
-        → alikeAt text rows x y i ≡ true
-    unfolding alikeAt
-    at-alike g i a = rw (le-ltb (numberRead rows x) 8 g) (alikeMember-join (tableOf text rows) _ _ a)
+-- the i-th parts of x and y agree for n steps
+abbrev pub PartSame : Bytes → Words → ℕ → TypeKey → TypeKey → ℕ → Type 0
+PartSame text rows n x y i = sameIn (tableOf text rows) n (partAt rows x i) (partAt rows y i) ≡ true
 
-    no-members : numberRead rows x < 8 → (i : ℕ) → alikeAt text rows x y i ≡ true
-    unfolding alikeAt
-    no-members g i = rw (lt-ltb (numberRead rows x) 8 g)
+module _ (text : Bytes) (rows : Words) (x y : TypeKey) (k : Peers (tableOf text rows) x y) where
+  hx : x .0 < typeCount rows
+  hx = let h = k .left in rw (size-read text rows) at h
 
-    d : Member
-    d = memberAt text rows (objKey 0)
+  hy : y .0 < typeCount rows
+  hy = let h = k .right in rw (size-read text rows) at h
 
-    members-joined : ((i : ℕ) → i < partCount rows x → alikeAt text rows x y i ≡ true)
-        → AllPairs (Alike (tableOf text rows)) (membersOf (kindAt (tableOf text rows) x)) (membersOf (kindAt (tableOf text rows) y))
-    members-joined h =
-        cases (ltb (numberRead rows x) 8)
-        (λ e. few (ltb-true (numberRead rows x) 8 e))
-        (λ e. cases (eqb (numberRead rows x) 10)
-        (λ f. let z = one-name (eqb-true (numberRead rows x) 10 f) in rw z (pairs-self (Alike (tableOf text rows)) (membersOf (kindAt (tableOf text rows) y)) (λ m i. (refl, refl, refl))))
-        (λ f. many (ltb-false (numberRead rows x) 8 e) (eqb-false (numberRead rows x) 10 f)))
-      where
-        few : numberRead rows x < 8 → AllPairs (Alike (tableOf text rows)) (membersOf (kindAt (tableOf text rows) x)) (membersOf (kindAt (tableOf text rows) y))
-        few g =
-            let e = number-read text rows x hx in
-            let f = number-read text rows y hy in
-            let n = numbers in
-            rw (members-none (kindAt (tableOf text rows) x) (omega arith), members-none (kindAt (tableOf text rows) y) (omega arith)) tt
+  common : Matched (tableOf text rows) x (kindAt (tableOf text rows) x) y (kindAt (tableOf text rows) y)
+  common = match-common (tableOf text rows) x y (k .alike)
 
-        many : 8 ≤ numberRead rows x → numberRead rows x ≢ 10 → AllPairs (Alike (tableOf text rows)) (membersOf (kindAt (tableOf text rows) x)) (membersOf (kindAt (tableOf text rows) y))
-        many g n =
-            let p = members-length text rows (firstRead rows x) (totalRead rows x) in
-            let q = members-length text rows (firstRead rows y) (totalRead rows y) in
-            let a = count-members x hx g n in
-            let b = count-members y hy (rw (sym numbers) g) (rw (sym numbers) n) in
-            let c = counts in
-            rw (members-read x hx g, members-read y hy (rw (sym numbers) g))
-            (pairs-from (Alike (tableOf text rows)) (membersFrom text rows (firstRead rows x) (totalRead rows x)) (membersFrom text rows (firstRead rows y) (totalRead rows y)) d (omega arith)
-            (λ i l. rw (members-at text rows (firstRead rows x) (totalRead rows x) i d (omega arith), members-at text rows (firstRead rows y) (totalRead rows y) i d (omega arith)) (alike-at g i (h i (omega arith)))))
+  same-counts : partCount rows x ≡ partCount rows y
+  same-counts = counts text rows x y hx hy (common .0) (common .1)
 
-    -- all places agree: x and y agree for one step more
-    pub step-join : (n : ℕ) → ((i : ℕ) → i < partCount rows x → PartSame text rows n x y i) → sameIn (tableOf text rows) (suc n) x y ≡ true
-    step-join n h = same-join (tableOf text rows) n x y (record {
-      kinds = kinds;
-      owns = owns;
-      members = members-joined (λ i l. h i l .0);
-      related = rw (parts-read text rows x hx, parts-read text rows y hy, ← counts) (each-pairs (Holds (sameIn (tableOf text rows) n)) (partAt rows x) (partAt rows y) (partCount rows x) (λ i l. h i l .1));
-    })
+  -- all parts agree: x and y agree for one step more
+  pub step-join : (n : ℕ) → ((i : ℕ) → i < partCount rows x → PartSame text rows n x y i) → sameIn (tableOf text rows) (suc n) x y ≡ true
+  step-join n h = same-join (tableOf text rows) n x y (record {
+    kinds = common .0;
+    owns = common .1;
+    members = common .2;
+    related = rw (parts-read text rows x hx, parts-read text rows y hy, ← same-counts) (each-pairs (Holds (sameIn (tableOf text rows) n)) (partAt rows x) (partAt rows y) (partCount rows x) h);
+  })
 
-    -- and back
-    alike-split : AllPairs (Alike (tableOf text rows)) (membersOf (kindAt (tableOf text rows) x)) (membersOf (kindAt (tableOf text rows) y)) → (i : ℕ) → i < partCount rows x → alikeAt text rows x y i ≡ true
-    alike-split a i l =
-        cases (ltb (numberRead rows x) 8)
-        (λ e. no-members (ltb-true (numberRead rows x) 8 e) i)
-        (λ e. cases (eqb (numberRead rows x) 10)
-        (λ f. let z = named-count x hx (eqb-true (numberRead rows x) 10 f) in absurd (omega arith))
-        (λ f. many (ltb-false (numberRead rows x) 8 e) (eqb-false (numberRead rows x) 10 f)))
-      where
-        many : 8 ≤ numberRead rows x → numberRead rows x ≢ 10 → alikeAt text rows x y i ≡ true
-        many g n =
-            let p = members-length text rows (firstRead rows x) (totalRead rows x) in
-            let s = count-members x hx g n in
-            let t = count-members y hy (rw (sym numbers) g) (rw (sym numbers) n) in
-            let c = counts in
-            let r = pairs-at (Alike (tableOf text rows)) (membersFrom text rows (firstRead rows x) (totalRead rows x)) (membersFrom text rows (firstRead rows y) (totalRead rows y)) i d
-            (rw (members-read x hx g, members-read y hy (rw (sym numbers) g)) at a) (omega arith) in
-            at-alike g i (rw (members-at text rows (firstRead rows x) (totalRead rows x) i d (omega arith), members-at text rows (firstRead rows y) (totalRead rows y) i d (omega arith)) at r)
-
-    pub step-split : (n : ℕ) → sameIn (tableOf text rows) (suc n) x y ≡ true → (i : ℕ) → i < partCount rows x → PartSame text rows n x y i
-    step-split n h i l =
-        let a = same-split (tableOf text rows) n x y h in
-        let r : AllPairs (Holds (sameIn (tableOf text rows) n)) (map (partAt rows x) (upTo (partCount rows x))) (map (partAt rows y) (upTo (partCount rows x))) =
-        rw (parts-read text rows x hx, parts-read text rows y hy, ← counts) at (a .related) in
-        (alike-split (a .members) i l, pairs-each (Holds (sameIn (tableOf text rows) n)) (partAt rows x) (partAt rows y) (partCount rows x) r i l)
+  -- and back
+  pub step-split : (n : ℕ) → sameIn (tableOf text rows) (suc n) x y ≡ true → (i : ℕ) → i < partCount rows x → PartSame text rows n x y i
+  step-split n h i l =
+      let a = same-split (tableOf text rows) n x y h in
+      let r : AllPairs (Holds (sameIn (tableOf text rows) n)) (map (partAt rows x) (upTo (partCount rows x))) (map (partAt rows y) (upTo (partCount rows x))) =
+      rw (parts-read text rows x hx, parts-read text rows y hy, ← same-counts) at (a .related) in
+      pairs-each (Holds (sameIn (tableOf text rows) n)) (partAt rows x) (partAt rows y) (partCount rows x) r i l

@@ -1,17 +1,16 @@
--- What the code reads off the rows to compare two types: the number that belongs to a type, its parts by their places, and whether members at the same
--- place are called alike. proofs/ReadLaws.antt and proofs/MemberRead.antt tie each to the rules.
+-- What the code reads off the rows to compare two types: the number that belongs to a type, its parts by their places, and a member's tag.
+-- proofs/ReadLaws.antt and proofs/MemberRead.antt tie each to the rules. And how far two types may have been told apart (`Kin`, `Peers`).
 use mathlib.Core.Path.{_≡_}
-use mathlib.Core.Bool.{Bool, true, cond}
+use mathlib.Core.Bool.{Bool, false, cond, _&&_}
 use Prim.Native.Nat.{ℕ, zero, suc, _+_, _<_}
-use lib.Dec.{ltb}
+use lib.Dec.{eqb}
 use Rattle.objects.specs.declared.TypeKey.{TypeKey}
 use Rattle.objects.specs.declared.ObjKey.{ObjKey}
 use Rattle.objects.specs.declared.«Type».{«Type»}
-use Rattle.objects.specs.Lists.{Bytes}
 use Rattle.objects.specs.Table.{Table, size, kindNumber, kindAt, typeKey, objKey, dirNumber, bit}
-use Rattle.objects.specs.Rows.{Words, memberWord, elementAt, memberAt, tableOf}
-use Rattle.objects.specs.Types.{typeRead, numberRead, firstRead, memberTypeRead, methodRead}
-use Rattle.rules.specs.Identity.{realType, ownNumber, alikeMember}
+use Rattle.objects.specs.Rows.{Words, memberWord, elementAt}
+use Rattle.objects.specs.Types.{typeRead, numberRead, memberTypeRead, methodRead}
+use Rattle.rules.specs.Identity.{Pair, realType, ownNumber, mismatch}
 
 -- ---- by what the row says
 
@@ -77,14 +76,15 @@ module _ (rows : Words) where
   unfoldable pub tagLength : ObjKey → ℕ
   tagLength m = cond (methodRead rows m) 0 (memberWord rows m 6)
 
-module _ (text : Bytes) (rows : Words) where
-  -- the i-th members of x and y are called alike; a type without members has nothing that is called
-  unfoldable pub alikeAt : TypeKey → TypeKey → ℕ → Bool
-  alikeAt x y i =
-      cond (ltb (numberRead rows x) 8) true
-      (alikeMember (tableOf text rows) (memberAt text rows (objKey (firstRead rows x + i))) (memberAt text rows (objKey (firstRead rows y + i))))
-
 -- ---- two types
+
+-- one kind and one own number, as they are read
+unfoldable pub sameNumbers : Words → TypeKey → TypeKey → Bool
+sameNumbers rows x y = eqb (numberRead rows x) (numberRead rows y) && eqb (ownRead rows x) (ownRead rows y)
+
+-- what the rules call the pair of x and y
+abbrev pub pairOf : TypeKey → TypeKey → Pair
+pairOf x y = record { left = x; right = y }
 
 module _ (T : Table) where
   -- types of one kind and one own number
@@ -93,3 +93,9 @@ module _ (T : Table) where
     pub right : y .0 < size T
     pub kinds : kindNumber (kindAt T x) ≡ kindNumber (kindAt T y)
     pub owns : ownNumber x (kindAt T x) ≡ ownNumber y (kindAt T y)
+
+  -- types that nothing but their parts can tell apart: kin whose members are called alike
+  pub record Peers (x y : TypeKey) : Type 0 where
+    pub left : x .0 < size T
+    pub right : y .0 < size T
+    pub alike : mismatch T (pairOf x y) ≡ false

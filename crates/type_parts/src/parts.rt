@@ -1,16 +1,15 @@
-// What a type is made of, read off the rows of a loaded table: the number that belongs to it, its parts by their places, and whether members at the same
-// place are called alike.
+// What a type is made of, read off the rows of a loaded table: the number that belongs to it, its parts by their places, and whether it and another are told
+// apart whatever their parts are.
 ghost use mathlib.Core.Path.{_≡_};
 ghost use mathlib.Core.Bool.{true};
 ghost use mathlib.Core.Logic.{_⊎_};
 ghost use Prim.Native.Nat.{_+_, _<_};
-ghost use Rattle.objects.specs.Rows.{typeWord, tableOf, memberAt};
-ghost use lib.Dec.{ltb};
-ghost use Rattle.objects.specs.Types.{numberRead, firstRead};
-ghost use Rattle.objects.specs.Table.{dirNumber, hasPackage};
-ghost use Rattle.rules.specs.Identity.{alikeMember};
+ghost use Rattle.objects.specs.Rows.{typeWord, typeCount, tableOf, memberAt};
+ghost use Rattle.objects.specs.Types.{firstRead};
+ghost use Rattle.objects.specs.Table.{dirNumber, hasPackage, membersOf, kindAt};
+ghost use Rattle.rules.specs.Identity.{alikeMember, alike, mismatch};
 ghost use Rattle.rules.specs.Library.{Library};
-ghost use Rattle.type_parts.specs.Parts.{ownRead, partCount, partAt, tagLength, alikeAt, Kin};
+ghost use Rattle.type_parts.specs.Parts.{ownRead, partCount, partAt, tagLength, sameNumbers, pairOf, Kin};
 use crate::basic::BasicType;
 use obj::same_member;
 use objects::Dir;
@@ -194,36 +193,50 @@ pub fn alike(text: &[u8], rows: &[u32], m: ObjKey, n: ObjKey) -> bool
     same_part(text, ma as usize, ml as usize, na as usize, nl as usize)
 }
 
-// The i-th members of x and y are called alike.
-pub fn alike_at(text: &[u8], rows: &[u32], x: TypeKey, y: TypeKey, i: u32) -> bool
+// ---- two types
+
+// Types x and y are of one kind and one own number.
+pub fn kin(rows: &[u32], x: TypeKey, y: TypeKey) -> bool
+    ensures { λ r. ⌜ r ≡ sameNumbers (now (rows .entry)) x y ⌝ }
+{
+    if kind_number(rows, x) != kind_number(rows, y) {
+        return false;
+    }
+    own_number(rows, x) == own_number(rows, y)
+}
+
+// The members of x and y at the same places are called alike. Their types are not looked at.
+fn called_alike(text: &[u8], rows: &[u32], x: TypeKey, y: TypeKey) -> bool
     requires { ⌜ Library (now text) (now rows) ⌝ }
-    requires { ⌜ Kin (tableOf (now text) (now rows)) x y × (i < partCount (now rows) x) ⌝ }
-    ensures { λ r. ⌜ r ≡ alikeAt (now (text .entry)) (now (rows .entry)) x y i ⌝ }
+    requires { ⌜ Kin (tableOf (now text) (now rows)) x y ⌝ }
+    ensures { λ r. ⌜ r ≡ alike (tableOf (now (text .entry)) (now (rows .entry))) (membersOf (kindAt (tableOf (now (text .entry)) (now (rows .entry))) x)) (membersOf (kindAt (tableOf (now (text .entry)) (now (rows .entry))) y)) ⌝ }
 {
     if kind_number(rows, x) < 8 {
         return true;
     }
-    let m = ObjKey(first_member(rows, x) + i);
-    let n = ObjKey(first_member(rows, y) + i);
-    alike(text, rows, m, n)
+    let n = part_count(rows, x);
+    let first = first_member(rows, x);
+    let second = first_member(rows, y);
+    let mut left = n;
+    while 0 < left {
+        let i = n - left;
+        if !alike(text, rows, ObjKey(first + i), ObjKey(second + i)) {
+            return false;
+        }
+        left -= 1;
+    }
+    true
 }
 
-// Below struct: a type whose parts are not called anything.
-pub fn nameless(rows: &[u32], t: TypeKey) -> bool
-    ensures { λ r. ⌜ r ≡ ltb (numberRead (now (rows .entry)) t) 8 ⌝ }
-{
-    kind_number(rows, t) < 8
-}
-
-// The same as alike_at, for a loop over i: x is known to be nameless or not.
-pub fn alike_in(text: &[u8], rows: &[u32], x: TypeKey, y: TypeKey, i: u32, plain: bool) -> bool
+// Types x and y are told apart whatever their parts are: by kind, by own number or by their members. Two structs are by the count, the embedded marks, the
+// names and the tags of their fields.
+pub fn mismatch(text: &[u8], rows: &[u32], x: TypeKey, y: TypeKey) -> bool
     requires { ⌜ Library (now text) (now rows) ⌝ }
-    requires { ⌜ Kin (tableOf (now text) (now rows)) x y × (i < partCount (now rows) x) ⌝ }
-    requires { ⌜ plain ≡ ltb (numberRead (now rows) x) 8 ⌝ }
-    ensures { λ r. ⌜ r ≡ alikeAt (now (text .entry)) (now (rows .entry)) x y i ⌝ }
+    requires { ⌜ (x .0 < typeCount (now rows)) × (y .0 < typeCount (now rows)) ⌝ }
+    ensures { λ r. ⌜ r ≡ mismatch (tableOf (now (text .entry)) (now (rows .entry))) (pairOf x y) ⌝ }
 {
-    if plain {
+    if !kin(rows, x, y) {
         return true;
     }
-    alike_at(text, rows, x, y, i)
+    !called_alike(text, rows, x, y)
 }

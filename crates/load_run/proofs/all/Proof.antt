@@ -1,8 +1,9 @@
 -- `all` ends: a table less is left to read at each turn, and the buffer keeps its length.
-use mathlib.Core.Path.{_≡_}
+use mathlib.Core.Path.{_≡_, subst}
 use borrow.Author.Needs.{needs}
 use lib.ListN.{length}
 use native.Mathlib.Omega.{arith}
+use Rattle.frames.specs.Frames.{Fits}
 use Rattle.load_run.proofs.all.Statement.{statement}
 use Rattle.load_run.proofs.all.Tie as tie
 
@@ -18,11 +19,29 @@ loop-holds c = search needs
 next-requires : tie.Need-next-requires Inv-loop μ-loop
 next-requires c κs = search needs
 
+enum-known-n : tie.Need-enum-known-n Inv-loop μ-loop
+enum-known-n c = search needs
+
+enum-told : tie.Need-enum-told Inv-loop μ-loop
+enum-told c = search needs
+
 same-length : tie.Need-same-length Inv-loop μ-loop
 same-length c = search needs
 
 returns : tie.Need-returns Inv-loop μ-loop
 returns c = search needs
+
+sub-one : tie.Need-sub-one Inv-loop μ-loop
+sub-one c = search needs
+
+part-one-start : tie.Need-part-one-start Inv-loop μ-loop
+part-one-start c = search needs
+
+part-one-end : tie.Need-part-one-end Inv-loop μ-loop
+part-one-end c = omega (arith, subst (Fits _) (c .before .before .n .given .1) (c .before .before .before .before .before .before .next .ensures))
+
+one-requires : tie.Need-one-requires Inv-loop μ-loop
+one-requires c κs = search needs
 
 sub-left : tie.Need-sub-left Inv-loop μ-loop
 sub-left c = omega arith
@@ -47,8 +66,14 @@ all-spec =
     μ-loop
     loop-holds
     next-requires
+    enum-known-n
+    enum-told
     same-length
     returns
+    sub-one
+    part-one-start
+    part-one-end
+    one-requires
     sub-left
     loop-less
     loop-again

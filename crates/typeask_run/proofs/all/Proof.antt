@@ -1,9 +1,10 @@
 -- `all` ends: an input more is read at each turn, and the buffer keeps its length.
-use mathlib.Core.Path.{_≡_}
+use mathlib.Core.Path.{_≡_, subst}
 use Prim.Native.Nat.{_-_}
 use borrow.Author.Needs.{needs}
 use lib.ListN.{length}
 use native.Mathlib.Omega.{arith}
+use Rattle.frames.specs.Frames.{Fits}
 use Rattle.typeask_run.proofs.all.Statement.{statement}
 use Rattle.typeask_run.proofs.all.Tie as tie
 
@@ -19,11 +20,32 @@ loop-holds c = search needs
 next-requires : tie.Need-next-requires Inv-loop μ-loop
 next-requires c κs = search needs
 
+enum-known-n : tie.Need-enum-known-n Inv-loop μ-loop
+enum-known-n c = search needs
+
+enum-told : tie.Need-enum-told Inv-loop μ-loop
+enum-told c = search needs
+
 same-length : tie.Need-same-length Inv-loop μ-loop
 same-length c = search needs
 
 returns : tie.Need-returns Inv-loop μ-loop
 returns c = search needs
+
+title-requires : tie.Need-title-requires Inv-loop μ-loop
+title-requires c κs = search needs
+
+sub-run : tie.Need-sub-run Inv-loop μ-loop
+sub-run c = search needs
+
+part-run-start : tie.Need-part-run-start Inv-loop μ-loop
+part-run-start c = search needs
+
+part-run-end : tie.Need-part-run-end Inv-loop μ-loop
+part-run-end c = omega (arith, subst (Fits _) (c .before .before .before .n .given .1) (c .before .before .before .before .before .before .before .next .ensures))
+
+run-requires : tie.Need-run-requires Inv-loop μ-loop
+run-requires c κs = search needs
 
 add-k : tie.Need-add-k Inv-loop μ-loop
 add-k c = omega arith
@@ -48,8 +70,15 @@ all-spec =
     μ-loop
     loop-holds
     next-requires
+    enum-known-n
+    enum-told
     same-length
     returns
+    title-requires
+    sub-run
+    part-run-start
+    part-run-end
+    run-requires
     add-k
     loop-less
     loop-again

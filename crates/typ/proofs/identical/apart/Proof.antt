@@ -1,10 +1,9 @@
 use borrow.Author.Needs.{needs}
 use mathlib.Core.Path.{refl}
-use Prim.Native.Nat.{ℕ, _+_, _-_, _<_, _≤_}
-use native.Mathlib.Omega.{arith}
+use Prim.Native.Nat.{_-_, _≤_}
 use Rattle.objects.proofs.ListLaws.{clash}
-use Rattle.type_parts.proofs.KinLaws.{left-place, right-place}
-use Rattle.typ.proofs.Early.{names-differ, parts-differ}
+use Rattle.type_parts.proofs.KinLaws.{peers-kin, left-place, right-place}
+use Rattle.typ.proofs.Early.{parts-differ}
 use Rattle.typ.proofs.identical.apart.Statement.{statement}
 use Rattle.typ.proofs.identical.apart.Tie as tie
 
@@ -20,23 +19,27 @@ part-count-requires c κs = search needs
 loop-holds : tie.Need-loop-holds Inv-loop μ-loop
 loop-holds c = search needs
 
-alike-at-requires : tie.Need-alike-at-requires Inv-loop μ-loop
-alike-at-requires c κs = ((c .before .before .before .before .before .pre .0), ((c .before .before .before .before .before .pre .1), omega (arith, (c .before .before .part-count .ensures), c .loop-test .taken)))
-
-returns : tie.Need-returns Inv-loop μ-loop
-returns c = λ _. names-differ _ _ (c .before .before .before .before .before .before .before .pre .0) _ _ (c .before .before .before .before .before .before .before .pre .1) _ _ (c .before .before .before .before .part-count .ensures) (c .before .before .loop-test .taken) _ (c .before .alike-at .ensures) (c .if1 .taken)
-
 part-at-requires : tie.Need-part-at-requires Inv-loop μ-loop
-part-at-requires c κs = left-place _ _ (c .before .before .before .before .before .before .before .pre .0) _ _ (c .before .before .before .before .before .before .before .pre .1) _ _ (c .before .before .before .before .part-count .ensures) (c .before .before .loop-test .taken)
+part-at-requires c κs =
+    let asked = c .before .before .before .before .before .pre in
+    left-place _ _ (asked .0) _ _ (peers-kin _ _ _ (asked .1)) _ _ (c .before .before .part-count .ensures) (c .loop-test .taken)
 
 part-at-requires-2 : tie.Need-part-at-requires-2 Inv-loop μ-loop
-part-at-requires-2 c κs = right-place _ _ (c .before .before .before .before .before .before .before .before .pre .0) _ _ (c .before .before .before .before .before .before .before .before .pre .1) _ _ (c .before .before .before .before .before .part-count .ensures) (c .before .before .before .loop-test .taken)
+part-at-requires-2 c κs =
+    let in-loop = c .before in
+    let asked = in-loop .before .before .before .before .before .pre in
+    right-place _ _ (asked .0) _ _ (peers-kin _ _ _ (asked .1)) _ _ (in-loop .before .before .part-count .ensures) (in-loop .loop-test .taken)
 
 unlike-requires : tie.Need-unlike-requires Inv-loop μ-loop
 unlike-requires c κs = search needs
 
-returns-2 : tie.Need-returns-2 Inv-loop μ-loop
-returns-2 c = λ _. parts-differ _ _ (c .before .before .before .before .before .before .before .before .before .before .before .pre .0) _ _ (c .before .before .before .before .before .before .before .before .before .before .before .pre .1) _ _ (c .before .before .before .before .before .before .before .before .part-count .ensures) (c .before .before .before .before .before .before .loop-test .taken) _ _ (c .before .before .before .part-at .ensures) (c .before .before .part-at2 .ensures) ((c .before .unlike .ensures) (c .if2 .taken))
+returns : tie.Need-returns Inv-loop μ-loop
+returns c = λ _.
+    let at-part-at2 = c .before .before in
+    let in-loop = at-part-at2 .before .before in
+    let asked = in-loop .before .before .before .before .before .pre in
+    parts-differ _ _ (asked .0) _ _ (asked .1) _ _ (in-loop .before .before .part-count .ensures) (in-loop .loop-test .taken) _ _ (at-part-at2 .before .part-at .ensures) (at-part-at2 .part-at2 .ensures)
+    ((c .before .unlike .ensures) (c .if1 .taken))
 
 add-i : tie.Need-add-i Inv-loop μ-loop
 add-i c = search needs
@@ -47,8 +50,8 @@ loop-less c = search needs
 loop-again : tie.Need-loop-again Inv-loop μ-loop
 loop-again c = search needs
 
-returns-3 : tie.Need-returns-3 Inv-loop μ-loop
-returns-3 c = λ q. clash q refl
+returns-2 : tie.Need-returns-2 Inv-loop μ-loop
+returns-2 c = λ q. clash q refl
 
 pub apart-spec : {M : Type 1} → statement M
 apart-spec =
@@ -58,13 +61,11 @@ apart-spec =
     μ-loop
     part-count-requires
     loop-holds
-    alike-at-requires
-    returns
     part-at-requires
     part-at-requires-2
     unlike-requires
-    returns-2
+    returns
     add-i
     loop-less
     loop-again
-    returns-3)
+    returns-2)

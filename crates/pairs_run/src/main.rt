@@ -1,0 +1,85 @@
+// Compares the last two types of each table of standard input, from no pair met, and prints `yes` or `no` and how many pairs of types were met: what was put
+// off stays so. A refused table prints `refused`, one of fewer than two types `none`. The tables stand behind their lengths (crate frames). They and what is
+// due for them are made by tools/pairs_sample.py.
+ghost use Prim.Native.Nat.{_≤_};
+ghost use lib.ListN.{length};
+ghost use Rattle.objects.specs.Bounds.{markWords};
+ghost use Rattle.rules.specs.Library.{Library};
+use frames::Frame;
+use objects::TypeKey;
+use objects::rows::type_count;
+use table::Loading;
+use typ::classes::number;
+use typ::identical::PAIRS;
+use typ::identical::identical_impl;
+use typ::marks::is_met;
+
+// How many pairs of types were met: the second half of the marks has those that were opened.
+fn pairs_met(marks: &[u32]) -> u32
+    requires { ⌜ markWords ≤ length (now marks) ⌝ }
+{
+    let mut n: u32 = 0;
+    let mut p: usize = 0;
+    while p < PAIRS {
+        if is_met(marks, p) {
+            n += 1;
+        }
+        p += 1;
+    }
+    n
+}
+
+fn show(same: bool, pairs: u32) {
+    if same {
+        io::write_all(1, b"yes\t");
+    } else {
+        io::write_all(1, b"no\t");
+    }
+    io::print_decimal(1, pairs as u64);
+    io::write_all(1, b"\n");
+}
+
+// Every type begins as a class of its own.
+fn compare(text: &[u8], rows: &[u32])
+    requires { ⌜ Library (now text) (now rows) ⌝ }
+{
+    let n = type_count(rows);
+    if n < 2 {
+        io::write_all(1, b"none\n");
+        return;
+    }
+    let mut marks = [0u32; 4_096];
+    let mut labels = [0u32; 256];
+    number(&mut labels);
+    let x = TypeKey(n - 2);
+    let y = TypeKey(n - 1);
+    let same = identical_impl(text, rows, &mut marks, &mut labels, x, y, 0);
+    let pairs = pairs_met(&marks);
+    show(same, pairs);
+}
+
+fn one(text: &[u8]) {
+    let mut rows = [0u32; 26_760];
+    match table::load(text, &mut rows) {
+        Loading::Refused(_, _) => {
+            io::write_all(1, b"refused\n");
+        }
+        Loading::Loaded => compare(text, &rows),
+    }
+}
+
+fn all(buf: &mut [u8]) {
+    let mut left: u32 = 10_000;
+    while 0 < left {
+        let Frame::Input(n) = frames::next(buf) else {
+            return;
+        };
+        one(&buf[0..n]);
+        left -= 1;
+    }
+}
+
+fn main() {
+    let mut buf = [0u8; 32_800];
+    all(&mut buf);
+}

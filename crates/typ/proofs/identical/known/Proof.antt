@@ -1,0 +1,65 @@
+use borrow.Author.Needs.{needs}
+use mathlib.Core.Path.{refl, sym, _∙_}
+use mathlib.Core.Logic.{inl, inr}
+use Rattle.objects.proofs.ListLaws.{clash}
+use Rattle.typ.specs.Classes.{OneClass}
+use Rattle.typ.proofs.identical.known.Statement.{statement}
+use Rattle.typ.proofs.identical.known.Tie as tie
+
+cast-if1 : tie.Need-cast-if1
+cast-if1 c = search needs
+
+mul-if1 : tie.Need-mul-if1
+mul-if1 c = search needs
+
+shared-slice-read-if1 : tie.Need-shared-slice-read-if1
+shared-slice-read-if1 c = search needs
+
+cast-if1-2 : tie.Need-cast-if1-2
+cast-if1-2 c = search needs
+
+mul-if1-2 : tie.Need-mul-if1-2
+mul-if1-2 c = search needs
+
+shared-slice-read-if1-2 : tie.Need-shared-slice-read-if1-2
+shared-slice-read-if1-2 c = search needs
+
+returns : tie.Need-returns
+unfolding OneClass
+returns c = (λ _. inl (c .if1 .taken), λ q. clash refl q)
+
+cast-is-met : tie.Need-cast-is-met
+cast-is-met c = search needs
+
+mul-is-met : tie.Need-mul-is-met
+mul-is-met c = search needs
+
+cast-is-met-2 : tie.Need-cast-is-met-2
+cast-is-met-2 c = search needs
+
+add-is-met : tie.Need-add-is-met
+add-is-met c = search needs
+
+is-met-requires : tie.Need-is-met-requires
+is-met-requires c κs = search needs
+
+returns-2 : tie.Need-returns-2
+returns-2 c = (λ q. inr (sym (c .is-met .ensures) ∙ q), λ q. sym (c .is-met .ensures) ∙ q)
+
+pub known-spec : {M : Type 1} → statement M
+known-spec =
+    tie.close
+    (tie.spec
+    cast-if1
+    mul-if1
+    shared-slice-read-if1
+    cast-if1-2
+    mul-if1-2
+    shared-slice-read-if1-2
+    returns
+    cast-is-met
+    mul-is-met
+    cast-is-met-2
+    add-is-met
+    is-met-requires
+    returns-2)

@@ -1,0 +1,35 @@
+//! Tables that take long to load.
+
+use super::{field, Case};
+use crate::table::{Kind, Table};
+
+/// Texts that take long to load, with the question V.
+pub fn long_loads() -> [Case; 4] {
+    let counts = || vec!["V".to_owned()];
+    let mut alike = Table::default();
+    let int = alike.put(Kind::Basic(2), []);
+    let common = "n".repeat(61);
+    alike.put_struct((0..255).map(|k| field(format!("{common}{k:03}"), int, false)));
+    let mut many = Table::default();
+    let int = many.put(Kind::Basic(2), []);
+    for _ in 0..4 {
+        many.put_struct((0..255).map(|k| field(format!("f{k}"), int, false)));
+    }
+    // Each named type stands for the array behind it, which has the next named type in it.
+    let mut rising = Table::default();
+    for k in 0..127 {
+        rising.put(Kind::Named(2 * k + 1), []);
+        rising.put(Kind::Array(1, 2 * k + 2), []);
+    }
+    rising.put(Kind::Named(255), []);
+    rising.put(Kind::Basic(2), []);
+    let mut tuple = Table::default();
+    let int = tuple.put(Kind::Basic(2), []);
+    tuple.put(Kind::Tuple(vec![int; 16_368]), []);
+    [
+        Case::new("255 fields whose names share 61 bytes, V", &alike, counts()),
+        Case::new("four structs of 255 fields, V", &many, counts()),
+        Case::new("a chain by value of rising numbers, V", &rising, counts()),
+        Case::new("a tuple of 16,368 elements, V", &tuple, counts()),
+    ]
+}
