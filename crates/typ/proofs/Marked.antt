@@ -21,7 +21,7 @@ use Rattle.typ.specs.Marks.{met, meet}
 use Rattle.typ.specs.Compared.{pair, opened, Apart, Well, AllMet, NewMet, Leads, Grown, Compared, PartsCompared}
 use Rattle.typ.proofs.Bits.{met-same, met-other, unmet-falls}
 
-pub length-meet : (l : List ℕ) (p : ℕ) → length (meet l p) ≡ length l
+length-meet : (l : List ℕ) (p : ℕ) → length (meet l p) ≡ length l
 unfolding meet
 length-meet l p = simp length-set
 

@@ -73,7 +73,7 @@ named-own x (Named u ms) e = refl
 
 module _ (text : Bytes) (rows : Words) where
   module _ (x : TypeKey) (h : x .0 < typeCount rows) where
-    pub count-parts : length (parts (kindAt (tableOf text rows) x)) ≡ partCount rows x
+    count-parts : length (parts (kindAt (tableOf text rows) x)) ≡ partCount rows x
     count-parts = ap length (parts-read text rows x h) ∙ each-length (partAt rows x) (partCount rows x)
 
     pub named-count : numberRead rows x ≡ 10 → partCount rows x ≡ 0

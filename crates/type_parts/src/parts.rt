@@ -31,7 +31,7 @@ use text::compare::same_part;
 // ---- a type
 
 // "0 both ways, 1 send only, 2 receive only"
-pub fn dir_number(d: Dir) -> u32
+fn dir_number(d: Dir) -> u32
     ensures { λ r. ⌜ r ≡ dirNumber d ⌝ }
 {
     match d {
@@ -72,7 +72,7 @@ fn own_of(rows: &[u32], t: TypeKey) -> u32
 }
 
 // The same. Of struct, iface and tuple it is how many members or elements there are, which is read at once.
-pub fn own_number(rows: &[u32], t: TypeKey) -> u32
+fn own_number(rows: &[u32], t: TypeKey) -> u32
     ensures { λ r. ⌜ r ≡ ownRead (now (rows .entry)) t ⌝ }
 {
     let k = type_word(rows, t, 0);
@@ -165,7 +165,7 @@ pub fn part_in(rows: &[u32], t: TypeKey, k: u32, first: u32, i: u32) -> TypeKey
 // ---- members
 
 // A method has no tag.
-pub fn tag_length(rows: &[u32], m: ObjKey) -> u32
+fn tag_length(rows: &[u32], m: ObjKey) -> u32
     ensures { λ r. ⌜ r ≡ tagLength (now (rows .entry)) m ⌝ }
 {
     if is_method(rows, m) {
@@ -176,7 +176,7 @@ pub fn tag_length(rows: &[u32], m: ObjKey) -> u32
 }
 
 // One identity, both embedded or neither, one tag: "tags count".
-pub fn alike(text: &[u8], rows: &[u32], m: ObjKey, n: ObjKey) -> bool
+fn alike(text: &[u8], rows: &[u32], m: ObjKey, n: ObjKey) -> bool
     requires { ⌜ (hasPackage (tableOf (now text) (now rows)) (memberAt (now text) (now rows) m .pkg) ≡ true) × (hasPackage (tableOf (now text) (now rows)) (memberAt (now text) (now rows) n .pkg) ≡ true) ⌝ }
     ensures { λ r. ⌜ r ≡ alikeMember (tableOf (now (text .entry)) (now (rows .entry))) (memberAt (now (text .entry)) (now (rows .entry)) m) (memberAt (now (text .entry)) (now (rows .entry)) n) ⌝ }
 {
