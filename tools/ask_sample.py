@@ -13,6 +13,7 @@ number; CRATES/typeask gets the example of document 01 alone.
 """
 import sys
 
+from bounds import MEMBERS, OF_ONE, PACKAGES, QUESTION, TEXT, TYPES, full_structs
 from vectors import cases, of_points, read, still_due
 
 HEAD = b'typetable\t1\n'
@@ -26,8 +27,8 @@ def sample(vectors, vectors02):
     for k, case in enumerate(of_points(vectors02)):
         if k < 40 or k % 4 == 0 or b'\nand\t' in case[1]:
             chosen.append(case)
-    # no more than 32,769 bytes of an input are read
-    return [(text[:32769], print_) for text, print_ in chosen]
+    # no more than a byte above the bound of an input is read
+    return [(text[:TEXT + 1], print_) for text, print_ in chosen]
 
 
 def random(path):
@@ -136,43 +137,44 @@ def input_edges():
         (EXAMPLE_TABLE + b'QQ\nQ\nV\n', refused(4, lines_before + 1)),
         (EXAMPLE_TABLE + b'q\nQ\nV\n', refused(4, lines_before + 1)),
         (EXAMPLE_TABLE + b'\nQ\nV\n', refused(4, lines_before + 1)),
-        # "at most 32,768 bytes in all, otherwise it prints refusal 2"; a question of more than 256 bytes is 11
-        (EXAMPLE + b'x' * (32768 - len(EXAMPLE)), EXAMPLE_PRINT + wrong),
-        (EXAMPLE + b'x' * (32769 - len(EXAMPLE)), refused(2, 0)),
+        # more bytes in all than the bound are refusal 2; a question that is too long is 11
+        (EXAMPLE + b'x' * (TEXT - len(EXAMPLE)), EXAMPLE_PRINT + wrong),
+        (EXAMPLE + b'x' * (TEXT + 1 - len(EXAMPLE)), refused(2, 0)),
         (EXAMPLE_TABLE + b'Q\n' + b'\n' * 3000 + b'V', wrong * 3000 + EXAMPLE_COUNTS),
-        (b'x' * 32768, refused(3, 1)),
-        (b'x' * 32769, refused(2, 0)),
-        (b'\n' * 32769, refused(2, 0)),
+        (b'x' * TEXT, refused(3, 1)),
+        (b'x' * (TEXT + 1), refused(2, 0)),
+        (b'\n' * (TEXT + 1), refused(2, 0)),
     ]
 
 
 def bound_edges():
-    """"255 and 256 members, 64- and 65-byte names, 256 and 257 types", and the bounds of packages, members and paths."""
-    fields = [b'F\tX%d\t-\t0\t0' % i for i in range(256)]
-    packages = [b'P\tp%d' % i for i in range(65)]
+    """The bounds of members, names, types, packages and paths: the last that there is room for and the next."""
+    fields = [b'F\tX%d\t-\t0\t0' % i for i in range(OF_ONE + 1)]
+    packages = [b'P\tp%d' % i for i in range(PACKAGES + 1)]
     name = b'n' * 64
-    full = [INT]
-    for _ in range(4):
-        full += [b'T\tstruct'] + fields[:255]
-    full += [b'T\tstruct'] + fields[:4]
+    structs, count = full_structs(fields)
+    full, last = [INT] + structs, MEMBERS % OF_ONE - 1
     return [
         # the field X254 is member 254, at place 254; X255 is not there
-        (asked(table(INT, b'T\tstruct', *fields[:255]), b'V', b'S\t1\t0\t-\tX254', b'S\t1\t0\t-\tX255'), b'ok\t0\t2\t255\nentry\t254\t0\t254\nnotfound\n'),
-        # 6: the "256th member of one type" stands on line 1 + 2 + 256
-        (asked(table(INT, b'T\tstruct', *fields[:256]), b'V', b'S\t1\t0\t-\tX254'), refused(6, 259)),
+        (asked(table(INT, b'T\tstruct', *fields[:OF_ONE]), b'V', b'S\t1\t0\t-\tX%d' % (OF_ONE - 1), b'S\t1\t0\t-\tX%d' % OF_ONE),
+         b'ok\t0\t2\t%d\nentry\t%d\t0\t%d\nnotfound\n' % (OF_ONE, OF_ONE - 1, OF_ONE - 1)),
+        # 6: a member more of one type stands behind the header and two T lines
+        (asked(table(INT, b'T\tstruct', *fields), b'V', b'S\t1\t0\t-\tX0'), refused(6, 1 + 2 + OF_ONE + 1)),
         # "Names: 1 to 64": the name of 64 bytes is found; of 65 it is no name, in a question (11) and in the table (4)
         (asked(table(INT, b'T\tstruct', b'F\t' + name + b'\t-\t0\t0'), b'S\t1\t0\t-\t' + name, b'S\t1\t0\t-\t' + name[1:], b'S\t1\t0\t-\t' + name + b'n', b'V'),
          b'entry\t0\t0\t0\nnotfound\n' + refused(11, 0) + b'ok\t0\t2\t1\n'),
         (asked(table(INT, b'T\tstruct', b'F\t' + name + b'n\t-\t0\t0'), b'V'), refused(4, 4)),
-        # types 0 to 255; 256 is a number that the table lacks (11); a 257th type is 6
-        (asked(table(*[INT] * 256), b'V', b'C\t255', b'C\t256', b'I\t0\t255', b'M\t255'), b'ok\t0\t256\t0\nyes\n' + refused(11, 0) + b'yes\nset\t0\n'),
-        (asked(table(*[INT] * 257), b'V', b'C\t255'), refused(6, 258)),
-        (asked(table(*packages[:64], INT), b'V', b'S\t0\t0\t63\tx', b'S\t0\t0\t64\tx'), b'ok\t64\t1\t0\nnotfound\n' + refused(11, 0)),
-        (asked(table(*packages[:65]), b'V'), refused(6, 66)),
-        # 4 * 255 + 4 members: the last is number 1,023, at place 3 of type 5
-        (asked(table(*full), b'V', b'S\t5\t1\t-\tX3'), b'ok\t0\t6\t1024\nentry\t1023\t0\t3\n'),
-        # the 1,025th member stands on line 1 + 1 + 5 + 1,025
-        (asked(table(*full, b'F\tX9\t-\t0\t0'), b'V'), refused(6, 1032)),
+        # the last type; the number behind it is one that the table lacks (11); a type more is 6
+        (asked(table(*[INT] * TYPES), b'V', b'C\t%d' % (TYPES - 1), b'C\t%d' % TYPES, b'I\t0\t%d' % (TYPES - 1), b'M\t%d' % (TYPES - 1)),
+         b'ok\t0\t%d\t0\nyes\n' % TYPES + refused(11, 0) + b'yes\nset\t0\n'),
+        (asked(table(*[INT] * (TYPES + 1)), b'V', b'C\t0'), refused(6, 1 + TYPES + 1)),
+        (asked(table(*packages[:PACKAGES], INT), b'V', b'S\t0\t0\t%d\tx' % (PACKAGES - 1), b'S\t0\t0\t%d\tx' % PACKAGES),
+         b'ok\t%d\t1\t0\nnotfound\n' % PACKAGES + refused(11, 0)),
+        (asked(table(*packages), b'V'), refused(6, 1 + PACKAGES + 1)),
+        # the last member stands in the last struct, the highest type
+        (asked(table(*full), b'V', b'S\t%d\t1\t-\tX%d' % (count, last)), b'ok\t0\t%d\t%d\nentry\t%d\t0\t%d\n' % (count + 1, MEMBERS, MEMBERS - 1, last)),
+        # a member more stands behind the header, the T lines and all members
+        (asked(table(*full, b'F\tY\t-\t0\t0'), b'V'), refused(6, 1 + 1 + count + MEMBERS + 1)),
         (asked(table(b'P\t' + b'p' * 128), b'V'), b'ok\t1\t0\t0\n'),
         (asked(table(b'P\t' + b'p' * 129), b'V'), refused(4, 2)),
     ]
@@ -244,7 +246,7 @@ def refusal_edges():
         # 11: letter, field count, values, numbers that the table lacks
         (asked(table(INT), b'X', b'C', b'C\t0\t0', b'C\t00', b'C\t1', b'S\t0\t2\t-\tX', b'S\t0\t0\t0\tX', b'S\t0\t0\t-\t1X', b'N\t0\t1\t0', b'v', b' V', b'V\t', b'V'),
          refused(11, 0) * 12 + b'ok\t0\t1\t0\n'),
-        (asked(table(INT), b'V' * 256, b'V' * 257, b'C\t0'), refused(11, 0) * 2 + b'yes\n'),
+        (asked(table(INT), b'V' * QUESTION, b'V' * (QUESTION + 1), b'C\t0'), refused(11, 0) * 2 + b'yes\n'),
         # 12: the second type is not itself of kind iface, also where it is a name of one; an interface without methods is satisfied
         (asked(table(INT, b'T\tiface', b'T\tnamed\t1'), b'N\t0\t0\t0', b'N\t0\t2\t0', b'N\t0\t1\t0', b'N\t0\t3\t0'), refused(12, 0) * 2 + b'satisfied\n' + refused(11, 0)),
     ]

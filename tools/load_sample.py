@@ -9,6 +9,8 @@ gives `refused`, the number and the line, as typeask prints it.
 """
 import sys
 
+from bounds import MEMBERS, OF_ONE, PACKAGES, TEXT, TYPES, full_structs
+
 
 def cases(path):
     data = open(path, 'rb').read()
@@ -41,7 +43,7 @@ def counts(table):
 def loading(case, out):
     """The table of a case and what loading it gives; nothing where the input as a whole is too long."""
     table = table_of(case)
-    if len(case) > 32768:
+    if len(case) > TEXT:
         return None
     first = out.split(b'\n')[0]
     if first.startswith(b'refused\t') and first.split(b'\t')[1] in [b'2', b'3', b'4', b'5', b'6', b'7', b'8', b'9', b'10']:
@@ -73,33 +75,30 @@ def edges():
         return HEAD + b''.join(l + b'\n' for l in lines)
 
     int_type = b'T\tbasic\t2'
-    fields = [b'F\tX%d\t-\t0\t0' % i for i in range(256)]
-    packages = [b'P\tp%d' % i for i in range(65)]
+    fields = [b'F\tX%d\t-\t0\t0' % i for i in range(OF_ONE + 1)]
+    packages = [b'P\tp%d' % i for i in range(PACKAGES + 1)]
     long_name = b'F\t' + b'n' * 65 + b'\t-\t0\t0'
-    # 1,024 members: four structs of 255 fields and one of 4
-    full = [int_type]
-    for _ in range(4):
-        full += [b'T\tstruct'] + fields[:255]
-    full += [b'T\tstruct'] + fields[:4]
+    structs, count = full_structs(fields)
+    full = [int_type] + structs
     wide = HEAD + b'P\t' + b'p' * 128 + b'\n'
-    comment = b'T\ttuple' + b'\t0' * ((32768 - len(HEAD) - len(int_type) - 1 - len(b'T\ttuple') - 1) // 2)
+    comment = b'T\ttuple' + b'\t0' * ((TEXT - len(HEAD) - len(int_type) - 1 - len(b'T\ttuple') - 1) // 2)
     tuple_line = table(int_type, comment)
-    tuple_line = tuple_line[:-1] + b'0\n' if len(tuple_line) < 32768 else tuple_line
+    tuple_line = tuple_line[:-1] + b'0\n' if len(tuple_line) < TEXT else tuple_line
     return [
-        (table(int_type, b'T\tstruct', *fields[:255]), b'ok\t0\t2\t255\n'),
-        (table(int_type, b'T\tstruct', *fields[:256]), refused(6, 259)),
+        (table(int_type, b'T\tstruct', *fields[:OF_ONE]), b'ok\t0\t2\t%d\n' % OF_ONE),
+        (table(int_type, b'T\tstruct', *fields), refused(6, 1 + 2 + OF_ONE + 1)),
         (table(int_type, b'T\tstruct', long_name.replace(b'n' * 65, b'n' * 64)), b'ok\t0\t2\t1\n'),
         (table(int_type, b'T\tstruct', long_name), refused(4, 4)),
-        (table(*[int_type] * 256), b'ok\t0\t256\t0\n'),
-        (table(*[int_type] * 257), refused(6, 258)),
-        (table(*packages[:64]), b'ok\t64\t0\t0\n'),
-        (table(*packages[:65]), refused(6, 66)),
-        (table(*full), b'ok\t0\t6\t1024\n'),
-        (table(*full, b'F\tX9\t-\t0\t0'), refused(6, 1032)),
+        (table(*[int_type] * TYPES), b'ok\t0\t%d\t0\n' % TYPES),
+        (table(*[int_type] * (TYPES + 1)), refused(6, 1 + TYPES + 1)),
+        (table(*packages[:PACKAGES]), b'ok\t%d\t0\t0\n' % PACKAGES),
+        (table(*packages), refused(6, 1 + PACKAGES + 1)),
+        (table(*full), b'ok\t0\t%d\t%d\n' % (count + 1, MEMBERS)),
+        (table(*full, b'F\tY\t-\t0\t0'), refused(6, 1 + 1 + count + MEMBERS + 1)),
         (wide, b'ok\t1\t0\t0\n'),
         (wide[:-1] + b'p\n', refused(4, 2)),
-        (tuple_line, b'ok\t0\t2\t0\n' if len(tuple_line) == 32768 and not tuple_line.endswith(b'00\n') else refused(4, 3)),
-        (tuple_line + b'\n' * (32769 - len(tuple_line)), refused(2, 0)),
+        (tuple_line, b'ok\t0\t2\t0\n' if len(tuple_line) == TEXT and not tuple_line.endswith(b'00\n') else refused(4, 3)),
+        (tuple_line + b'\n' * (TEXT + 1 - len(tuple_line)), refused(2, 0)),
         (HEAD, b'ok\t0\t0\t0\n'),
         (b'', refused(3, 1)),
         (HEAD[:-1], refused(3, 1)),
@@ -107,8 +106,8 @@ def edges():
         (HEAD + int_type + b'\r\n', refused(4, 2)),
         (HEAD + b'\x00\n', refused(4, 2)),
         (HEAD + b'P\t\xff\n', refused(4, 2)),
-        (b'x' * 32768, refused(3, 1)),
-        (b'x' * 32769, refused(2, 0)),
+        (b'x' * TEXT, refused(3, 1)),
+        (b'x' * (TEXT + 1), refused(2, 0)),
     ]
 
 

@@ -171,9 +171,9 @@ def far_below():
     x, y = [table.put('struct', line.format(number)) for line, in OTHER_TAG]
     for _ in range(126):
         x, y = table.put(f'pointer {x}'), table.put(f'pointer {y}')
-    # At level 250, below one pair of each level. From level 250 on a pair of structs is put off: it is met, and its parts are not looked at. So without the tag
-    # the two are the 251st pair, and their fields, an int and a pointer, do not tell them apart yet.
-    return [no(table, 126), no(chain(' json'), 250), yes(chain(''), 251)]
+    # At level 250, below one pair of each level. No pair of structs is put off: without the tag the two are the 251st pair, and their fields, an int and a
+    # pointer, tell them apart.
+    return [no(table, 126), no(chain(' json'), 250), no(chain(''), 251)]
 
 
 def chain(tag):

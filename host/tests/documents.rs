@@ -1,6 +1,7 @@
 //! The examples of the documents, run: each block ```typeask is an input of the program, and the block ```prints
 //! behind it is what the program prints.
 
+mod bounds;
 mod typeask;
 
 use std::collections::BTreeSet;

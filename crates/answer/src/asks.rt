@@ -16,10 +16,18 @@ ghost use Rattle.levels.specs.Hits.{Scratch};
 ghost use Rattle.first_hits.specs.Hits.{Held};
 ghost use Rattle.reply.specs.Done.{Does, due};
 use first_hits::FirstHit;
+use first_hits::HIT_WORDS;
 use lookup::lookup_field_or_method;
 use lookup::missing::missing_method;
 use multiples::EmbeddedType;
+use multiples::RECORD_WORDS;
 use objects::TypeKey;
+use objects::bounds::FEW_RECORDS;
+use objects::bounds::MAX_MEMBERS;
+use objects::bounds::MAX_PLACES;
+use objects::bounds::MAX_TYPES;
+use objects::bounds::SOME_MEMBERS;
+use objects::bounds::SOME_RECORDS;
 use objects::rows::member_count;
 use objects::rows::type_count;
 use reply::Done;
@@ -34,17 +42,8 @@ use typ::comparable::comparable;
 use typ::identical::identical;
 
 // A search is lent two records for each type, of an array that is the shorter the fewer types there are: clearing it is much of the time of a question on a
-// small table.
-const RECORDS: usize = 512;
-
-const SOME_RECORDS: usize = 256;
-
-const FEW_RECORDS: usize = 64;
-
-// M is lent a word and a first hit for each member, likewise.
-const MEMBERS: usize = 1_024;
-
-const SOME_MEMBERS: usize = 256;
+// small table. M is lent a word and a first hit for each member, likewise.
+const RECORDS: usize = 2 * MAX_TYPES;
 
 // S, with the places behind two words that are left free.
 fn select_behind(
@@ -79,7 +78,7 @@ fn ask_s_on(
     requires { ⌜ (t .0 < typeCount (now rows)) × (hasPackage (tableOf (now text) (now rows)) (packageMeant (q .pkg)) ≡ true) × ((places : Words) → 2 * maxPlaces ≤ length places → Scratch (now rows) (now walk) places) ⌝ }
     ensures { λ r. ⌜ Does (due (tableOf (now (text .entry)) (now (rows .entry))) (length (now (answer .entry))) (askS t a (packageMeant (q .pkg)) (bytesAt (now (line .entry)) (q .at) (q .len)))) r (now (answer .entry)) (now (answer .exit)) ⌝ }
 {
-    let mut numbers = [0u32; 514];
+    let mut numbers = [0u32; 2 + 2 * MAX_PLACES];
     let s = select_behind(text, rows, walk, &mut numbers, line, q, t, a);
     say_selected(answer, s, &mut numbers)
 }
@@ -99,14 +98,14 @@ pub fn ask_s(
 {
     let n = 2 * type_count(rows) as usize;
     if n <= FEW_RECORDS {
-        let mut walk = [[0u32; 8]; FEW_RECORDS];
+        let mut walk = [[0u32; RECORD_WORDS]; FEW_RECORDS];
         return ask_s_on(text, rows, &mut walk[..n], line, answer, q, t, a);
     }
     if n <= SOME_RECORDS {
-        let mut walk = [[0u32; 8]; SOME_RECORDS];
+        let mut walk = [[0u32; RECORD_WORDS]; SOME_RECORDS];
         return ask_s_on(text, rows, &mut walk[..n], line, answer, q, t, a);
     }
-    let mut walk = [[0u32; 8]; RECORDS];
+    let mut walk = [[0u32; RECORD_WORDS]; RECORDS];
     ask_s_on(text, rows, &mut walk[..n], line, answer, q, t, a)
 }
 
@@ -135,14 +134,14 @@ pub fn ask_m(text: &[u8], rows: &[u32], answer: &mut [u8], t: TypeKey) -> Done
 {
     let n = 2 * type_count(rows) as usize;
     if n <= SOME_RECORDS && member_count(rows) as usize <= SOME_MEMBERS {
-        let mut walk = [[0u32; 8]; SOME_RECORDS];
+        let mut walk = [[0u32; RECORD_WORDS]; SOME_RECORDS];
         let mut names = [0u32; SOME_MEMBERS];
-        let mut hits = [[0u32; 3]; SOME_MEMBERS];
+        let mut hits = [[0u32; HIT_WORDS]; SOME_MEMBERS];
         return ask_m_on(text, rows, &mut walk[..n], &mut names, &mut hits, answer, t);
     }
-    let mut walk = [[0u32; 8]; RECORDS];
-    let mut names = [0u32; MEMBERS];
-    let mut hits = [[0u32; 3]; MEMBERS];
+    let mut walk = [[0u32; RECORD_WORDS]; RECORDS];
+    let mut names = [0u32; MAX_MEMBERS];
+    let mut hits = [[0u32; HIT_WORDS]; MAX_MEMBERS];
     ask_m_on(text, rows, &mut walk[..n], &mut names, &mut hits, answer, t)
 }
 
@@ -163,7 +162,7 @@ fn ask_n_on(
     ensures { λ r. ⌜ Does (due (tableOf (now (text .entry)) (now (rows .entry))) (length (now (answer .entry))) (askN t i s)) r (now (answer .entry)) (now (answer .exit)) ⌝ }
     ensures { λ _. ⌜ now (marks .exit) ≡ now (marks .entry) ⌝ }
 {
-    let mut places = [0u32; 512];
+    let mut places = [0u32; 2 * MAX_PLACES];
     let m = missing_method(text, rows, marks, walk, &mut places, t, i, s);
     say_missing(answer, m)
 }
@@ -185,14 +184,14 @@ pub fn ask_n(
 {
     let n = 2 * type_count(rows) as usize;
     if n <= FEW_RECORDS {
-        let mut walk = [[0u32; 8]; FEW_RECORDS];
+        let mut walk = [[0u32; RECORD_WORDS]; FEW_RECORDS];
         return ask_n_on(text, rows, marks, &mut walk[..n], answer, t, i, s);
     }
     if n <= SOME_RECORDS {
-        let mut walk = [[0u32; 8]; SOME_RECORDS];
+        let mut walk = [[0u32; RECORD_WORDS]; SOME_RECORDS];
         return ask_n_on(text, rows, marks, &mut walk[..n], answer, t, i, s);
     }
-    let mut walk = [[0u32; 8]; RECORDS];
+    let mut walk = [[0u32; RECORD_WORDS]; RECORDS];
     ask_n_on(text, rows, marks, &mut walk[..n], answer, t, i, s)
 }
 

@@ -26,15 +26,15 @@ abbrev pub half : ℕ
 half = 16_384
 
 abbrev pub allMarks : ℕ
-allMarks = 32_768
+allMarks = 2 * half
 
 -- words that hold them, 32 to a word
 abbrev pub bitWords : ℕ
-bitWords = 1_024
+bitWords = allMarks / 32
 
 -- numbers under which names are marked
 abbrev pub numbers : ℕ
-numbers = 512
+numbers = 2 * maxTypes
 
 -- that of the fields of a struct; a type's own is its number
 unfoldable pub fieldsNumber : ℕ → ℕ
@@ -58,7 +58,7 @@ unfoldable pub placeOf : ℕ → ℕ → ℕ
 placeOf k h = (h + k * 2_654_435) * 69_069 % hashes
 
 unfoldable pub highPlace : ℕ → ℕ
-highPlace p = p / 262_144
+highPlace p = p / (hashes / half)
 
 unfoldable pub lowPlace : ℕ → ℕ
 lowPlace p = half + (p + p / 65_536) % half

@@ -19,6 +19,7 @@ ghost use Rattle.rules.specs.Stages.{firstLine, linesUnder};
 ghost use Rattle.references.specs.Lines.{linesRead};
 ghost use Rattle.clashes.specs.Known.{PackagedFrom, Packaged, Rising};
 ghost use Rattle.clashes.specs.Marks.{hashes, bitWords, placeOf, fieldsNumber, MarkedAt, Grows, Noted, Ready, Readied, Prepared, Seen, Looked};
+use crate::marks::BIT_WORDS;
 use crate::marks::fields_number;
 use crate::marks::marked;
 use crate::marks::meet;
@@ -31,6 +32,7 @@ use obj::same_member;
 use objects::ObjKey;
 use objects::Stage;
 use objects::TypeKey;
+use objects::bounds::MAX_TYPES;
 use objects::rows::first_member;
 use objects::rows::kind_number;
 use objects::rows::member_total;
@@ -41,10 +43,6 @@ use references::member_lines;
 use text::bytes::or;
 
 pub mod marks; // which names were met
-
-const BIT_WORDS: usize = 1_024;
-
-const MAX_TYPES: usize = 256;
 
 // ---- members of one identity
 

@@ -8,11 +8,25 @@ ghost use Rattle.objects.specs.Bounds.{maxElements};
 ghost use Rattle.objects.specs.Rows.{memberAt, membersFrom};
 ghost use Rattle.clashes.specs.Marks.{hashes, numbers, fieldsNumber, allMarks, bitWords, hashRest, hashFrom, placeOf, highPlace, lowPlace, bitAt, MarkedAt, Grows, Met, Noted};
 use objects::ObjKey;
+use objects::bounds::MAX_TYPES;
 use objects::rows::member_word;
 use objects::rows::word;
 use text::bytes::wide;
 use text::compare::four;
 use text::compare::span;
+
+// Values of a hash.
+const HASHES: u64 = 4_294_967_296;
+
+// Marks of one half, hashes to a mark, and the words of both halves.
+const HALF: u64 = 16_384;
+
+const SPREAD: u64 = HASHES / HALF;
+
+pub const BIT_WORDS: usize = 2 * HALF as usize / 32;
+
+// A type's own names are marked under its number, the fields of a struct under a number further on.
+const FIELDS_FROM: u32 = MAX_TYPES as u32;
 
 // ---- places
 
@@ -25,7 +39,7 @@ fn hash_rest(name: &[u8], at: usize, before: u64) -> u64
     let mut h = before;
     let mut i = at;
     while i < name.len() {
-        h = (h + wide(name[i])) * 1_103_515 % 4_294_967_296;
+        h = (h + wide(name[i])) * 1_103_515 % HASHES;
         i += 1;
     }
     h
@@ -38,7 +52,7 @@ pub fn hash(name: &[u8]) -> u64
     let mut h: u64 = 0;
     let mut i: usize = 0;
     while 4 <= name.len() - i {
-        h = (h + four(name, i)) * 1_103_515 % 4_294_967_296;
+        h = (h + four(name, i)) * 1_103_515 % HASHES;
         i += 4;
     }
     hash_rest(name, i, h)
@@ -60,7 +74,7 @@ pub fn fields_number(u: u32) -> u32
     ensures { λ r. ⌜ r ≡ fieldsNumber u ⌝ }
     ensures { λ r. ⌜ r < numbers ⌝ }
 {
-    256 + u % 256
+    FIELDS_FROM + u % FIELDS_FROM
 }
 
 // The place of a hash under a number.
@@ -69,7 +83,7 @@ pub fn place(k: u32, h: u64) -> u64
     ensures { λ r. ⌜ r ≡ placeOf k h ⌝ }
     ensures { λ r. ⌜ r < hashes ⌝ }
 {
-    (h + k as u64 * 2_654_435) * 69_069 % 4_294_967_296
+    (h + k as u64 * 2_654_435) * 69_069 % HASHES
 }
 
 fn high(p: u64) -> usize
@@ -77,7 +91,7 @@ fn high(p: u64) -> usize
     ensures { λ r. ⌜ r ≡ highPlace p ⌝ }
     ensures { λ r. ⌜ r < allMarks ⌝ }
 {
-    (p / 262_144) as usize
+    (p / SPREAD) as usize
 }
 
 fn low(p: u64) -> usize
@@ -85,7 +99,7 @@ fn low(p: u64) -> usize
     ensures { λ r. ⌜ r ≡ lowPlace p ⌝ }
     ensures { λ r. ⌜ r < allMarks ⌝ }
 {
-    (16_384 + (p + p / 65_536) % 16_384) as usize
+    (HALF + (p + p / 65_536) % HALF) as usize
 }
 
 // ---- marks

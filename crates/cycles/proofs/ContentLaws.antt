@@ -6,6 +6,7 @@ use Prim.Native.Nat.{ℕ, _+_, _<_, _≤_}
 use native.Mathlib.Omega.{arith}
 use lib.Dec.{eqb, ltb}
 use borrow.Author.Tests.{le-ltb, ne-eqb, ltb-true, ltb-false}
+use Rattle.objects.specs.Bounds.{maxElements}
 use Rattle.objects.specs.declared.TypeKey.{TypeKey}
 use Rattle.objects.specs.Lists.{Bytes, In, upTo}
 use Rattle.objects.specs.Table.{typeKey, objKey, byValue, size}
@@ -121,7 +122,7 @@ module _ (rows : Words) (t : TypeKey) {k : ℕ} (q : k ≡ numberRead rows t) wh
     content-named a b p = ap typeKey p ∙ sym (rw (← q, ne-eqb k 8 b, ne-eqb k 1 a))
 
   -- the number of a field is that of a member
-  pub field-small : Laid rows → t .0 < typeCount rows → k ≡ 8 → {first : ℕ} → first ≡ firstRead rows t → (i : ℕ) → i < contentTotal rows t → first + i < 65_536
+  pub field-small : Laid rows → t .0 < typeCount rows → k ≡ 8 → {first : ℕ} → first ≡ firstRead rows t → (i : ℕ) → i < contentTotal rows t → first + i < maxElements
   unfolding contentTotal firstRead totalRead endOf
   field-small laid h e f i l =
       let w = laid .within t h in

@@ -1,5 +1,6 @@
 -- The scratch words of src/climb.rt: three for each type.
-use Prim.Native.Nat.{ℕ}
+use Prim.Native.Nat.{ℕ, _*_}
+use Rattle.objects.specs.Bounds.{maxTypes}
 
 abbrev pub climbWords : ℕ
-climbWords = 768
+climbWords = 3 * maxTypes

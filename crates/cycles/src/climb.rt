@@ -12,20 +12,20 @@ use crate::contents::content_total;
 use crate::ranks::give;
 use crate::ranks::rank;
 use objects::TypeKey;
+use objects::bounds::MAX_MEMBERS;
+use objects::bounds::MAX_TYPES;
 use objects::rows::type_count;
 use objects::rows::word;
 
 // The scratch words: for each type whether it was met, then for each how many of its contents were looked at, then the types on the way from the first.
-const MAX_TYPES: usize = 256;
+const LOOKED_AT: usize = MAX_TYPES;
 
-const LOOKED_AT: usize = 256;
+const WAY_AT: usize = LOOKED_AT + MAX_TYPES;
 
-const WAY_AT: usize = 512;
+const CLIMB_WORDS: usize = WAY_AT + MAX_TYPES;
 
-const CLIMB_WORDS: usize = 768;
-
-// More than there are types and contents.
-const MAX_STEPS: u32 = 4_096;
+// More than there are types, and contents of types: those that are no members are fewer than the types.
+const MAX_STEPS: u32 = (2 * MAX_TYPES + MAX_MEMBERS) as u32;
 
 // How long the way is, and the next rank.
 pub struct Climb {

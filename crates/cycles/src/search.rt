@@ -1,5 +1,4 @@
 // Whether a type contains itself by value: types are met once, in a queue, and each is looked at in turn.
-ghost use mathlib.Core.Path.{_≡_};
 ghost use Prim.Native.Nat.{_<_, _≤_};
 ghost use lib.ListN.{length};
 ghost use Rattle.objects.specs.Bounds.{maxTypes};
@@ -14,12 +13,10 @@ use crate::contents::content_total;
 use crate::ranks::rank;
 use objects::Stage;
 use objects::TypeKey;
+use objects::bounds::MAX_TYPES;
 use objects::rows::type_count;
 use objects::rows::type_word;
 use objects::rows::word;
-
-// "256 types"
-const MAX_TYPES: usize = 256;
 
 // A type that was not met is marked and goes to the end of the queue. Answers the new end.
 fn push(marks: &mut [u32], queue: &mut [u32], end: usize, e: TypeKey) -> usize

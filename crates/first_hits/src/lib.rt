@@ -6,7 +6,9 @@ pub mod gather; // the methods, row by row
 pub mod names; // names in order
 
 // What is kept of a name, under the key of the method that was met first.
-pub type FirstHit = [u32; 3];
+pub const HIT_WORDS: usize = 3;
+
+pub type FirstHit = [u32; HIT_WORDS];
 
 // the row where that method was met
 pub const ROW: usize = 0;

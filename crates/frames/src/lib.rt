@@ -2,6 +2,10 @@
 ghost use Prim.Native.Nat.{_≤_};
 ghost use lib.ListN.{length};
 ghost use Rattle.frames.specs.Frames.{Fits};
+use objects::bounds::MAX_TEXT;
+
+// A buffer of so many bytes takes inputs that are longer than any that loads.
+pub const ROOM: usize = MAX_TEXT + 32;
 
 // The next input, by its length, or no further one.
 pub enum Frame {

@@ -13,13 +13,11 @@ use crate::Small;
 use crate::Typed;
 use objects::Package;
 use objects::PackageKey;
+use objects::bounds::MAX_REFERENCE;
 use text::Cursor;
 use text::Num;
 use text::Part;
 use text::Past;
-
-// "A type or package number of more than four digits has a wrong form."
-pub const MAX_REFERENCE: u32 = 9_999;
 
 pub fn small(s: &[u8], c: Cursor, max: u32) -> Small
     ensures { λ r. ⌜ smallRead (now (s .entry)) r ≡ numbered max (fieldsLeft (now (s .entry)) c) ⌝ }

@@ -12,17 +12,15 @@ use crate::Form;
 use crate::Piece;
 use crate::Small;
 use crate::Typed;
-use crate::fields::MAX_REFERENCE;
 use crate::fields::method_name;
 use crate::fields::placed;
 use crate::fields::small;
 use crate::fields::typed;
+use objects::bounds::MAX_ARRAY;
+use objects::bounds::MAX_BASIC;
+use objects::bounds::MAX_REFERENCE;
 use text::Cursor;
 use text::Past;
-
-pub const MAX_BASIC: u32 = 27;
-
-pub const MAX_ARRAY: u32 = 4_294_967_295;
 
 // ---- T lines, by how many numbers stand behind the kind's word
 

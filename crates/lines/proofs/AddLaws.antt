@@ -1,25 +1,24 @@
 -- What one line leaves (4 to 6), by what the code has tested and what the writers say of the rows.
 use mathlib.Core.Path.{_≡_, refl, sym, ap, _∙_}
 use mathlib.Core.Bool.{Bool, true, false}
-use mathlib.Core.List.{List, [], _∷_, _++_}
+use mathlib.Core.List.{[]}
 use mathlib.Core.Logic.{_≢_}
-use mathlib.Core.Option.{Option, none, some}
+use mathlib.Core.Option.{Option, some}
 use Prim.Native.Nat.{ℕ, _+_, _≤_, _<_}
 use native.Mathlib.Omega.{arith}
 use lib.Dec.{eqb, ltb}
 use lib.ListN.{length}
 use borrow.Author.Tests.{eq-eqb, ne-eqb, lt-ltb, le-ltb}
-use Rattle.objects.specs.declared.TypeKey.{TypeKey}
 use Rattle.objects.specs.declared.PackageKey.{PackageKey}
 use Rattle.objects.specs.declared.«Package».{«Package»}
-use Rattle.objects.specs.Bounds.{maxPackages, maxTypes, maxMembers, rowWords}
+use Rattle.objects.specs.Bounds.{maxPackages, maxTypes, maxMembers, rowWords, bounds}
 use Rattle.objects.specs.Lists.{Bytes}
-use Rattle.objects.specs.Table.{Table, Member, Kind, Basic, typeKey, objKey, kindNumber, memberCount, Numbered}
+use Rattle.objects.specs.Table.{Table, Kind, typeKey, kindNumber, memberCount, Numbered}
 use Rattle.objects.specs.Rows.{Words, packageCount, typeCount, memberCountOf, elementCount, typeWord, bytesAt, packageMeant, entityOf, kindOf, membersFrom, elementsFrom, tableOf}
 use Rattle.objects.specs.Laid.{used, Laid, Holds, lastType, memberOf, plusPackage, plusType, plusMember}
 use Rattle.objects.proofs.RowLaws.{size-read, member-count-read, package-count-read}
 use Rattle.rules.specs.Forms.{Line, packageLine, typeLine, memberLine}
-use Rattle.rules.specs.Load.{Loaded, refused, loaded, lastKind, added, inPlace, hasRoom, placed, lineAdded}
+use Rattle.rules.specs.Load.{refused, loaded, lastKind, added, inPlace, hasRoom, lineAdded}
 use Rattle.line_forms.specs.Steps.{bareKind}
 use Rattle.line_forms.specs.Weights.{elementsOf}
 use Rattle.lines.specs.declared.Verdict.{Verdict}
@@ -30,7 +29,7 @@ use Rattle.lines.proofs.AboveLaws.{no-types, no-tuple, stands-at, stand
 
 module _ (text : Bytes) (rows : Words) (line : ℕ) where
   -- what is written where the line is refused is of no account
-  pub refusing : {after : Words} (o : Option Line) (n : ℕ) → Laid after → lineAdded (tableOf text rows) line o ≡ refused n line → Grown text rows line o after (Verdict.Refused n)
+  pub refusing : {after : Words} (o : Option Line) (n : ℕ) → Laid after → lineAdded bounds (tableOf text rows) line o ≡ refused n line → Grown text rows line o after (Verdict.Refused n)
   unfolding verdictMeant
   refusing o n laid e = record { meant = e; laid = laid; few = tt }
 
@@ -38,10 +37,10 @@ module _ (text : Bytes) (rows : Words) (line : ℕ) where
     pub misplaced : Laid rows → inPlace (tableOf text rows) l ≡ false → Grown text rows line (some l) rows (Verdict.Refused 5)
     misplaced laid e = refusing (some l) 5 laid (rw e)
 
-    pub crowded : Laid rows → inPlace (tableOf text rows) l ≡ true → hasRoom (tableOf text rows) l ≡ false → Grown text rows line (some l) rows (Verdict.Refused 6)
+    pub crowded : Laid rows → inPlace (tableOf text rows) l ≡ true → hasRoom bounds (tableOf text rows) l ≡ false → Grown text rows line (some l) rows (Verdict.Refused 6)
     crowded laid e h = refusing (some l) 6 laid (rw (e, h))
 
-    pub adding : (after : Words) → Laid after → inPlace (tableOf text rows) l ≡ true → hasRoom (tableOf text rows) l ≡ true → tableOf text after ≡ added (tableOf text rows) line l
+    pub adding : (after : Words) → Laid after → inPlace (tableOf text rows) l ≡ true → hasRoom bounds (tableOf text rows) l ≡ true → tableOf text after ≡ added (tableOf text rows) line l
         → elementCount after ≤ elementCount rows + elementsOf (some l) → Grown text rows line (some l) after Verdict.Added
     unfolding verdictMeant
     adding after laid e h t few = record { meant = rw (e, h) (ap loaded (sym t)); laid = laid; few = few }
@@ -117,7 +116,7 @@ module _ (rows : Words) (line name count : ℕ) (pkg : «Package») (t form tag 
     kind-big : (text : Bytes) → 8 ≤ kindNumber (lastKind (tableOf text rows))
     kind-big text = let z = standing form k (sym q ∙ e) in let w = p text in omega arith
 
-    room-is : (text : Bytes) → hasRoom (tableOf text rows) (member text) ≡ u
+    room-is : (text : Bytes) → hasRoom bounds (tableOf text rows) (member text) ≡ u
     room-is text = room-meant text rows (kind-big text) ∙ sym r
 
     pub member-crowded : u ≡ false → (text : Bytes) → Grown text rows line (some (member text)) rows (Verdict.Refused 6)

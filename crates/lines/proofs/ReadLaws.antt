@@ -1,37 +1,36 @@
 -- The whole text, line by line (2 to 6): the header, and what is left to read.
 use mathlib.Core.Path.{_≡_, refl, sym, ap, subst, _∙_}
-use mathlib.Core.Bool.{Bool, true, false, cond, not, _&&_}
+use mathlib.Core.Bool.{Bool, true, false, cond, _&&_}
 use mathlib.Core.List.{List, [], _∷_, _++_}
 use mathlib.Core.Option.{Option, none, some}
-use Prim.Native.Nat.{ℕ, suc, _+_, _*_, _-_, _≤_, _<_}
+use Prim.Native.Nat.{ℕ, suc, _+_, _-_, _≤_, _<_}
 use native.Mathlib.Numerals.{add-one}
 use native.Mathlib.Omega.{arith}
-use lib.Dec.{eqb, ltb}
+use lib.Dec.{eqb}
 use lib.ListN.{length, getD, take, drop, replicate, getD-replicate, length-take, length-drop, length-append, take-append-drop}
 use borrow.Author.Tests.{eq-eqb, ne-eqb, eqb-true, lt-ltb, le-ltb}
-use Rattle.objects.specs.Bounds.{maxText, membersAt}
+use Rattle.objects.specs.Bounds.{maxText, membersAt, bounds}
 use Rattle.objects.specs.Lists.{Bytes, empty, any}
 use Rattle.objects.specs.Table.{Table, memberCount}
 use Rattle.objects.specs.Rows.{Words, wordAt, memberCountOf, elementCount, tableOf}
-use Rattle.objects.specs.Laid.{Laid, Holds}
+use Rattle.objects.specs.Laid.{Laid}
 use Rattle.objects.proofs.ListLaws.{cases, clash, or-l, or-r}
 use Rattle.objects.proofs.RowLaws.{member-count-read}
-use Rattle.objects.proofs.Writing.{emptyTable, zeros-hold}
+use Rattle.objects.proofs.Writing.{zeros-hold}
 use Rattle.text.specs.declared.Cursor.{Cursor}
 use Rattle.text.specs.Bytes.{ascii, sameBytes}
 use Rattle.text.specs.Lines.{before, split, pieces, fields}
 use Rattle.text.specs.Cursors.{part, lineEnd, fieldsLeft}
-use Rattle.text.proofs.ByteLaws.{same-true, same-refl}
+use Rattle.text.proofs.ByteLaws.{same-true}
 use Rattle.text.proofs.LineLaws.{Free, split-at, split-first}
 use Rattle.text.proofs.LineEnds.{pieces-at, line-within}
 use Rattle.rules.specs.Forms.{Line, packageLine, typeLine, memberLine, lineOf}
-use Rattle.rules.specs.Load.{Loaded, refused, loaded, added, inPlace, hasRoom, lineAdded, linesFrom, thenChecked, noTable, headed, load}
+use Rattle.rules.specs.Load.{Loaded, refused, loaded, added, inPlace, hasRoom, lineAdded, linesFrom, thenChecked, noTable, headed, loadWithin, load}
 use Rattle.line_forms.specs.Weights.{weight, lineMembers, membersIn}
 use Rattle.line_forms.proofs.Weights.{fields-weight, brought}
 use Rattle.lines.specs.declared.Verdict.{Verdict}
-use Rattle.lines.specs.declared.Read.{Read}
 use Rattle.lines.specs.Adding.{verdictMeant, bytesTaken, Grown}
-use Rattle.lines.specs.Reading.{readMeant, header}
+use Rattle.lines.specs.Reading.{header}
 
 -- ---- the header
 
@@ -63,19 +62,19 @@ header-test (v ∷ w) (b ∷ s) f =
     go false e ps x [] q h = let k = rw q at h in rw (e, q, k) (cases (eqb b v) (λ i. rw i) (λ i. rw i))
     go false e ps x (y ∷ r) q h = let k = rw q at h in rw (e, q, k)
 
-headed-opens : (w : Bytes) (ps : List Bytes) → w ≡ ascii "typetable\t1" → opens w ps ≡ false → headed ps ≡ refused 3 1
+headed-opens : (w : Bytes) (ps : List Bytes) → w ≡ ascii "typetable\t1" → opens w ps ≡ false → headed bounds ps ≡ refused 3 1
 headed-opens w [] e h = refl
 headed-opens w (p ∷ []) e h = refl
 headed-opens w (p ∷ q ∷ ps) e h = let k = rw e at h in rw k
 
 module _ (text : Bytes) where
   pub too-long : maxText < length text → load text ≡ thenChecked (refused 2 0)
-  unfolding load
+  unfolding loadWithin
   too-long h = rw (lt-ltb maxText (length text) h)
 
   module _ (short : length text ≤ maxText) {t : Bool} (p : t ≡ sameBytes (take (length header) (drop 0 text)) header) where
     pub no-header : t ≡ false → load text ≡ thenChecked (refused 3 1)
-    unfolding load pieces
+    unfolding loadWithin pieces
     no-header e =
         rw (le-ltb maxText (length text) short)
         (headed-opens (ascii "typetable\t1") (split 10 text) refl (sym (header-test (ascii "typetable\t1") text refl) ∙ sym p ∙ e))
@@ -86,8 +85,8 @@ module _ (text : Bytes) where
         let l = length-take 12 text in
         omega arith
 
-    pub header-read : t ≡ true → load text ≡ thenChecked (linesFrom 2 noTable (pieces (drop (length header) text)))
-    unfolding load pieces
+    pub header-read : t ≡ true → load text ≡ thenChecked (linesFrom bounds 2 noTable (pieces (drop (length header) text)))
+    unfolding loadWithin pieces
     header-read e =
         let k = same-true (take 12 text) (ascii "typetable\t1\n") (sym p ∙ e) in
         let d : text ≡ ascii "typetable\t1" ++ (10 ∷ drop 12 text) = sym (take-append-drop 12 text) ∙ ap (λ x. x ++ drop 12 text) k in
@@ -108,12 +107,12 @@ members-added T line (packageLine path) = omega arith
 members-added T line (typeLine k) = omega arith
 members-added T line (memberLine name pkg type e) = length-append (T .memberLines) (line ∷ [])
 
-members-few : (T : Table) (line : ℕ) (o : Option Line) → membersLoaded (lineAdded T line o) ≤ memberCount T + membersIn o
+members-few : (T : Table) (line : ℕ) (o : Option Line) → membersLoaded (lineAdded bounds T line o) ≤ memberCount T + membersIn o
 unfolding membersIn
 members-few T line none = omega arith
 members-few T line (some l) =
     let m = members-added T line l in
-    cases (inPlace T l) (λ e. cases (hasRoom T l) (λ h. rw (e, h) (omega arith)) (λ h. rw (e, h) (omega arith))) (λ e. rw e (omega arith))
+    cases (inPlace T l) (λ e. cases (hasRoom bounds T l) (λ h. rw (e, h) (omega arith)) (λ h. rw (e, h) (omega arith))) (λ e. rw e (omega arith))
 
 members-grown : (text : Bytes) (rows after : Words) (line : ℕ) (o : Option Line) → Grown text rows line o after Verdict.Added → memberCountOf after ≤ memberCountOf rows + membersIn o
 unfolding verdictMeant
@@ -127,11 +126,11 @@ members-grown text rows after line o g =
 -- ---- what is left
 
 module _ (line : ℕ) (T : Table) (p x : Bytes) (r : List Bytes) where
-  step-refused : (n l : ℕ) → lineAdded T line (lineOf (fields p)) ≡ refused n l → linesFrom line T (p ∷ x ∷ r) ≡ refused n l
+  step-refused : (n l : ℕ) → lineAdded bounds T line (lineOf (fields p)) ≡ refused n l → linesFrom bounds line T (p ∷ x ∷ r) ≡ refused n l
   unfolding linesFrom
   step-refused n l e = rw (linesFrom, e)
 
-  step-loaded : (U : Table) → lineAdded T line (lineOf (fields p)) ≡ loaded U → linesFrom line T (p ∷ x ∷ r) ≡ linesFrom (suc line) U (x ∷ r)
+  step-loaded : (U : Table) → lineAdded bounds T line (lineOf (fields p)) ≡ loaded U → linesFrom bounds line T (p ∷ x ∷ r) ≡ linesFrom bounds (suc line) U (x ∷ r)
   unfolding linesFrom
   step-loaded U e = rw (linesFrom, e)
 
@@ -167,14 +166,14 @@ module _ (text : Bytes) (at line : ℕ) (T : Table) (within : at ≤ length text
       go (b ∷ l) h = refl
 
   module _ (z : end ≡ length text) where
-    last-here : linesFrom line T (pieces (drop at text)) ≡ cond (empty (part text at end)) (loaded T) (refused 4 line)
+    last-here : linesFrom bounds line T (pieces (drop at text)) ≡ cond (empty (part text at end)) (loaded T) (refused 4 line)
     unfolding linesFrom
     last-here = rw (piece-here, eq-eqb end (length text) z)
 
-    pub text-ends : at ≡ end → linesFrom line T (pieces (drop at text)) ≡ loaded T
+    pub text-ends : at ≡ end → linesFrom bounds line T (pieces (drop at text)) ≡ loaded T
     text-ends e = last-here ∙ rw (part-empty e)
 
-    pub line-cut : (at ≡ end → ⊥) → linesFrom line T (pieces (drop at text)) ≡ refused 4 line
+    pub line-cut : (at ≡ end → ⊥) → linesFrom bounds line T (pieces (drop at text)) ≡ refused 4 line
     line-cut ne = last-here ∙ rw (part-some ne)
 
   -- a line and its newline
@@ -208,28 +207,28 @@ module _ (text : Bytes) (at line : ℕ) (T : Table) (within : at ≤ length text
     several : (x : Bytes) (r : List Bytes) → pieces (drop (end + 1) text) ≡ x ∷ r → pieces (drop at text) ≡ part text at end ∷ x ∷ r
     several x r h = piece-here ∙ rw (ne-eqb end (length text) ne, h)
 
-    module _ (rows after : Words) (v : Verdict) (t : T ≡ tableOf text rows) (g : lineAdded (tableOf text rows) line (lineOf (fieldsLeft text c)) ≡ verdictMeant text after line v) where
+    module _ (rows after : Words) (v : Verdict) (t : T ≡ tableOf text rows) (g : lineAdded bounds (tableOf text rows) line (lineOf (fieldsLeft text c)) ≡ verdictMeant text after line v) where
       next-piece : (x : Bytes) × (r : List Bytes) × (pieces (drop (end + 1) text) ≡ x ∷ r)
       unfolding pieces
       next-piece = split-first 10 (drop (end + 1) text)
 
-      line-meant : (L : Loaded) → verdictMeant text after line v ≡ L → lineAdded T line (lineOf (fields (part text at end))) ≡ L
-      line-meant L e = ap (λ U. lineAdded U line (lineOf (fields (part text at end)))) t ∙ ap (λ fs. lineAdded (tableOf text rows) line (lineOf fs)) (sym line-left) ∙ g ∙ e
+      line-meant : (L : Loaded) → verdictMeant text after line v ≡ L → lineAdded bounds T line (lineOf (fields (part text at end))) ≡ L
+      line-meant L e = ap (λ U. lineAdded bounds U line (lineOf (fields (part text at end)))) t ∙ ap (λ fs. lineAdded bounds (tableOf text rows) line (lineOf fs)) (sym line-left) ∙ g ∙ e
 
-      pub line-refused : {n : ℕ} → v ≡ Verdict.Refused n → linesFrom line T (pieces (drop at text)) ≡ refused n line
+      pub line-refused : {n : ℕ} → v ≡ Verdict.Refused n → linesFrom bounds line T (pieces (drop at text)) ≡ refused n line
       unfolding verdictMeant
       line-refused {n} e =
           let r = next-piece in
-          ap (linesFrom line T) (several (r .0) (r .1) (r .2)) ∙ step-refused line T (part text at end) (r .0) (r .1) n line (line-meant (refused n line) (ap (verdictMeant text after line) e))
+          ap (linesFrom bounds line T) (several (r .0) (r .1) (r .2)) ∙ step-refused line T (part text at end) (r .0) (r .1) n line (line-meant (refused n line) (ap (verdictMeant text after line) e))
 
-      pub line-read : v ≡ Verdict.Added → linesFrom line T (pieces (drop at text)) ≡ linesFrom (line + 1) (tableOf text after) (pieces (drop (end + 1) text))
+      pub line-read : v ≡ Verdict.Added → linesFrom bounds line T (pieces (drop at text)) ≡ linesFrom bounds (line + 1) (tableOf text after) (pieces (drop (end + 1) text))
       unfolding verdictMeant
       line-read e =
           let r = next-piece in
-          ap (linesFrom line T) (several (r .0) (r .1) (r .2))
+          ap (linesFrom bounds line T) (several (r .0) (r .1) (r .2))
           ∙ step-loaded line T (part text at end) (r .0) (r .1) (tableOf text after) (line-meant (loaded (tableOf text after)) (ap (verdictMeant text after line) e))
-          ∙ ap (linesFrom (suc line) (tableOf text after)) (sym (r .2))
-          ∙ ap (λ l. linesFrom l (tableOf text after) (pieces (drop (end + 1) text))) (sym (add-one line))
+          ∙ ap (linesFrom bounds (suc line) (tableOf text after)) (sym (r .2))
+          ∙ ap (λ l. linesFrom bounds l (tableOf text after) (pieces (drop (end + 1) text))) (sym (add-one line))
 
 -- ---- before the first line
 

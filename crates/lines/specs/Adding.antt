@@ -6,7 +6,7 @@ use mathlib.Core.Option.{Option}
 use Prim.Native.Nat.{ℕ, _+_, _*_, _≤_}
 use lib.Dec.{eqb, ltb}
 use Rattle.objects.specs.declared.TypeKey.{TypeKey}
-use Rattle.objects.specs.Bounds.{maxMembers, maxPerType}
+use Rattle.objects.specs.Bounds.{maxMembers, maxPerType, bounds}
 use Rattle.objects.specs.Lists.{Bytes}
 use Rattle.objects.specs.Table.{Table}
 use Rattle.objects.specs.Rows.{Words, memberCountOf, elementCount, tableOf}
@@ -41,7 +41,7 @@ Brings rows o after (Verdict.Refused n) = Unit {0}
 
 -- The rows behind a line: what the rules give for it, rows in order, and no more elements than it brings.
 pub record Grown (text : Bytes) (rows : Words) (line : ℕ) (o : Option Line) (after : Words) (v : Verdict) : Type 0 where
-  pub meant : lineAdded (tableOf text rows) line o ≡ verdictMeant text after line v
+  pub meant : lineAdded bounds (tableOf text rows) line o ≡ verdictMeant text after line v
   pub laid : Laid after
   pub few : Brings rows o after v
 

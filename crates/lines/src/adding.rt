@@ -17,11 +17,15 @@ ghost use Rattle.lines.specs.Adding.{Grown, bytesTaken, withElements, st
 use crate::Verdict;
 use line_forms::Form;
 use line_forms::Small;
-use line_forms::fields::MAX_REFERENCE;
 use line_forms::fields::small;
 use line_forms::forms::parse;
 use objects::Package;
 use objects::TypeKey;
+use objects::bounds::MAX_MEMBERS;
+use objects::bounds::MAX_PACKAGES;
+use objects::bounds::MAX_PER_TYPE;
+use objects::bounds::MAX_REFERENCE;
+use objects::bounds::MAX_TYPES;
 use objects::rows::kind_number;
 use objects::rows::member_count;
 use objects::rows::member_total;
@@ -33,13 +37,14 @@ use objects::writers::put_package;
 use objects::writers::put_type;
 use text::Cursor;
 
-pub const MAX_PACKAGES: u32 = 64;
+// The bounds, as the counts of rows are.
+const PACKAGES: u32 = MAX_PACKAGES as u32;
 
-pub const MAX_TYPES: u32 = 256;
+const TYPES: u32 = MAX_TYPES as u32;
 
-pub const MAX_MEMBERS: u32 = 1_024;
+const MEMBERS: u32 = MAX_MEMBERS as u32;
 
-pub const MAX_PER_TYPE: u32 = 255;
+const PER_TYPE: u32 = MAX_PER_TYPE as u32;
 
 // ---- the type above
 
@@ -75,8 +80,8 @@ fn stands(form: u32, kind: u32) -> bool
 fn member_room(rows: &[u32]) -> bool
     ensures { λ r. ⌜ r ≡ memberRoom (now (rows .entry)) ⌝ }
 {
-    if member_count(rows) < MAX_MEMBERS {
-        member_total(rows, last(rows)) < MAX_PER_TYPE
+    if member_count(rows) < MEMBERS {
+        member_total(rows, last(rows)) < PER_TYPE
     } else {
         false
     }
@@ -91,7 +96,7 @@ fn add_package(rows: &mut [u32], at: u32, count: u32, line: u32) -> Verdict
     if 0 < type_count(rows) {
         return Verdict::Refused(5);
     }
-    if package_count(rows) < MAX_PACKAGES {
+    if package_count(rows) < PACKAGES {
         put_package(rows, at, count);
         return Verdict::Added;
     }
@@ -102,7 +107,7 @@ fn add_type(rows: &mut [u32], kind: u32, a: u32, b: u32, c: u32, line: u32) -> V
     requires { ⌜ Laid (now rows) ⌝ }
     ensures { λ r. ⌜ ((text : Bytes) → Grown text (now (rows .entry)) line (some (typeLine (bareKind kind a b c))) (now (rows .exit)) r) ⌝ }
 {
-    if type_count(rows) < MAX_TYPES {
+    if type_count(rows) < TYPES {
         put_type(rows, kind, a, b, c, line);
         return Verdict::Added;
     }
@@ -180,7 +185,7 @@ fn add_tuple(s: &[u8], rows: &mut [u32], c: Cursor, line: u32) -> Verdict
         × (used (now rows) + length (elementsRead (fieldsLeft (now s) c)) ≤ length (now rows)) ⌝ }
     ensures { λ r. ⌜ Grown (now (s .entry)) (now (rows .entry)) line (tupleOf (fieldsLeft (now (s .entry)) c)) (now (rows .exit)) r ⌝ }
 {
-    if type_count(rows) < MAX_TYPES {
+    if type_count(rows) < TYPES {
         put_type(rows, 6, 0, 0, 0, line);
         if put_elements(s, rows, c) {
             return Verdict::Added;

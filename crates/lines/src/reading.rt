@@ -2,7 +2,7 @@
 ghost use mathlib.Core.Path.{_≡_};
 ghost use Prim.Native.Nat.{_≤_};
 ghost use lib.ListN.{length, drop, replicate};
-ghost use Rattle.objects.specs.Bounds.{maxText, roomFor};
+ghost use Rattle.objects.specs.Bounds.{maxText, roomFor, bounds};
 ghost use Rattle.objects.specs.Rows.{tableOf};
 ghost use Rattle.objects.specs.Laid.{Laid};
 ghost use Rattle.text.specs.Lines.{pieces};
@@ -12,17 +12,16 @@ ghost use Rattle.lines.specs.Reading.{readMeant};
 use crate::Read;
 use crate::Verdict;
 use crate::adding::add_line;
+use objects::bounds::MAX_TEXT;
 use text::Cursor;
 use text::compare::starts;
 use text::scan::line_end;
-
-pub const MAX_TEXT: usize = 32_768;
 
 // The lines from a place on; the first is line 2.
 fn read_lines(text: &[u8], rows: &mut [u32], from: usize) -> Read
     requires { ⌜ (length (now text) ≤ maxText) × (from ≤ length (now text)) × Laid (now rows) × (bytesTaken (now rows) ≤ from) × (2 ≤ from)
         × (roomFor (length (now text)) ≤ length (now rows)) ⌝ }
-    ensures { λ r. ⌜ linesFrom 2 (tableOf (now (text .entry)) (now (rows .entry))) (pieces (drop from (now (text .entry)))) ≡ readMeant (now (text .entry)) (now (rows .exit)) r ⌝ }
+    ensures { λ r. ⌜ linesFrom bounds 2 (tableOf (now (text .entry)) (now (rows .entry))) (pieces (drop from (now (text .entry)))) ≡ readMeant (now (text .entry)) (now (rows .exit)) r ⌝ }
     ensures { λ r. ⌜ Laid (now (rows .exit)) ⌝ }
 {
     let mut at = from;

@@ -1,6 +1,8 @@
 // Loads each table of standard input and prints what loading gives: `ok` and the counts of packages, types and members, or `refused`, the number and the line.
 // Each table stands behind its length, five digits and a newline. The input and what is due for it are made by tools/load_sample.py.
 use frames::Frame;
+use frames::ROOM;
+use objects::bounds::ALL_WORDS;
 use objects::rows::member_count;
 use objects::rows::package_count;
 use objects::rows::type_count;
@@ -27,7 +29,7 @@ fn refused(n: u32, line: u32) {
 }
 
 fn one(text: &[u8]) {
-    let mut rows = [0u32; 26_760];
+    let mut rows = [0u32; ALL_WORDS];
     match table::load(text, &mut rows) {
         Loading::Refused(n, line) => refused(n, line),
         Loading::Loaded => counts(&rows),
@@ -46,6 +48,6 @@ fn all(buf: &mut [u8]) {
 }
 
 fn main() {
-    let mut buf = [0u8; 32_800];
+    let mut buf = [0u8; ROOM];
     all(&mut buf);
 }

@@ -7,7 +7,9 @@ ghost use Rattle.multiples.specs.Records.{maxRecords, consolidated};
 use objects::TypeKey;
 
 // goscript's EmbeddedType: a word for each field.
-pub type EmbeddedType = [u32; 8];
+pub const RECORD_WORDS: usize = 8;
+
+pub type EmbeddedType = [u32; RECORD_WORDS];
 
 // the type
 pub const TYP: usize = 0;

@@ -1,5 +1,6 @@
--- Every number that document 01 bounds something by, once. Definitions, contracts and proofs use them by name.
-use Prim.Native.Nat.{ℕ, _-_}
+-- Every number that the papers bound something by, once; src/bounds.rt has the same for the code. Definitions, contracts and proofs use them by name, and what
+-- follows from them is an expression of them: a bound is changed here and there, and nowhere else.
+use Prim.Native.Nat.{ℕ, _+_, _*_, _-_, _/_}
 
 -- "256 types, 64 packages, 1,024 members, 255 per type, 256 places in a way."
 abbrev pub maxTypes : ℕ
@@ -14,12 +15,23 @@ maxMembers = 1024
 abbrev pub maxPerType : ℕ
 maxPerType = 255
 
+-- A shortest way is at each type once at most, so that it has no more places than there are types: the papers' number follows from that of types.
 abbrev pub maxPlaces : ℕ
-maxPlaces = 256
+maxPlaces = maxTypes
 
 -- 2: "The table has more than 32,768 bytes"; typeask: "at most 32,768 bytes in all"
 abbrev pub maxText : ℕ
 maxText = 32_768
+
+-- What bounds a table: the bytes of its text, its types and its members. Loading is defined for any bounds, so that those of two releases can be told of in one
+-- theorem.
+pub record Bounds : Type 0 where
+  pub bytes : ℕ
+  pub types : ℕ
+  pub members : ℕ
+
+abbrev pub bounds : Bounds
+bounds = record { bytes = maxText; types = maxTypes; members = maxMembers }
 
 -- 11: "more than 256 bytes"
 abbrev pub maxQuestion : ℕ
@@ -55,39 +67,52 @@ refusalUnit = 65_536
 abbrev pub programAnswer : ℕ
 programAnswer = 16_384
 
--- comparing types: a bit for each pair of types that was met, and one for each that was opened, 32 to a word
-abbrev pub markWords : ℕ
-markWords = 4_096
-
--- 1: "fewer words than the number the team fixes in docs/, which is at most 4,194,304": the marks are all that the work area has to hold
+-- 1: "fewer words than the number the team fixes in docs/, which is at most 4,194,304"
 abbrev pub workWords : ℕ
-workWords = markWords
+workWords = 4_096
+
+-- comparing types: a bit for each pair of n types, 32 to a word. The work area has to hold the marks of all types and no more.
+abbrev pub pairsOf : ℕ → ℕ
+pairsOf n = (n * n - n) / 2
+
+abbrev pub pairWords : ℕ → ℕ
+pairWords n = (pairsOf n + 31) / 32
+
+abbrev pub markWords : ℕ
+markWords = pairWords maxTypes
+
+-- how many numbers a word of 32 bits can be
+abbrev pub wordValues : ℕ
+wordValues = 4_294_967_296
 
 -- ---- the rows of a loaded table (specs/Rows.antt): four counts, packages, types, and then members from the front and elements of tuples from the back
 
--- words of a type's row and of a member's
+-- words of a type's row and of a member's, and of a package's
 abbrev pub rowWords : ℕ
 rowWords = 8
 
--- an element of a tuple takes a tab and a digit at least
-abbrev pub maxElements : ℕ
-maxElements = 16_384
+abbrev pub packageWords : ℕ
+packageWords = 2
 
 abbrev pub packagesAt : ℕ
 packagesAt = 8
 
 abbrev pub typesAt : ℕ
-typesAt = 136
+typesAt = packagesAt + packageWords * maxPackages
 
 abbrev pub membersAt : ℕ
-membersAt = 2_184
+membersAt = typesAt + rowWords * maxTypes
 
--- words of 1,024 members and 16,384 elements
+-- an element of a tuple takes a tab and a digit at least
+abbrev pub maxElements : ℕ
+maxElements = maxText / 2
+
+-- words of all members and elements
 abbrev pub sharedWords : ℕ
-sharedWords = 24_576
+sharedWords = rowWords * maxMembers + maxElements
 
 abbrev pub allWords : ℕ
-allWords = 26_760
+allWords = membersAt + sharedWords
 
 -- The words that a text of n bytes asks for. A member takes 8 words and at least 10 bytes, an element a word and at least 2 bytes: behind the types a word
 -- for each byte is enough, and never more than all are used.
@@ -100,3 +125,13 @@ smallText = 1_024
 
 abbrev pub middleText : ℕ
 middleText = 6_144
+
+-- S, M and N have an array of their own for at most so many level records, two for each type, and one for all others; M also for so many members
+abbrev pub fewRecords : ℕ
+fewRecords = 64
+
+abbrev pub someRecords : ℕ
+someRecords = 256
+
+abbrev pub someMembers : ℕ
+someMembers = 256

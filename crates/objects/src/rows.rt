@@ -9,17 +9,11 @@ use crate::Package;
 use crate::PackageKey;
 use crate::Type;
 use crate::TypeKey;
-
-// The layout, as specs/Bounds.antt names it: where each region starts, and the words of a row.
-pub const PACKAGES_AT: usize = 8;
-
-pub const TYPES_AT: usize = 136;
-
-pub const MEMBERS_AT: usize = 2_184;
-
-pub const ROW_WORDS: usize = 8;
-
-pub const PACKAGE_WORDS: usize = 2;
+use crate::bounds::MEMBERS_AT;
+use crate::bounds::PACKAGE_WORDS;
+use crate::bounds::PACKAGES_AT;
+use crate::bounds::ROW_WORDS;
+use crate::bounds::TYPES_AT;
 
 // ---- words
 

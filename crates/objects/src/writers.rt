@@ -11,11 +11,11 @@ ghost use Rattle.objects.specs.Rows.{packageFrom, packageMeant, packageC
 ghost use Rattle.objects.specs.Laid.{used, Laid, Holds, RankPut, endOf, lastType, raised, memberOf, plusPackage, plusType, plusMember, plusElement};
 use crate::Package;
 use crate::TypeKey;
-use crate::rows::MEMBERS_AT;
-use crate::rows::PACKAGE_WORDS;
-use crate::rows::PACKAGES_AT;
-use crate::rows::ROW_WORDS;
-use crate::rows::TYPES_AT;
+use crate::bounds::MEMBERS_AT;
+use crate::bounds::PACKAGE_WORDS;
+use crate::bounds::PACKAGES_AT;
+use crate::bounds::ROW_WORDS;
+use crate::bounds::TYPES_AT;
 use crate::rows::element_count;
 use crate::rows::member_count;
 use crate::rows::package_count;

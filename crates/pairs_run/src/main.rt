@@ -3,24 +3,27 @@
 // due for them are made by tools/pairs_sample.py.
 ghost use Prim.Native.Nat.{_≤_};
 ghost use lib.ListN.{length};
-ghost use Rattle.objects.specs.Bounds.{markWords};
+ghost use Rattle.objects.specs.Bounds.{workWords};
 ghost use Rattle.rules.specs.Library.{Library};
 use frames::Frame;
+use frames::ROOM;
 use objects::TypeKey;
+use objects::bounds::ALL_WORDS;
+use objects::bounds::MAX_TYPES;
+use objects::bounds::WORK_WORDS;
 use objects::rows::type_count;
+use pair_marks::classes::number;
+use pair_marks::marks::is_met;
 use table::Loading;
-use typ::classes::number;
-use typ::identical::PAIRS;
 use typ::identical::identical_impl;
-use typ::marks::is_met;
 
-// How many pairs of types were met: the second half of the marks has those that were opened.
+// How many pairs of types were met.
 fn pairs_met(marks: &[u32]) -> u32
-    requires { ⌜ markWords ≤ length (now marks) ⌝ }
+    requires { ⌜ length (now marks) ≤ workWords ⌝ }
 {
     let mut n: u32 = 0;
     let mut p: usize = 0;
-    while p < PAIRS {
+    while p / 32 < marks.len() {
         if is_met(marks, p) {
             n += 1;
         }
@@ -48,8 +51,8 @@ fn compare(text: &[u8], rows: &[u32])
         io::write_all(1, b"none\n");
         return;
     }
-    let mut marks = [0u32; 4_096];
-    let mut labels = [0u32; 256];
+    let mut marks = [0u32; WORK_WORDS];
+    let mut labels = [0u32; MAX_TYPES];
     number(&mut labels);
     let x = TypeKey(n - 2);
     let y = TypeKey(n - 1);
@@ -59,7 +62,7 @@ fn compare(text: &[u8], rows: &[u32])
 }
 
 fn one(text: &[u8]) {
-    let mut rows = [0u32; 26_760];
+    let mut rows = [0u32; ALL_WORDS];
     match table::load(text, &mut rows) {
         Loading::Refused(_, _) => {
             io::write_all(1, b"refused\n");
@@ -80,6 +83,6 @@ fn all(buf: &mut [u8]) {
 }
 
 fn main() {
-    let mut buf = [0u8; 32_800];
+    let mut buf = [0u8; ROOM];
     all(&mut buf);
 }

@@ -9,7 +9,7 @@ use lib.Seq.{drop-cons, getD-take}
 use Rattle.objects.specs.Lists.{Bytes}
 use Rattle.text.specs.Bytes.{decimal}
 use Rattle.rules.specs.Answer.{tabbed}
-use Rattle.print.specs.Written.{maxWord, maxFields, numberLine, lineEnd, written, Wrote}
+use Rattle.print.specs.Written.{maxWord, maxFields, maxLine, numberLine, lineEnd, written, Wrote}
 use Rattle.print.proofs.DecimalLaws.{decimal-any}
 use Rattle.print.proofs.WrittenLaws.{written-more, written-nothing, written-byte, then-wrote, wrote-as}
 
@@ -59,8 +59,7 @@ pub end-short : (ns : List ℕ) → length (lineEnd ns) ≤ 21 * length ns + 1
 end-short [] = rw end-none (omega arith)
 end-short (n ∷ ns) = rw (end-some n ns, length-append (9 ∷ decimal n) (lineEnd ns)) (omega (arith, decimal-any n, end-short ns))
 
--- a line has fewer than 2 ^ 13 bytes
-pub line-short : (word : Bytes) (ns : List ℕ) (n : ℕ) → length word ≤ maxWord → n ≤ maxFields → length (numberLine word (take n ns)) < 8192
+pub line-short : (word : Bytes) (ns : List ℕ) (n : ℕ) → length word ≤ maxWord → n ≤ maxFields → length (numberLine word (take n ns)) ≤ maxLine
 line-short word ns n w h =
     let k : length (take n ns) ≤ n = rw (length-take n ns) (omega arith) in
     omega (arith, line-length word (take n ns), end-short (take n ns), k)

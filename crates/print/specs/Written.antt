@@ -1,19 +1,24 @@
 -- The lines of numbers that every answer is made of, and what it is to have written bytes into a buffer.
 use mathlib.Core.Path.{_≡_}
 use mathlib.Core.List.{List, [], _∷_, _++_, map}
-use Prim.Native.Nat.{ℕ, _+_}
+use Prim.Native.Nat.{ℕ, _+_, _*_}
 use lib.ListN.{length}
 use lib.Seq.{sets}
+use Rattle.objects.specs.Bounds.{maxPlaces}
 use Rattle.objects.specs.Lists.{Bytes}
 use Rattle.text.specs.Bytes.{decimal}
 use Rattle.rules.specs.Answer.{tabbed, lineBytes}
 
--- the longest word has 11 bytes; a line has a way's 256 places, a member and a flag at most
+-- the longest word has 11 bytes; a line has a way's places, a member and a flag at most
 abbrev pub maxWord : ℕ
 maxWord = 16
 
 abbrev pub maxFields : ℕ
-maxFields = 300
+maxFields = maxPlaces + 2
+
+-- Bytes of a line at most: each number takes a tab and 20 digits (`decimal-any`), and there is a newline.
+abbrev pub maxLine : ℕ
+maxLine = maxWord + 21 * maxFields + 1
 
 -- a word and numbers
 unfoldable pub numberLine : Bytes → List ℕ → Bytes

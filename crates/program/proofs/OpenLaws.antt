@@ -1,18 +1,18 @@
 -- From the parts of the input and the loaded table to all that is due.
-use mathlib.Core.Path.{_≡_, refl, sym, ap, subst, _∙_}
+use mathlib.Core.Path.{_≡_, sym, ap, subst, _∙_}
 use mathlib.Core.List.{[], _∷_, append-nil}
 use Prim.Native.Nat.{ℕ, _-_, _≤_, _<_}
 use native.Mathlib.Omega.{arith}
 use lib.ListN.{length, take, drop}
 use borrow.Author.Tests.{lt-ltb, le-ltb}
-use Rattle.objects.specs.Bounds.{maxText}
+use Rattle.objects.specs.Bounds.{maxText, bounds}
 use Rattle.objects.specs.Lists.{Bytes}
 use Rattle.objects.specs.Rows.{Words}
 use Rattle.text.specs.Bytes.{ascii}
 use Rattle.text.specs.Lines.{pieces}
-use Rattle.rules.specs.Load.{Loaded, refused, loaded, load}
+use Rattle.rules.specs.Load.{Loaded, refused, load}
 use Rattle.rules.specs.Library.{Library}
-use Rattle.rules.specs.Typeask.{inputOf, printedAll, answeredAll, typeask}
+use Rattle.rules.specs.Typeask.{inputOf, printedAll, answeredAll, typeaskWithin, typeask}
 use Rattle.table.specs.declared.Loading.{Loading}
 use Rattle.table.specs.Loading.{loadingMeant, Loads}
 use Rattle.input.specs.declared.Parts.{Parts}
@@ -39,12 +39,12 @@ loads-refused text rows l q = sym (l .says) ∙ ap (loadingMeant text rows) q
 module _ (s : Bytes) where
   -- "at most 32,768 bytes in all, otherwise it prints refusal 2"
   pub opens-long : (rows : Words) → maxText < length s → Opens s (Opening.Refused 2 0) rows
-  unfolding openingMeant typeask
+  unfolding openingMeant typeaskWithin
   opens-long rows h = record { says = rw (lt-ltb maxText (length s) h); holds = tt }
 
   module _ (short : length s ≤ maxText) where
-    parted : (i : Parts) → inputOf (pieces s) ≡ partsMeant s i → typeask s ≡ answeredAll (partsMeant s i)
-    unfolding typeask
+    parted : (i : Parts) → inputOf (pieces s) ≡ partsMeant s i → typeask s ≡ answeredAll bounds (partsMeant s i)
+    unfolding typeaskWithin
     parted i e = rw (le-ltb maxText (length s) short, e)
 
     module _ (e : inputOf (pieces s) ≡ partsMeant s Parts.Whole) (rows : Words) {r : Loading} (l : Loads s r rows) where

@@ -12,6 +12,7 @@ use crate::tables::open_input;
 use crate::writing::ask_all;
 use crate::writing::ask_once;
 use crate::writing::refuse;
+use objects::bounds::ALL_WORDS;
 
 // A refusal and its line, or a loaded table: all of the input, or up to a place, with the questions from another on.
 pub enum Opening {
@@ -37,7 +38,7 @@ pub enum Step {
 pub fn run(input: &[u8]) -> usize
     ensures { λ r. ⌜ r ≡ length (typeask (now (input .entry))) ⌝ }
 {
-    let mut rows = [0u32; 26_760];
+    let mut rows = [0u32; ALL_WORDS];
     match open_input(input, &mut rows) {
         Opening::Refused(n, line) => refuse(input, n, line),
         Opening::Whole => ask_once(input, &rows),

@@ -11,7 +11,7 @@ ghost use Rattle.program.specs.Steps.{Opens};
 use crate::Opening;
 use input::Parts;
 use input::split;
-use lines::reading::MAX_TEXT;
+use objects::bounds::MAX_TEXT;
 use table::Loading;
 
 // All of the input is the table.

@@ -13,10 +13,8 @@ use crate::Step;
 use crate::asking::answer_next;
 use crate::asking::print_one;
 use crate::asking::put_refused;
-
-const MARKS: usize = 4_096;
-
-const ANSWER: usize = 16_384;
+use objects::bounds::PROGRAM_ANSWER;
+use objects::bounds::WORK_WORDS;
 
 // The first n bytes of the buffer: a piece of all that is due for the input.
 fn show(input: &[u8], out: &[u8], n: usize) -> usize
@@ -41,8 +39,8 @@ pub fn ask_once(input: &[u8], rows: &[u32]) -> usize
     requires { ⌜ Library (now input) (now rows) × (typeask (now input) ≡ printedOne (now input) (now rows) (ascii "V")) ⌝ }
     ensures { λ r. ⌜ r ≡ length (printedOne (now (input .entry)) (now (rows .entry)) (ascii "V")) ⌝ }
 {
-    let mut marks = [0u32; MARKS];
-    let mut out = [0u8; ANSWER];
+    let mut marks = [0u32; WORK_WORDS];
+    let mut out = [0u8; PROGRAM_ANSWER];
     let n = print_one(input, rows, &mut marks, b"V", &mut out);
     show(input, &out, n)
 }
@@ -77,7 +75,7 @@ pub fn ask_all(text: &[u8], rows: &[u32], input: &[u8], from: usize) -> usize
         × (length (now input) ≤ maxText) ⌝ }
     ensures { λ r. ⌜ r ≡ length (due (now (text .entry)) (now (rows .entry)) (now (input .entry)) from) ⌝ }
 {
-    let mut marks = [0u32; MARKS];
-    let mut out = [0u8; ANSWER];
+    let mut marks = [0u32; WORK_WORDS];
+    let mut out = [0u8; PROGRAM_ANSWER];
     ask_from(text, rows, &mut marks, input, from, &mut out)
 }

@@ -9,7 +9,7 @@ use Prim.Native.Nat.{ℕ, _<_}
 use native.Mathlib.Omega.{arith}
 use lib.ListN.{length}
 use borrow.Author.Tests.{ltb-true, lt-ltb, le-ltb, not-false}
-use Rattle.objects.specs.Bounds.{workWords}
+use Rattle.objects.specs.Bounds.{workWords, Bounds}
 use Rattle.objects.specs.Lists.{Bytes}
 use Rattle.objects.specs.declared.TypeKey.{TypeKey}
 use Rattle.objects.specs.declared.PackageKey.{PackageKey}
@@ -17,7 +17,7 @@ use Rattle.objects.specs.Table.{Table, size, hasType, hasPackage, Member, Struc
 use Rattle.objects.proofs.ListLaws.{and-l, In-map, map-In-to, map-map}
 use Rattle.objects.proofs.KindLaws.{iface-is, under-plain}
 use Rattle.rules.specs.Members.{identityFrom, identityOf}
-use Rattle.rules.specs.Load.{load, loaded}
+use Rattle.rules.specs.Load.{loaded, loadWithin, load, Within, Wider}
 use Rattle.rules.specs.Question.{Question, askS, askM, askN, askI, askC, inTable}
 use Rattle.rules.specs.Ways.{Selected, searchedAs, shortest, select}
 use Rattle.rules.specs.Identity.{mismatch, identical}
@@ -25,12 +25,13 @@ use Rattle.rules.specs.Comparable.{comparable}
 use Rattle.rules.specs.Missing.{Lack, missing}
 use Rattle.rules.specs.MethodSet.{methodSet}
 use Rattle.rules.specs.Answer.{Sel, answer, selected, set, selOf, says, lackAnswer}
-use Rattle.rules.specs.Asked.{numberOf, written, asked}
+use Rattle.rules.specs.Asked.{numberOf, written, askedWithin}
 use Rattle.rules.specs.Rows as rows
 use Rattle.rules.specs.Worked.{worked}
 use Rattle.rules.proofs.Computed as computed
 use Rattle.rules.proofs.Numbers.{outcome-bound, answered-fits}
 use Rattle.rules.proofs.Sounds.{loads-sound}
+use Rattle.rules.proofs.BoundLaws.{loads-within, load-wider, refused-wider, outcome-wider, asked-wider, typeask-wider}
 use Rattle.ways.specs.MethodLevels.{asGo, setByLevels}
 use Rattle.ways.proofs.LevelSets.{set-by-levels}
 use Rattle.walks.specs.Reads.{setKept}
@@ -52,12 +53,12 @@ use Rattle.gospec.proofs.Loaded as go
 use Rattle.growth.specs.Grown.{GrownTexts}
 use Rattle.growth.specs.Calls.{Lent, called, PutAgain, Said}
 use Rattle.growth.proofs.Promised.{asked-in, outcome-says, call-says, grown-calls}
-use Rattle.promises.specs.Demands.{CallGives, Answered, CallSays, GoSelects, GoSet, KeptWalks, BesideGo}
+use Rattle.promises.specs.Demands.{CallGives, Answered, CallSays, GoSelects, GoSet, KeptWalks, BesideGo, SameWithin}
 
 -- ---- DEMAND 1: what every call gives
 
 pub every-call : (table : Bytes) (c : Lent) → CallGives table c
-unfolding asked numberOf written
+unfolding askedWithin numberOf written
 every-call table c = record {
   tooFewWords = λ h. rw (lt-ltb (length (c .work)) workWords h);
   refuses = λ n line h e. let b = outcome-bound table (c .line) (length (c .buffer)) n line e in (rw (le-ltb (length (c .work)) workWords h, e), b .0, b .1, b .2);
@@ -189,3 +190,19 @@ kept-sets text T h t in0 = walks.set-kept text T h t in0
 -- whatever comparison the two are a part of.
 pub names-before-types : (T : Table) (x y : TypeKey) (fs gs : List Member) → kindAt T x ≡ Struct fs → kindAt T y ≡ Struct gs → FieldsDiffer T fs gs ↔ (mismatch T (record { left = x; right = y }) ≡ true)
 names-before-types = structs-told-apart
+
+-- ---- document 02, point 4: larger bounds
+
+-- a text that loads within bounds has no more bytes, types and members than they say, whichever they are
+pub within-bounds : (b : Bounds) (text : Bytes) (T : Table) → loadWithin b text ≡ loaded T → Within b text T
+within-bounds = loads-within
+
+-- "An old table loads as before, and its answers agree", for any two bounds of which the second are no smaller
+pub wider-bounds : (b b′ : Bounds) → Wider b b′ → SameWithin b b′
+wider-bounds b b′ w = record {
+  loads = load-wider b b′ w;
+  refuses = refused-wider b b′ w;
+  due = outcome-wider b b′ w;
+  gives = λ text T h c. asked-wider b b′ w text T h (c .line) (c .buffer) (c .work);
+  prints = typeask-wider b b′ w;
+}

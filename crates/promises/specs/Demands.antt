@@ -2,22 +2,24 @@
 use mathlib.Core.Path.{_≡_}
 use mathlib.Core.Bool.{Bool, true, false, cond, _&&_}
 use mathlib.Core.List.{List, map}
-use mathlib.Core.Logic.{_⊎_, _↔_}
+use mathlib.Core.Logic.{_⊎_, _↔_, _≢_}
 use mathlib.Core.Option.{Option, some}
 use Prim.Native.Nat.{ℕ, _*_, _≤_, _<_}
 use lib.ListN.{length, replicate}
-use Rattle.objects.specs.Bounds.{workWords, refusalUnit}
+use Rattle.objects.specs.Bounds.{workWords, refusalUnit, Bounds}
 use Rattle.objects.specs.Lists.{Bytes, In, Sorted}
 use Rattle.objects.specs.declared.TypeKey.{TypeKey}
 use Rattle.objects.specs.declared.PackageKey.{PackageKey}
 use Rattle.objects.specs.Table.{Table, size, Member, bare, pointerAt, ifaceUnder}
 use Rattle.text.specs.Bytes.{belowBytes}
+use Rattle.text.specs.Lines.{pieces}
 use Rattle.rules.specs.Members.{Identity, identityOf, idBytes}
-use Rattle.rules.specs.Load.{load, loaded}
+use Rattle.rules.specs.Load.{refused, loaded, loadWithin, load}
 use Rattle.rules.specs.Question.{Question, questionOf}
 use Rattle.rules.specs.Ways.{Selected, notfound, judged, searched}
 use Rattle.rules.specs.Answer.{Answer, Sel, answer, answerBytes}
-use Rattle.rules.specs.Asked.{outcome, refuse, say, refusal, wrongSecond}
+use Rattle.rules.specs.Asked.{outcomeWithin, outcome, refuse, say, refusal, wrongSecond, askedWithin}
+use Rattle.rules.specs.Typeask.{inputOf, typeaskWithin}
 use Rattle.ways.specs.OfTable.{graph}
 use Rattle.walks.specs.Kept.{count}
 use Rattle.walks.specs.Rows.{Row, keptRows}
@@ -88,3 +90,15 @@ pub record KeptWalks (T : Table) (t : TypeKey) : Type 0 where
 pub record BesideGo (T : Table) (t : TypeKey) (l : List Selection) : Type 0 where
   pub all : (ps : List ℕ) (m : Member) → MethodSet T t ps m → (s : Selection) × In s l × (s .obj ≡ m) × (s .indices ≡ ps)
   pub besides : (s : Selection) → In s l → (MethodSet T t (s .indices) (s .obj) → ⊥) ↔ (DenotesField T t (s .obj) ⊎ PointsToNamedInterface T t)
+
+-- ---- document 02, point 4
+
+-- Within b′ all is as within b for a text that loads within b: the table, what is due for a question, all that a call gives and, for an input of that size, all
+-- that the program prints. A text that is refused for anything else than its size (2, 6) is refused in the same way, at the same line.
+pub record SameWithin (b b′ : Bounds) : Type 0 where
+  pub loads : (text : Bytes) (T : Table) → loadWithin b text ≡ loaded T → loadWithin b′ text ≡ loaded T
+  pub refuses : (text : Bytes) (n line : ℕ) → loadWithin b text ≡ refused n line → n ≢ 2 → n ≢ 6 → loadWithin b′ text ≡ refused n line
+  pub due : (text : Bytes) (T : Table) → loadWithin b text ≡ loaded T → (question : Bytes) (room : ℕ) → outcomeWithin b′ text question room ≡ outcomeWithin b text question room
+  pub gives : (text : Bytes) (T : Table) → loadWithin b text ≡ loaded T → (c : Lent)
+      → askedWithin b′ text (c .line) (c .buffer) (c .work) ≡ askedWithin b text (c .line) (c .buffer) (c .work)
+  pub prints : (input : Bytes) (T : Table) → length input ≤ b .bytes → loadWithin b (inputOf (pieces input) .table) ≡ loaded T → typeaskWithin b′ input ≡ typeaskWithin b input

@@ -1,6 +1,6 @@
 // A question line, read by the cursor: its form and its numbers (refusal 11), and the second type of an N question (12).
 ghost use mathlib.Core.Path.{_≡_};
-ghost use mathlib.Core.Bool.{_&&_, true};
+ghost use mathlib.Core.Bool.{true};
 ghost use mathlib.Core.Option.{some};
 ghost use Prim.Native.Nat.{_≤_};
 ghost use lib.Dec.{ltb};
@@ -16,11 +16,12 @@ ghost use Rattle.rules.specs.Asked.{wrongSecond};
 ghost use Rattle.question.specs.Asks.{asksMeant, behindLetter, formOf, Reads, packageKnown, knownRead, Known};
 use line_forms::Packaged;
 use line_forms::Small;
-use line_forms::fields::MAX_REFERENCE;
 use line_forms::fields::package;
 use line_forms::fields::small;
 use objects::Package;
 use objects::TypeKey;
+use objects::bounds::MAX_QUESTION;
+use objects::bounds::MAX_REFERENCE;
 use objects::rows::kind_number;
 use objects::rows::package_count;
 use objects::rows::type_count;
@@ -39,8 +40,6 @@ pub enum Ask {
     V,
     Wrong,
 }
-
-const MAX_QUESTION: usize = 256;
 
 const IFACE: u32 = 9;
 

@@ -12,7 +12,7 @@ use Rattle.objects.specs.Rows.{Words}
 use Rattle.objects.proofs.PartLaws.{getD-In}
 use Rattle.text.specs.Bytes.{ascii}
 use Rattle.multiples.specs.Records.{Record}
-use Rattle.print.specs.Written.{numberLine, written, Wrote}
+use Rattle.print.specs.Written.{maxLine, numberLine, written, Wrote}
 use Rattle.print.proofs.LineLaws.{line-short}
 use Rattle.print.proofs.WrittenLaws.{written-more, written-nothing, then-wrote, wrote-as}
 use Rattle.first_hits.specs.Hits.{FirstHit}
@@ -20,7 +20,7 @@ use Rattle.method_set.specs.Sets.{selAt}
 use Rattle.rules.specs.Asked.{fitted}
 use Rattle.reply.specs.declared.Done.{Done}
 use Rattle.reply.specs.Done.{Does}
-use Rattle.reply.specs.SetLines.{maxLine, Says, Short, selLine, selLines, setLines}
+use Rattle.reply.specs.SetLines.{Says, Short, selLine, selLines, setLines}
 use Rattle.reply.proofs.Saying.{too-long, fits-said}
 
 -- ---- one line
@@ -30,7 +30,7 @@ module _ (rows : Words) (walk : List Record) (hits : List FirstHit) (k : ℕ) (n
   unfolding selLine
   sel-is = ap (numberLine (ascii "sel")) (sym e)
 
-  pub sel-length : {r : ℕ} → r ≡ length (numberLine (ascii "sel") (take n numbers)) → n ≤ maxPlaces + 2 → (r ≡ length (selLine rows walk hits k)) × (r < maxLine)
+  pub sel-length : {r : ℕ} → r ≡ length (numberLine (ascii "sel") (take n numbers)) → n ≤ maxPlaces + 2 → (r ≡ length (selLine rows walk hits k)) × (r ≤ maxLine)
   sel-length p h = (p ∙ ap length (sym sel-is), omega (arith, p, line-short (ascii "sel") numbers n (omega arith) (omega arith)))
 
   pub sel-room : (at room : ℕ) → at + length (selLine rows walk hits k) ≤ room → at + length (numberLine (ascii "sel") (take n numbers)) ≤ room

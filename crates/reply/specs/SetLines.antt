@@ -12,10 +12,6 @@ use Rattle.walk_rows.specs.Records.{levelOf}
 use Rattle.first_hits.specs.Hits.{FirstHit, Room, hitRow}
 use Rattle.method_set.specs.Sets.{selAt}
 
--- a line has fewer bytes than this
-abbrev pub maxLine : ℕ
-maxLine = 8_192
-
 -- there is a first hit under key k, and its line is short enough for a row of numbers
 abbrev pub Says : List Record → List FirstHit → ℕ → Type 0
 Says walk hits k = Room hits k × (levelOf walk (hitRow hits k) < maxPlaces)

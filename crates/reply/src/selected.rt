@@ -16,11 +16,11 @@ use crate::Done;
 use crate::one_line::flag_number;
 use crate::one_line::say;
 use crate::one_line::say_word;
+use objects::bounds::MAX_PLACES;
 use print::line_length;
 use print::put_line;
 use selection::Entity;
 use selection::LookupResult;
-use selection::MAX_PLACES;
 use selection::Selection;
 
 // The number of a member, whatever it is.

@@ -3,14 +3,15 @@ ghost use mathlib.Core.Path.{_≡_};
 ghost use Prim.Native.Nat.{_+_, _*_, _≤_, _<_};
 ghost use lib.ListN.{length, take};
 ghost use Rattle.objects.specs.Bounds.{maxMembers, maxPlaces};
-ghost use Rattle.print.specs.Written.{Wrote};
+ghost use Rattle.print.specs.Written.{maxLine, Wrote};
 ghost use Rattle.rules.specs.Asked.{fitted};
 ghost use Rattle.reply.specs.Done.{Does};
-ghost use Rattle.reply.specs.SetLines.{maxLine, Says, Short, selLine, selLines, setLines};
+ghost use Rattle.reply.specs.SetLines.{Says, Short, selLine, selLines, setLines};
 use crate::Done;
 use first_hits::FirstHit;
 use method_set::selection;
 use multiples::EmbeddedType;
+use objects::bounds::MAX_PLACES;
 use print::line_length;
 use print::put_line;
 
@@ -24,7 +25,7 @@ fn sel_length(
     numbers: &mut [u32],
 ) -> usize
     requires { ⌜ Says (now walk) (now hits) k × (maxPlaces + 2 ≤ length (now numbers)) ⌝ }
-    ensures { λ r. ⌜ (r ≡ length (selLine (now (rows .entry)) (now (walk .entry)) (now (hits .entry)) k)) × (r < maxLine) ⌝ }
+    ensures { λ r. ⌜ (r ≡ length (selLine (now (rows .entry)) (now (walk .entry)) (now (hits .entry)) k)) × (r ≤ maxLine) ⌝ }
 {
     let n = selection(rows, walk, hits, k, numbers);
     line_length(b"sel", numbers, n)
@@ -107,7 +108,7 @@ pub fn say_set(
     requires { ⌜ Short (now walk) (now hits) (take n (now names)) ⌝ }
     ensures { λ r. ⌜ Does (fitted (length (now (answer .entry))) (setLines (now (rows .entry)) (now (walk .entry)) (now (hits .entry)) (take n (now (names .entry))))) r (now (answer .entry)) (now (answer .exit)) ⌝ }
 {
-    let mut numbers = [0u32; 258];
+    let mut numbers = [0u32; MAX_PLACES + 2];
     let mut count = [0u32; 1];
     count[0] = n as u32;
     let head = line_length(b"set", &count, 1);

@@ -1,5 +1,5 @@
 -- What the checks of a whole table say of each of its lines (7 to 10), and the refusals that loading gives.
-use mathlib.Core.Path.{_≡_, refl}
+use mathlib.Core.Path.{_≡_, refl, ap}
 use mathlib.Core.Bool.{Bool, true, false}
 use mathlib.Core.List.{List, [], _∷_, _++_, append-assoc, append-nil}
 use mathlib.Core.Logic.{inl, inr}
@@ -8,17 +8,18 @@ use native.Mathlib.Omega.{arith}
 use lib.Dec.{ltb}
 use lib.ListN.{length, getD}
 use borrow.Author.Tests.{ltb-false}
-use Rattle.objects.specs.Bounds.{maxText, refusalUnit}
-use Rattle.objects.specs.Lists.{Bytes, In}
+use Rattle.objects.specs.Bounds.{refusalUnit, Bounds, bounds}
+use Rattle.objects.specs.Lists.{Bytes, In, headOr}
 use Rattle.objects.specs.declared.TypeKey.{TypeKey}
 use Rattle.objects.specs.Table.{Table, size, typeKey, Member, Kind, Basic, membersOf, kindAt}
 use Rattle.objects.proofs.ListLaws.{cases, In-append-l, In-append-r}
 use Rattle.objects.proofs.PartLaws.{getD-all}
 use Rattle.text.specs.Bytes.{ascii, sameBytes}
 use Rattle.text.specs.Lines.{split, pieces}
+use Rattle.text.proofs.ByteLaws.{same-true}
 use Rattle.text.proofs.PieceLaws.{split-few}
 use Rattle.rules.specs.Checks.{Item, typeItem, memberItem, memberItems, itemsFrom, items, lineOfItem, lacking, forbidden, clashing, containing}
-use Rattle.rules.specs.Load.{Loaded, refused, loaded, linesFrom, unless, checked, thenChecked, noTable, headed, load}
+use Rattle.rules.specs.Load.{Loaded, refused, loaded, linesFrom, unless, checked, thenChecked, noTable, headed, loadWithin, load}
 use Rattle.rules.proofs.LoadLaws.{Built, Read, none-built, read-later, lines-read}
 
 -- ---- the lines of the table are its items
@@ -88,45 +89,53 @@ pub record Passed (T : Table) : Type 0 where
   pub clashes : (i : Item) → In i (items T) → clashing T i ≡ false
   pub contains : (i : Item) → In i (items T) → containing T i ≡ false
 
--- a table that was built from the lines before a line and passed, or a refusal at one of them
-abbrev pub Right : ℕ → Loaded → Type 0
-Right line (refused n at) = (2 ≤ n) × (n ≤ 10) × (at < line)
-Right line (loaded T) = Built line T × Passed T
+module _ (w : Bounds) where
+  -- a table that was built from the lines before a line and passed, or a refusal at one of them
+  abbrev pub Right : ℕ → Loaded → Type 0
+  Right line (refused n at) = (2 ≤ n) × (n ≤ 10) × (at < line)
+  Right line (loaded T) = Built w line T × Passed T
 
-item-line : (line : ℕ) (T : Table) → 0 < line → Built line T → (i : Item) → lineOfItem T i < line
-unfolding lineOfItem
-item-line line T h b (typeItem t k) = getD-all (λ n. n < line) (T .typeLines) (t .0) 0 (b .typesAbove) h
-item-line line T h b (memberItem t k before m) = getD-all (λ n. n < line) (T .memberLines) (m .key .0) 0 (b .membersAbove) h
+  item-line : (line : ℕ) (T : Table) → 0 < line → Built w line T → (i : Item) → lineOfItem T i < line
+  unfolding lineOfItem
+  item-line line T h b (typeItem t k) = getD-all (λ n. n < line) (T .typeLines) (t .0) 0 (b .typesAbove) h
+  item-line line T h b (memberItem t k before m) = getD-all (λ n. n < line) (T .memberLines) (m .key .0) 0 (b .membersAbove) h
 
-checked-right : (line : ℕ) (T : Table) → 0 < line → Built line T → Right line (checked T)
-unfolding checked
-checked-right line T h b =
-    unless-is (Right line) T (lacking T) 7 (items T) _ (λ i j. (omega arith, omega arith, item-line line T h b i)) (λ lack.
-    unless-is (Right line) T (forbidden T) 8 (items T) _ (λ i j. (omega arith, omega arith, item-line line T h b i)) (λ forbid.
-    unless-is (Right line) T (clashing T) 9 (items T) _ (λ i j. (omega arith, omega arith, item-line line T h b i)) (λ clash.
-    unless-is (Right line) T (containing T) 10 (items T) (loaded T) (λ i j. (omega arith, omega arith, item-line line T h b i)) (λ contain.
-    (b, record { lacks = lack; forbids = forbid; clashes = clash; contains = contain })))))
+  checked-right : (line : ℕ) (T : Table) → 0 < line → Built w line T → Right line (checked T)
+  unfolding checked
+  checked-right line T h b =
+      unless-is (Right line) T (lacking T) 7 (items T) _ (λ i j. (omega arith, omega arith, item-line line T h b i)) (λ lack.
+      unless-is (Right line) T (forbidden T) 8 (items T) _ (λ i j. (omega arith, omega arith, item-line line T h b i)) (λ forbid.
+      unless-is (Right line) T (clashing T) 9 (items T) _ (λ i j. (omega arith, omega arith, item-line line T h b i)) (λ clash.
+      unless-is (Right line) T (containing T) 10 (items T) (loaded T) (λ i j. (omega arith, omega arith, item-line line T h b i)) (λ contain.
+      (b, record { lacks = lack; forbids = forbid; clashes = clash; contains = contain })))))
 
-then-right : (line : ℕ) (L : Loaded) → 0 < line → Read line L → Right line (thenChecked L)
-then-right line (refused n at) h r = let a = r .0 in let b = r .1 in (omega arith, omega arith, r .2)
-then-right line (loaded T) h r = checked-right line T h r
+  then-right : (line : ℕ) (L : Loaded) → 0 < line → Read w line L → Right line (thenChecked L)
+  then-right line (refused n at) h r = let a = r .0 in let b = r .1 in (omega arith, omega arith, r .2)
+  then-right line (loaded T) h r = checked-right line T h r
 
--- ---- the whole
+  -- ---- the whole
 
-headed-right : (ps : List Bytes) → length ps ≤ suc maxText → Right refusalUnit (headed ps)
-headed-right [] h = (omega arith, omega arith, omega arith)
-headed-right (first ∷ []) h = (omega arith, omega arith, omega arith)
-headed-right (first ∷ next ∷ rest) h =
-    cases (sameBytes first (ascii "typetable\t1"))
-    (λ e. rw e (then-right refusalUnit (linesFrom 2 noTable (next ∷ rest)) (omega arith) body))
-    (λ e. rw e (omega arith, omega arith, omega arith))
-  where
-    body : Read refusalUnit (linesFrom 2 noTable (next ∷ rest))
-    body = read-later (2 + length (next ∷ rest)) refusalUnit (linesFrom 2 noTable (next ∷ rest)) (omega arith) (lines-read 2 noTable (next ∷ rest) (none-built 2))
+  -- The header's bytes are part of the text: there are so many lines fewer.
+  headed-right : (line : ℕ) (ps : List Bytes) → 1 < line → length (headOr [] ps) + length ps ≤ suc line → Right line (headed w ps)
+  headed-right line [] l h = (omega arith, omega arith, omega arith)
+  headed-right line (first ∷ []) l h = (omega arith, omega arith, omega arith)
+  headed-right line (first ∷ next ∷ rest) l h =
+      cases (sameBytes first (ascii "typetable\t1"))
+      (λ e. rw e (then-right line (linesFrom w 2 noTable (next ∷ rest)) (omega arith) (body e)))
+      (λ e. rw e (omega arith, omega arith, omega arith))
+    where
+      body : sameBytes first (ascii "typetable\t1") ≡ true → Read w line (linesFrom w 2 noTable (next ∷ rest))
+      body e =
+          let header : length first ≡ length (ascii "typetable\t1") = ap length (same-true first (ascii "typetable\t1") e) in
+          read-later w (2 + length (next ∷ rest)) line (linesFrom w 2 noTable (next ∷ rest)) (omega arith) (lines-read w 2 noTable (next ∷ rest) (none-built w 2))
 
-pub load-right : (text : Bytes) → Right refusalUnit (load text)
-unfolding load pieces
-load-right text =
-    cases (ltb maxText (length text))
-    (λ e. rw e (omega arith, omega arith, omega arith))
-    (λ e. rw e (headed-right (split 10 text) (let h = ltb-false maxText (length text) e in let k = split-few 10 text in omega arith)))
+  -- whatever lines a text of so many bytes may have
+  pub right-within : (line : ℕ) → 1 < line → w .bytes ≤ line → (text : Bytes) → Right line (loadWithin w text)
+  unfolding loadWithin pieces
+  right-within line l most text =
+      cases (ltb (w .bytes) (length text))
+      (λ e. rw e (omega arith, omega arith, omega arith))
+      (λ e. rw e (headed-right line (split 10 text) l (let h = ltb-false (w .bytes) (length text) e in let k = split-few 10 text in omega arith)))
+
+pub load-right : (text : Bytes) → Right bounds refusalUnit (load text)
+load-right = right-within bounds refusalUnit (omega arith) (omega arith)

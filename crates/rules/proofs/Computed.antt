@@ -1,13 +1,13 @@
 -- The rows of specs/Worked.antt, Refusals.antt and Traps.antt, computed from the rules.
 use mathlib.Core.Path.{_≡_, refl}
 use mathlib.Core.Bool.{true}
-use mathlib.Core.List.{List, [], _∷_, map}
+use mathlib.Core.List.{[], _∷_, map}
 use lib.IntN.{pos, negℤ}
 use lib.ListN.{replicate}
-use Rattle.objects.specs.Bounds.{workWords}
+use Prim.Native.Nat.{suc}
+use Rattle.objects.specs.Bounds.{maxText, workWords}
 use Rattle.objects.specs.Rows.{dirAt}
 use Rattle.text.specs.Bytes.{ascii}
-use Rattle.rules.specs.Asked.{Asked}
 use Rattle.rules.specs.Rows.{called, owed, allPrint, spaced, _⏎_, buffer, calling}
 use Rattle.rules.specs.Worked.{office, worked}
 use Rattle.rules.specs.Refusals.{refusals, programs}
@@ -44,7 +44,7 @@ refused-1 : calling office (ascii "V") buffer (7 ∷ 7 ∷ []) ≡ record { numb
 unfolding calling
 refused-1 = refl
 
-refused-2 : calling (replicate 32_769 120) (ascii "V") buffer (replicate workWords 7) ≡ record { number = negℤ (pos 131_072); answer = buffer; work = replicate workWords 0 }
+refused-2 : calling (replicate (suc maxText) 120) (ascii "V") buffer (replicate workWords 7) ≡ record { number = negℤ (pos 131_072); answer = buffer; work = replicate workWords 0 }
 unfolding calling
 refused-2 = refl
 

@@ -8,19 +8,19 @@ use lib.Dec.{ltb}
 use lib.IntN.{ℤ, pos, negsuc, negℤ, negℤ-negℤ, pos-ne-negsuc}
 use lib.ListN.{length, drop, length-append, length-drop}
 use borrow.Author.Tests.{ltb-false}
-use Rattle.objects.specs.Bounds.{workWords, refusalUnit}
+use Rattle.objects.specs.Bounds.{workWords, refusalUnit, bounds}
 use Rattle.objects.specs.Lists.{Bytes}
 use Rattle.objects.specs.Table.{Table}
 use Rattle.objects.proofs.ListLaws.{cases}
 use Rattle.rules.specs.Load.{Loaded, refused, loaded, load}
 use Rattle.rules.specs.Question.{Question, questionOf}
 use Rattle.rules.specs.Answer.{answer, answerBytes}
-use Rattle.rules.specs.Asked.{Outcome, refuse, say, fitted, wrongSecond, answered, outcomeOf, outcome, refusal, numberOf, written, asked}
+use Rattle.rules.specs.Asked.{Outcome, refuse, say, fitted, wrongSecond, answered, outcomeOf, outcomeWithin, outcome, refusal, numberOf, written, askedWithin, asked}
 use Rattle.rules.proofs.CheckLaws.{Right, load-right}
 
 -- ---- loading
 
-load-bounds : (text : Bytes) (n line : ℕ) → load text ≡ refused n line → Right refusalUnit (refused n line)
+load-bounds : (text : Bytes) (n line : ℕ) → load text ≡ refused n line → Right bounds refusalUnit (refused n line)
 load-bounds text n line e = rw e at (load-right text)
 
 -- every line that is named is below 65,536
@@ -49,10 +49,10 @@ answered-bounded T room (some q) =
     fits bytes = cases (ltb room (length bytes)) (λ e. rw e (omega arith, omega arith, omega arith)) (λ e. rw e (ltb-false room (length bytes) e))
 
 outcome-bounded : (table question : Bytes) (room : ℕ) → Bounded room (outcome table question room)
-unfolding outcome outcomeOf
+unfolding outcomeWithin outcomeOf
 outcome-bounded table question room = go (load table) (load-right table)
   where
-    go : (L : Loaded) → Right refusalUnit L → Bounded room (outcomeOf L question room)
+    go : (L : Loaded) → Right bounds refusalUnit L → Bounded room (outcomeOf L question room)
     go (refused n line) r = let h = r .1 in (r .0, omega arith, r .2)
     go (loaded T) r = answered-bounded T room (questionOf T question)
 
@@ -82,7 +82,7 @@ number-of room (say bytes) fit b = length-is (length bytes) b (omega arith)
 
 -- every call gives such a number, refusal 1 included
 pub asked-number : (table question buffer : Bytes) (work : List ℕ) → length buffer < 2 ^ 63 → CallNumber (length buffer) (asked table question buffer work .number)
-unfolding asked
+unfolding askedWithin
 asked-number table question buffer work fit =
     cases (ltb (length work) workWords)
     (λ e. rw e (refusal-number (length buffer) 1 0 (omega arith) (omega arith) (omega arith)))
@@ -114,7 +114,7 @@ written-length (say bytes) buffer b = rw (length-append bytes (drop (length byte
 
 -- the buffer keeps its length
 pub buffer-length : (table question buffer : Bytes) (work : List ℕ) → length (asked table question buffer work .answer) ≡ length buffer
-unfolding asked
+unfolding askedWithin
 buffer-length table question buffer work =
     cases (ltb (length work) workWords)
     (λ e. rw e)
@@ -127,7 +127,7 @@ refused-keeps (refuse n line) buffer k e = refl
 refused-keeps (say bytes) buffer k e = absurd (pos-ne-negsuc (length bytes) k e)
 
 pub buffer-kept : (table question buffer : Bytes) (work : List ℕ) (k : ℕ) → asked table question buffer work .number ≡ negsuc k → asked table question buffer work .answer ≡ buffer
-unfolding asked
+unfolding askedWithin
 buffer-kept table question buffer work k h =
     cases (ltb (length work) workWords)
     (λ e. rw e)

@@ -7,7 +7,7 @@ use Prim.Native.Nat.{ℕ}
 use native.Mathlib.Omega.{arith}
 use lib.ListN.{getD}
 use borrow.Author.Tests.{not-false}
-use Rattle.objects.specs.Bounds.{refusalUnit}
+use Rattle.objects.specs.Bounds.{refusalUnit, bounds}
 use Rattle.objects.specs.Lists.{Bytes, any, every, lastOf, headOr, In, Sorted}
 use Rattle.objects.specs.declared.TypeKey.{TypeKey}
 use Rattle.objects.specs.Table.{Table, size, sameType, Member, Kind, Basic, isIface, isNamed, refs, membersOf, fieldsOf, declaredOf, allMethodsOf, byValue, hasType, hasPackage, kindAt, under}
@@ -48,7 +48,7 @@ clear T k before m h = record {
     falls : Bool
     falls = isIface k && not (ascends T before m)
 
-module _ (T : Table) (line : ℕ) (b : Built line T) (p : Passed T) where
+module _ (T : Table) (line : ℕ) (b : Built bounds line T) (p : Passed T) where
   well-formed : (t : TypeKey) → WellFormed (kindAt T t)
   unfolding kindAt
   well-formed t = at-type T WellFormed t (fresh (Basic 0) (omega arith, refl)) (λ h. b .kinds (getD (T .types) (t .0) (Basic 0)) (getD-In (T .types) (t .0) (Basic 0) h))
@@ -136,7 +136,7 @@ module _ (T : Table) (line : ℕ) (b : Built line T) (p : Passed T) where
 
 -- EVERY TABLE THAT LOADS IS SOUND
 pub loads-sound : (text : Bytes) (T : Table) → load text ≡ loaded T → Sound T
-loads-sound text T e = let r : Right refusalUnit (loaded T) = rw e at (load-right text) in sound-of T refusalUnit (r .0) (r .1)
+loads-sound text T e = let r : Right bounds refusalUnit (loaded T) = rw e at (load-right text) in sound-of T refusalUnit (r .0) (r .1)
 
 -- and so is the table that rows of a library hold
 pub library-sound : {text : Bytes} {rows : Words} → Library text rows → Sound (tableOf text rows)

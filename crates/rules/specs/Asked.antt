@@ -6,10 +6,10 @@ use Prim.Native.Nat.{ℕ, _+_, _*_}
 use lib.Dec.{ltb}
 use lib.IntN.{ℤ, pos, negℤ}
 use lib.ListN.{length, drop, replicate}
-use Rattle.objects.specs.Bounds.{workWords, refusalUnit}
+use Rattle.objects.specs.Bounds.{workWords, refusalUnit, Bounds, bounds}
 use Rattle.objects.specs.Lists.{Bytes}
 use Rattle.objects.specs.Table.{Table, isIface, kindAt}
-use Rattle.rules.specs.Load.{Loaded, refused, loaded, load}
+use Rattle.rules.specs.Load.{Loaded, refused, loaded, loadWithin}
 use Rattle.rules.specs.Question.{Question, askS, askM, askN, askI, askC, askV, questionOf}
 use Rattle.rules.specs.Answer.{answer, answerBytes}
 
@@ -41,8 +41,11 @@ outcomeOf (refused n line) question room = refuse n line
 outcomeOf (loaded T) question room = answered T room (questionOf T question)
 
 -- refusals 2 to 13, "in this order"
-unfoldable pub outcome : Bytes → Bytes → ℕ → Outcome
-outcome table question room = outcomeOf (load table) question room
+unfoldable pub outcomeWithin : Bounds → Bytes → Bytes → ℕ → Outcome
+outcomeWithin b table question room = outcomeOf (loadWithin b table) question room
+
+abbrev pub outcome : Bytes → Bytes → ℕ → Outcome
+outcome table question room = outcomeWithin bounds table question room
 
 -- "the answer's length, or minus (refusal × 65,536 + line)"
 unfoldable pub refusal : ℕ → ℕ → ℤ
@@ -63,9 +66,12 @@ pub record Asked : Type 0 where
   pub work : List ℕ
 
 -- 1: "The work area has fewer words than the number the team fixes". "The work area is zero on every return except after refusal 1, which leaves it unchanged."
-unfoldable pub asked : Bytes → Bytes → Bytes → List ℕ → Asked
-asked table question buffer work =
+unfoldable pub askedWithin : Bounds → Bytes → Bytes → Bytes → List ℕ → Asked
+askedWithin b table question buffer work =
     cond (ltb (length work) workWords)
     (record { number = refusal 1 0; answer = buffer; work = work })
-    (let o = outcome table question (length buffer) in
+    (let o = outcomeWithin b table question (length buffer) in
     record { number = numberOf o; answer = written o buffer; work = replicate (length work) 0 })
+
+abbrev pub asked : Bytes → Bytes → Bytes → List ℕ → Asked
+asked table question buffer work = askedWithin bounds table question buffer work

@@ -2,10 +2,10 @@
 use mathlib.Core.Bool.{Bool, true, false, cond, _&&_, _||_}
 use mathlib.Core.List.{List, [], _∷_, _++_}
 use mathlib.Core.Option.{Option, none, some}
-use Prim.Native.Nat.{ℕ, suc}
+use Prim.Native.Nat.{ℕ, suc, _≤_}
 use lib.Dec.{ltb}
 use lib.ListN.{length}
-use Rattle.objects.specs.Bounds.{maxTypes, maxPackages, maxMembers, maxPerType, maxText}
+use Rattle.objects.specs.Bounds.{maxPackages, maxPerType, Bounds, bounds}
 use Rattle.objects.specs.Lists.{Bytes, empty, lastOr, onLast}
 use Rattle.objects.specs.Table.{Table, size, memberCount, objKey, Entity, Field, Method, Member, Kind, Basic, isStruct, isIface, isNamed, membersOf, withMember}
 use Rattle.text.specs.Bytes.{ascii, sameBytes}
@@ -43,29 +43,31 @@ inPlace T (packageLine path) = empty (T .types)
 inPlace T (typeLine k) = true
 inPlace T (memberLine name pkg type entity) = stands entity (lastKind T)
 
--- 6: "A 65th package, 257th type, 1,025th member, or 256th member of one type"
-abbrev pub hasRoom : Table → Line → Bool
-hasRoom T (packageLine path) = ltb (length (T .packages)) maxPackages
-hasRoom T (typeLine k) = ltb (size T) maxTypes
-hasRoom T (memberLine name pkg type entity) = ltb (memberCount T) maxMembers && ltb (length (membersOf (lastKind T))) maxPerType
+-- For any bounds; those of packages and of the members of one type are no part of them.
+module _ (b : Bounds) where
+  -- 6: "A 65th package, 257th type, 1,025th member, or 256th member of one type"
+  abbrev pub hasRoom : Table → Line → Bool
+  hasRoom T (packageLine path) = ltb (length (T .packages)) maxPackages
+  hasRoom T (typeLine k) = ltb (size T) (b .types)
+  hasRoom T (memberLine name pkg type entity) = ltb (memberCount T) (b .members) && ltb (length (membersOf (lastKind T))) maxPerType
 
--- a line of right form: 5, then 6
-abbrev pub placed : Table → ℕ → Line → Loaded
-placed T line l = cond (inPlace T l) (cond (hasRoom T l) (loaded (added T line l)) (refused 6 line)) (refused 5 line)
+  -- a line of right form: 5, then 6
+  abbrev pub placed : Table → ℕ → Line → Loaded
+  placed T line l = cond (inPlace T l) (cond (hasRoom T l) (loaded (added T line l)) (refused 6 line)) (refused 5 line)
 
--- "4 to 6 are tried in turn on each line"
-abbrev pub lineAdded : Table → ℕ → Option Line → Loaded
-lineAdded T line none = refused 4 line
-lineAdded T line (some l) = placed T line l
+  -- "4 to 6 are tried in turn on each line"
+  abbrev pub lineAdded : Table → ℕ → Option Line → Loaded
+  lineAdded T line none = refused 4 line
+  lineAdded T line (some l) = placed T line l
 
--- the pieces of the text from a line on; the last is no line if it is empty, and otherwise lacks its newline (4)
-unfoldable pub linesFrom : ℕ → Table → List Bytes → Loaded
-linesFrom line T [] = loaded T
-linesFrom line T (last ∷ []) = cond (empty last) (loaded T) (refused 4 line)
-linesFrom line T (piece ∷ next ∷ rest) = elim (lineAdded T line (lineOf (fields piece))) [
-  | refused n at ↦ refused n at
-  | loaded U ↦ linesFrom (suc line) U (next ∷ rest)
-]
+  -- the pieces of the text from a line on; the last is no line if it is empty, and otherwise lacks its newline (4)
+  unfoldable pub linesFrom : ℕ → Table → List Bytes → Loaded
+  linesFrom line T [] = loaded T
+  linesFrom line T (last ∷ []) = cond (empty last) (loaded T) (refused 4 line)
+  linesFrom line T (piece ∷ next ∷ rest) = elim (lineAdded T line (lineOf (fields piece))) [
+    | refused n at ↦ refused n at
+    | loaded U ↦ linesFrom (suc line) U (next ∷ rest)
+  ]
 
 -- ---- the whole
 
@@ -95,14 +97,30 @@ thenChecked (loaded T) = checked T
 abbrev pub noTable : Table
 noTable = record { packages = []; types = []; typeLines = []; memberLines = [] }
 
--- 3: "The first line is not exactly `typetable`, tab, `1`, newline (line 1, also for empty text)."
-abbrev pub headed : List Bytes → Loaded
-headed [] = refused 3 1
-headed (first ∷ []) = refused 3 1
-headed (first ∷ next ∷ rest) = cond (sameBytes first (ascii "typetable\t1"))
-    (thenChecked (linesFrom 2 noTable (next ∷ rest)))
-    (refused 3 1)
+module _ (b : Bounds) where
+  -- 3: "The first line is not exactly `typetable`, tab, `1`, newline (line 1, also for empty text)."
+  abbrev pub headed : List Bytes → Loaded
+  headed [] = refused 3 1
+  headed (first ∷ []) = refused 3 1
+  headed (first ∷ next ∷ rest) = cond (sameBytes first (ascii "typetable\t1"))
+      (thenChecked (linesFrom b 2 noTable (next ∷ rest)))
+      (refused 3 1)
 
--- 2: "The table has more than 32,768 bytes."
-unfoldable pub load : Bytes → Loaded
-load text = cond (ltb maxText (length text)) (refused 2 0) (headed (pieces text))
+  -- 2: "The table has more than 32,768 bytes."
+  unfoldable pub loadWithin : Bytes → Loaded
+  loadWithin text = cond (ltb (b .bytes) (length text)) (refused 2 0) (headed (pieces text))
+
+abbrev pub load : Bytes → Loaded
+load text = loadWithin bounds text
+
+-- a text and its table are within b
+pub record Within (b : Bounds) (text : Bytes) (T : Table) : Type 0 where
+  pub bytes : length text ≤ b .bytes
+  pub types : size T ≤ b .types
+  pub members : memberCount T ≤ b .members
+
+-- no bound of b is above that of b′
+pub record Wider (b b′ : Bounds) : Type 0 where
+  pub bytes : b .bytes ≤ b′ .bytes
+  pub types : b .types ≤ b′ .types
+  pub members : b .members ≤ b′ .members

@@ -1,9 +1,11 @@
 -- A row or more for each refusal from 2 to 12 with its line, and for what the program reads.
 use mathlib.Core.List.{List, [], _∷_, _++_}
-use Prim.Native.Nat.{ℕ, zero, suc}
+use Prim.Native.Nat.{ℕ, zero, suc, _+_, _/_, _%_}
 use Prim.Native.String.{String}
 use lib.ListN.{replicate}
+use Rattle.objects.specs.Bounds.{maxPackages, maxTypes, maxMembers, maxPerType, maxText}
 use Rattle.objects.specs.Lists.{Bytes}
+use Rattle.rules.specs.Typeask.{refusedBytes}
 use Rattle.rules.specs.Rows.{Run, run, whole, bad, table, _⏎_, spaced}
 use Rattle.rules.specs.Worked.{office}
 
@@ -14,7 +16,11 @@ times (suc n) l rest = l ⏎ times n l rest
 
 -- a struct with as many members as one type may have
 abbrev full : Bytes → Bytes
-full rest = "T struct" ⏎ times 255 "F _ - 0 0" rest
+full rest = "T struct" ⏎ times maxPerType "F _ - 0 0" rest
+
+abbrev fulls : ℕ → Bytes → Bytes
+fulls zero rest = rest
+fulls (suc n) rest = full (fulls n rest)
 
 -- tables and questions that are refused
 abbrev pub refusals : List Run
@@ -36,11 +42,11 @@ refusals =
     ∷ bad (table ("T basic 2" ⏎ "P a" ⏎ [])) ("refused 5 3" ⏎ [])
     ∷ bad (table ("T iface" ⏎ "F X - 0 0" ⏎ [])) ("refused 5 3" ⏎ [])
     ∷ bad (table ("T struct" ⏎ "M X - 0 0" ⏎ [])) ("refused 5 3" ⏎ [])
-    -- 6: a 65th package, a 257th type, a 256th member of one type, a 1,025th member
-    ∷ bad (table (times 65 "P a" [])) ("refused 6 66" ⏎ [])
-    ∷ bad (table (times 257 "T struct" [])) ("refused 6 258" ⏎ [])
-    ∷ bad (table ("T struct" ⏎ times 256 "F _ - 0 0" [])) ("refused 6 258" ⏎ [])
-    ∷ bad (table (full (full (full (full ("T struct" ⏎ times 5 "F _ - 0 0" [])))))) ("refused 6 1031" ⏎ [])
+    -- 6: a package, a type, a member of one type and a member more than there may be, behind the header and the lines that there is room for
+    ∷ bad (table (times (suc maxPackages) "P a" [])) (refusedBytes 6 (1 + maxPackages + 1))
+    ∷ bad (table (times (suc maxTypes) "T struct" [])) (refusedBytes 6 (1 + maxTypes + 1))
+    ∷ bad (table ("T struct" ⏎ times (suc maxPerType) "F _ - 0 0" [])) (refusedBytes 6 (1 + 1 + maxPerType + 1))
+    ∷ bad (table (fulls (maxMembers / maxPerType) ("T struct" ⏎ times (suc (maxMembers % maxPerType)) "F _ - 0 0" []))) (refusedBytes 6 (1 + (maxMembers / maxPerType + 1) + maxMembers + 1))
     -- 7: a type and a package that the table lacks
     ∷ bad (table ("T basic 2" ⏎ "T slice 9999" ⏎ [])) ("refused 7 3" ⏎ [])
     ∷ bad (table ("P a" ⏎ "T basic 2" ⏎ "T struct" ⏎ "F X 1 0 0" ⏎ [])) ("refused 7 5" ⏎ [])
@@ -82,6 +88,6 @@ programs =
     ∷ whole (office ++ "Q" ⏎ []) []
     ∷ whole (office ++ "Q" ⏎ "" ⏎ "V" ⏎ []) ("refused 11 0" ⏎ "ok 1 8 3" ⏎ [])
     ∷ whole ("Q" ⏎ "V" ⏎ []) ("refused 3 1" ⏎ [])
-    -- 2: "at most 32,768 bytes in all"
-    ∷ whole (replicate 32_769 120) ("refused 2 0" ⏎ [])
+    -- 2: a byte more than there may be "in all"
+    ∷ whole (replicate (suc maxText) 120) ("refused 2 0" ⏎ [])
     ∷ []

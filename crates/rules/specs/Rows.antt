@@ -1,6 +1,6 @@
 -- Rows of worked examples: a text and what is due for it, and the tests that rows are right. The prover computes them (proofs/Computed.antt).
 use mathlib.Core.Bool.{Bool, cond}
-use mathlib.Core.List.{List, [], _∷_, _++_, map}
+use mathlib.Core.List.{List, [], _∷_, _++_}
 use Prim.Native.Nat.{ℕ, _-_}
 use Prim.Native.Char.{code}
 use Prim.Native.String.{String, [] as []ˢ, _∷_ as _∷ˢ_}
@@ -17,15 +17,15 @@ use Rattle.rules.specs.Forms.{kindForm, lineForm, lineOf}
 use Rattle.rules.specs.Chains.{leads}
 use Rattle.rules.specs.Identity.{realType, ownNumber, parts, mismatch, pairParts, identical}
 use Rattle.rules.specs.Checks.{itemsFrom, lineOfItem, lacking, forbidden, clashing, containing}
-use Rattle.rules.specs.Load.{added, linesFrom, unless, checked, load}
+use Rattle.rules.specs.Load.{added, linesFrom, unless, checked, loadWithin}
 use Rattle.rules.specs.Comparable.{comparableKind, comparableIn, comparable}
 use Rattle.rules.specs.Ways.{owned, onward, walks, ways, shortestFrom, shortest, searched, select}
 use Rattle.rules.specs.MethodSet.{methodFlag, callable, onlyMethod, methodNames, methodSet}
 use Rattle.rules.specs.Missing.{unmet, missing}
 use Rattle.rules.specs.Question.{questionForm, questionOf}
 use Rattle.rules.specs.Answer.{answer, answerBytes}
-use Rattle.rules.specs.Asked.{Asked, outcomeOf, outcome, refusal, numberOf, written, asked}
-use Rattle.rules.specs.Typeask.{inputOf, typeask}
+use Rattle.rules.specs.Asked.{Asked, outcomeOf, outcomeWithin, refusal, numberOf, written, askedWithin, asked}
+use Rattle.rules.specs.Typeask.{inputOf, typeaskWithin, typeask}
 
 -- ---- texts
 
@@ -45,7 +45,7 @@ table lines = "typetable 1" ⏎ lines
 
 -- Everything that is computed: what is opened here is open where `called` and `prints` are.
 unfoldable opened : Bytes → Bytes
-unfolding isName isBlank isPath isTag exported valueFrom isNumeral number digitsOn decimal split pieces fields kindAt pathOf under bare pointerAt ifaceUnder namedPointer allMethods identityFrom identityOf sameId idBytes kindForm lineForm lineOf leads realType ownNumber parts mismatch pairParts identical itemsFrom lineOfItem lacking forbidden clashing containing added linesFrom unless checked load comparableKind comparableIn comparable owned onward walks ways shortestFrom shortest searched select methodFlag callable onlyMethod methodNames methodSet unmet missing questionForm questionOf answer answerBytes outcomeOf outcome refusal numberOf written asked inputOf typeask
+unfolding isName isBlank isPath isTag exported valueFrom isNumeral number digitsOn decimal split pieces fields kindAt pathOf under bare pointerAt ifaceUnder namedPointer allMethods identityFrom identityOf sameId idBytes kindForm lineForm lineOf leads realType ownNumber parts mismatch pairParts identical itemsFrom lineOfItem lacking forbidden clashing containing added linesFrom unless checked loadWithin comparableKind comparableIn comparable owned onward walks ways shortestFrom shortest searched select methodFlag callable onlyMethod methodNames methodSet unmet missing questionForm questionOf answer answerBytes outcomeOf outcomeWithin refusal numberOf written askedWithin inputOf typeaskWithin
 opened b = b
 
 -- ---- a call

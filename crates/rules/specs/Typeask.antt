@@ -4,11 +4,11 @@ use mathlib.Core.List.{List, [], _∷_, _++_}
 use Prim.Native.Nat.{ℕ}
 use lib.Dec.{ltb}
 use lib.ListN.{length}
-use Rattle.objects.specs.Bounds.{maxText, programAnswer}
+use Rattle.objects.specs.Bounds.{programAnswer, Bounds, bounds}
 use Rattle.objects.specs.Lists.{Bytes, flat, empty}
 use Rattle.text.specs.Bytes.{ascii, decimal, sameBytes}
 use Rattle.text.specs.Lines.{pieces}
-use Rattle.rules.specs.Load.{Loaded, refused, loaded, load}
+use Rattle.rules.specs.Load.{Loaded, refused, loaded, loadWithin}
 use Rattle.rules.specs.Answer.{lineBytes}
 use Rattle.rules.specs.Asked.{Outcome, refuse, say, outcomeOf}
 
@@ -48,9 +48,12 @@ abbrev pub printedAll : Loaded → List Bytes → Bytes
 printedAll (refused n line) questions = refusedBytes n line
 printedAll (loaded T) questions = flat (λ q. printed (outcomeOf (loaded T) q programAnswer)) questions
 
-abbrev pub answeredAll : Input → Bytes
-answeredAll i = printedAll (load (i .table)) (i .questions)
+abbrev pub answeredAll : Bounds → Input → Bytes
+answeredAll b i = printedAll (loadWithin b (i .table)) (i .questions)
 
 -- "at most 32,768 bytes in all, otherwise it prints refusal 2"
-unfoldable pub typeask : Bytes → Bytes
-typeask input = cond (ltb maxText (length input)) (refusedBytes 2 0) (answeredAll (inputOf (pieces input)))
+unfoldable pub typeaskWithin : Bounds → Bytes → Bytes
+typeaskWithin b input = cond (ltb (b .bytes) (length input)) (refusedBytes 2 0) (answeredAll b (inputOf (pieces input)))
+
+abbrev pub typeask : Bytes → Bytes
+typeask input = typeaskWithin bounds input

@@ -47,9 +47,6 @@ pub struct Selection {
     pub count: usize,
 }
 
-// "256 places in a way": the room for the first way's places
-pub const MAX_PLACES: usize = 256;
-
 // A member of a type itself, at its place in the list that it stands in.
 pub enum Own {
     Nothing,

@@ -13,6 +13,9 @@ ghost use Rattle.text.specs.Bytes.{isName, isPath, isTag, number};
 ghost use Rattle.text.specs.Readers.{field};
 ghost use Rattle.text.specs.Cursors.{fieldsLeft, partRead, numRead, pastRead, exactly};
 ghost use Rattle.text.specs.Runs.{closedAt, Exact};
+use objects::bounds::MAX_NAME;
+use objects::bounds::MAX_PATH;
+use objects::bounds::MAX_TAG;
 
 // What is left of a line: its bytes from `at` up to `end`, if there are fields left at all.
 pub struct Cursor {
@@ -49,12 +52,6 @@ pub enum Order {
     Equal,
     Greater,
 }
-
-const MAX_NAME: usize = 64;
-
-const MAX_PATH: usize = 128;
-
-const MAX_TAG: usize = 128;
 
 impl Cursor {
     // All of the line whose bytes go from one place up to another.

@@ -11,6 +11,7 @@ use lib.Seq.{getD-set-other}
 use borrow.Author.Tests.{eqb-true, eqb-false, not-true, not-false}
 use Rattle.objects.specs.declared.TypeKey.{TypeKey}
 use Rattle.objects.specs.declared.«Type».{«Type»}
+use Rattle.objects.specs.Bounds.{wordValues}
 use Rattle.objects.specs.Lists.{Bytes, In, every, upTo}
 use Rattle.objects.specs.Table.{Member, byValue, kindAt}
 use Rattle.objects.specs.Rows.{Words, typeCount, tableOf, membersFrom}
@@ -30,7 +31,7 @@ use Rattle.rules.proofs.Sounds.{library-sound}
 use Rattle.type_parts.proofs.Spans.{SpanIs, span-is, span-small}
 use Rattle.type_parts.proofs.ReadLaws.{member-types, meant-at}
 use Rattle.typ.specs.Contents.{mayCompareIn, heldIn, contentIn, mayCompare, contentCount, contentAt, MetComparable, Judged}
-use Rattle.typ.proofs.Zero.{getD-zeros}
+use Rattle.pair_marks.proofs.Zero.{getD-zeros}
 use Rattle.typ.proofs.Lower.{lower, lower-falls}
 
 every-map : {A B : Type 0} (p : B → Bool) (f : A → B) (l : List A) → every p (map f l) ≡ every (λ x. p (f x)) l
@@ -110,7 +111,7 @@ module _ (text : Bytes) (rows : Words) (lib : Library text rows) (t : TypeKey) (
   step : comparable (tableOf text rows) t ≡ mayCompare rows t && every (comparable (tableOf text rows)) (contents (tableOf text rows) t)
   step = comparable-step (tableOf text rows) sound t ∙ kind-at text rows t h (comparable (tableOf text rows))
 
-  pub held-place : (i n : ℕ) → n ≡ contentCount rows t → i < n → firstRead rows t + i < 65_536
+  pub held-place : (i n : ℕ) → n ≡ contentCount rows t → i < n → firstRead rows t + i < wordValues
   unfolding contentCount
   held-place i n e k = omega (arith, span-small rows t (lib .laid) h, held-small (firstRead rows t) (totalRead rows t) (typeRead rows t) (span-is rows t))
 

@@ -2,19 +2,18 @@
 use mathlib.Core.Path.{_≡_, refl, sym, _∙_}
 use mathlib.Core.Bool.{Bool, true, false, not}
 use mathlib.Core.List.{List}
-use mathlib.Core.Logic.{_⊎_}
-use Prim.Native.Nat.{ℕ, _+_, _*_, _<_, _≤_}
+use mathlib.Core.Logic.{_⊎_, _≢_}
+use Prim.Native.Nat.{ℕ, _+_, _*_, _/_, _<_, _≤_}
 use native.Mathlib.Omega.{arith}
-use lib.ListN.{length}
+use native.Mathlib.Nat.{le-trans}
+use lib.ListN.{length, getD}
 use borrow.Author.Tests.{not-true, not-false}
 use Rattle.objects.specs.declared.TypeKey.{TypeKey}
-use Rattle.objects.specs.Bounds.{maxTypes, markWords}
+use Rattle.objects.specs.Bounds.{maxTypes, pairWords}
 use Rattle.objects.specs.Lists.{Bytes}
-use Rattle.objects.specs.Table.{Table, size}
+use Rattle.objects.specs.Table.{Table, size, typeKey}
 use Rattle.objects.specs.Rows.{Words, typeCount, tableOf}
-use Rattle.objects.specs.Types.{numberRead}
-use Rattle.objects.proofs.ListLaws.{cases, clash, either}
-use Rattle.objects.proofs.BoolLaws.{false-of}
+use Rattle.objects.proofs.ListLaws.{clash}
 use Rattle.objects.proofs.KeyLaws.{key-eq}
 use Rattle.objects.proofs.RowLaws.{size-read}
 use Rattle.rules.specs.Identity.{mismatch}
@@ -23,30 +22,27 @@ use Rattle.rules.specs.Library.{Library}
 use Rattle.rules.proofs.StepLaws.{same-zero, same-split, same-self, agree-match}
 use Rattle.type_parts.specs.Parts.{partCount, partAt, pairOf, Peers}
 use Rattle.type_parts.proofs.StepAt.{step-join}
-use Rattle.type_parts.proofs.Rank.{rank, high, high-le, high-rank, rank-part}
+use Rattle.type_parts.proofs.Rank.{rank, high, high-le, rankSpan, rank-part}
 use Rattle.type_parts.proofs.KinLaws.{peers-kin, left-in}
-use Rattle.typ.specs.Marks.{met, meet, unmet}
-use Rattle.typ.specs.Classes.{OneClass}
-use Rattle.typ.specs.Compared.{pairs, pair, opened, Grown, Entered, PairEntered, Apart, Well, AllMet, Follows, Compared, PartsCompared, AtOnce}
-use Rattle.typ.proofs.Bits.{met-same, met-other, unmet-falls}
-use Rattle.typ.proofs.Marked.{grown-trans, grown-meet, in-l, in-m, went-met, went-off, well-open, went-open}
-use Rattle.typ.proofs.Following.{follows-grown, follows-joined, went-class}
+use Rattle.pair_marks.specs.Marks.{met, unmet}
+use Rattle.pair_marks.specs.Classes.{OneClass}
+use Rattle.pair_marks.specs.Pairs.{pair}
+use Rattle.typ.specs.Compared.{Entered, Same, Well, Compared, PartsCompared, AtOnce}
+use Rattle.pair_marks.proofs.Bits.{unmet-falls}
+use Rattle.pair_marks.proofs.PairLaws.{pair-in}
+use Rattle.typ.proofs.Marked.{went-parts, taken-same, went-taken}
+use Rattle.typ.proofs.Entering.{went-off, well-open, went-open}
 use Rattle.typ.proofs.Passing.{Passed}
-
--- ---- `enter`
-
-module _ (l : List ℕ) (p : ℕ) (m : List ℕ) (f : m ≡ meet l p) where
-  pub enter-off : Entered l m p false
-  enter-off = record { passed = λ _. f; entered = λ q. clash q refl }
-
-  pub enter-open : (v : Bool) → v ≡ met m (pairs + p) → v ≡ false → (o : List ℕ) → o ≡ meet m (pairs + p) → Entered l o p true
-  enter-open v g k o z = record { passed = λ q. clash refl q; entered = λ _. (rw f at (sym g ∙ k), rw f at z) }
 
 -- ---- told apart at once
 
 module _ (T : Table) (x y : TypeKey) where
-  pub mismatch-apart : (r : Bool) → r ≡ mismatch T (pairOf x y) → r ≡ true → Apart T x y
-  mismatch-apart r e h = (1, false-of (sameIn T 1 x y) (λ s. clash (sym e ∙ h) (agree-match T (sameIn T 0) x y (same-split T 0 x y s))))
+  -- types that agree for one step are told apart by their parts at most
+  pub once-match : sameIn T 1 x y ≡ true → mismatch T (pairOf x y) ≡ false
+  once-match s = agree-match T (sameIn T 0) x y (same-split T 0 x y s)
+
+  pub mismatch-apart : (r : Bool) → r ≡ mismatch T (pairOf x y) → r ≡ true → Same T x y → ⊥
+  mismatch-apart r e h s = clash (sym e ∙ h) (once-match (s 1))
 
   pub no-mismatch : (r : Bool) → r ≡ mismatch T (pairOf x y) → r ≡ false → x .0 < size T → y .0 < size T → Peers T x y
   no-mismatch r e h hx hy = record { left = hx; right = hy; alike = sym e ∙ h }
@@ -61,95 +57,75 @@ module _ (T : Table) (x y : TypeKey) where
   at-once-else l l′ c c′ r h m = clash m h
 
   pub self-match : x .0 ≡ y .0 → mismatch T (pairOf x y) ≡ false
-  self-match e = let z : x ≡ y = key-eq x y e in agree-match T (sameIn T 0) x y (same-split T 0 x y (rw z (same-self T 1 y)))
+  self-match e = let z : x ≡ y = key-eq x y e in once-match (rw z (same-self T 1 y))
 
 module _ (text : Bytes) (rows : Words) (lib : Library text rows) where
-  few : size (tableOf text rows) ≤ maxTypes
-  few = rw (size-read text rows) (lib .laid .types)
-
   pub key-small : (x : TypeKey) → x .0 < typeCount rows → x .0 < maxTypes
   key-small x h = omega (arith, lib .laid .types)
 
-  -- a pair that was met, or follows from those met, is no mismatch
-  module _ (x y : TypeKey) (hx : x .0 < maxTypes) (hy : y .0 < maxTypes) (l c : List ℕ) (w : Well (tableOf text rows) l) (f : Follows (tableOf text rows) l c) where
-    one-step : AllMet (tableOf text rows) 1 l
-    unfolding AllMet Well
-    one-step a b ha hb m = step-join text rows a b (w a b ha hb m) 0 (λ i h. same-zero (tableOf text rows) (partAt rows a i) (partAt rows b i))
+  pub in-size : (x : TypeKey) → x .0 < typeCount rows → x .0 < size (tableOf text rows)
+  in-size x h = rw (size-read text rows) h
 
-    pub known-match : OneClass c x y ⊎ (met l (pair x y) ≡ true) → mismatch (tableOf text rows) (pairOf x y) ≡ false
-    unfolding Well
-    known-match n =
-        either n
-        (λ o. agree-match (tableOf text rows) (sameIn (tableOf text rows) 0) x y (same-split (tableOf text rows) 0 x y (f .same x y hx hy o 1 one-step)))
-        (λ m. w x y hx hy m .alike)
+  -- there is a label for each type
+  pub in-labels : (x : TypeKey) → x .0 < typeCount rows → (l c : List ℕ) → Well (tableOf text rows) l c → x .0 < length c
+  in-labels x h l c w = le-trans (in-size x h) (w .rooted .long)
 
-    pub known-went : OneClass c x y ⊎ (met l (pair x y) ≡ true) → Compared (tableOf text rows) l l x y true
-    known-went n =
-        either n
-        (λ o. went-class (tableOf text rows) l x y hx hy c w f o)
-        (λ m. went-met (tableOf text rows) l x y w hx hy m)
+  -- and a mark for each pair
+  pub in-marks : (x y : TypeKey) → x .0 < typeCount rows → y .0 < typeCount rows → x .0 ≢ y .0 → (l : List ℕ) → pairWords (typeCount rows) ≤ length l → pair x y / 32 < length l
+  in-marks x y hx hy d l h = le-trans (pair-in (typeCount rows) x y hx hy d) h
+
+  -- the type numbered i, and the one that its label names
+  module _ (l c : List ℕ) (w : Well (tableOf text rows) l c) (i : ℕ) (h : i < typeCount rows) where
+    pub root-small : getD c i 0 < typeCount rows
+    root-small = rw (size-read text rows) at (w .rooted .small i (in-size (typeKey i) h))
+
+    pub root-mark : getD c i 0 ≢ i → (p : ℕ) → p ≡ pair (typeKey (getD c i 0)) (typeKey i) → pairWords (typeCount rows) ≤ length l → p / 32 < length l
+    root-mark d p z k = rw z (in-marks (typeKey (getD c i 0)) (typeKey i) root-small h d l k)
+
+  -- two types of one class, or whose pair was met
+  module _ (x y : TypeKey) (hx : x .0 < typeCount rows) (hy : y .0 < typeCount rows) (d : x .0 ≢ y .0) (l c : List ℕ) (w : Well (tableOf text rows) l c) (k : OneClass c x y ⊎ (met l (pair x y) ≡ true)) where
+    pub known-match : mismatch (tableOf text rows) (pairOf x y) ≡ false
+    known-match = once-match (tableOf text rows) x y (taken-same (tableOf text rows) l c x y w (in-size x hx) (in-size y hy) d k 1 (w .agree))
+
+    pub known-went : Compared (tableOf text rows) l l c c x y true
+    known-went = went-taken (tableOf text rows) l c x y w (in-size x hx) (in-size y hy) d k
 
   module _ (x y : TypeKey) (k : Peers (tableOf text rows) x y) where
-    hx : x .0 < maxTypes
-    hx = omega (arith, k .left, few)
+    left-small : x .0 < typeCount rows
+    left-small = left-in text rows x y (peers-kin (tableOf text rows) x y k)
 
-    hy : y .0 < maxTypes
-    hy = omega (arith, k .right, few)
+    once-same : sameIn (tableOf text rows) 1 x y ≡ true
+    once-same = step-join text rows x y k 0 (λ i h. same-zero (tableOf text rows) (partAt rows x i) (partAt rows y i))
 
-    module _ (l : List ℕ) (hl : markWords ≤ length l) (w : Well (tableOf text rows) l) (c c′ : List ℕ) (f : Follows (tableOf text rows) l c) (u : met l (pair x y) ≡ false) (m : List ℕ) (r : Bool) (n : PairEntered l m c c′ x y r) where
+    module _ (d : x .0 ≢ y .0) (l : List ℕ) (in-l : pair x y / 32 < length l) (c c′ : List ℕ) (w : Well (tableOf text rows) l c) (u : met l (pair x y) ≡ false) (m : List ℕ) (r : Bool) (n : Entered l m c c′ x y r) where
       -- it is put off
-      pub entered-not : not r ≡ true → Compared (tableOf text rows) l m x y true
-      entered-not z = let e = n .marked .passed (not-true r z) in rw e (went-off (tableOf text rows) x y k few l hl u w)
+      pub entered-not : not r ≡ true → Compared (tableOf text rows) l m c c′ x y true
+      entered-not z =
+          let p = n .passed (not-true r z) in
+          let e = p .0 in
+          rw e (went-off (tableOf text rows) x y (k .left) (k .right) l c c′ w once-same (p .1))
 
       -- it is opened
-      opens : not r ≡ false → (met (meet l (pair x y)) (opened x y) ≡ false) × (m ≡ meet (meet l (pair x y)) (opened x y))
-      opens z = n .marked .entered (not-false r z)
+      pub entered-well : not r ≡ false → Well (tableOf text rows) m c′
+      entered-well z =
+          let o = n .entered (not-false r z) in
+          let e = o .0 in
+          rw e (well-open (tableOf text rows) x y (k .left) (k .right) d l in-l u c c′ w (o .1) once-same)
 
-      pub entered-well : not r ≡ false → Well (tableOf text rows) m
-      entered-well z = let o = opens z in let e = o .1 in rw e (well-open (tableOf text rows) x y k few l hl u (o .0) w)
+      pub entered-went : not r ≡ false → (l′ c″ : List ℕ) (b : Bool) → PartsCompared (tableOf text rows) m l′ c′ c″ x y b → Compared (tableOf text rows) l l′ c c″ x y b
+      entered-went z l′ c″ b v =
+          let o = n .entered (not-false r z) in
+          let e = o .0 in
+          went-parts (tableOf text rows) x y l l′ c c″ b (went-open (tableOf text rows) x y (k .left) (k .right) d l in-l u c c′ w (o .1) l′ c″ b (rw e at v))
 
-      pub entered-went : not r ≡ false → (l′ : List ℕ) (b : Bool) → PartsCompared (tableOf text rows) m l′ x y b → Compared (tableOf text rows) l l′ x y b
-      entered-went z l′ b v = let o = opens z in let e = o .1 in went-open (tableOf text rows) x y k few l hl u (o .0) l′ b (rw e at v)
-
-      pub entered-falls : not r ≡ false → (t : ℕ) → 1024 * unmet l + rank rows x ≡ t → 1024 * unmet m + high rows x < t
+      pub entered-falls : not r ≡ false → (t : ℕ) → rankSpan * unmet l + rank rows x ≡ t → rankSpan * unmet m + high rows x < t
       entered-falls z t q =
-          let o = opens z in
-          let e = o .1 in
-          rw e (omega (
-            arith,
-            unmet-falls l (pair x y) (in-l (tableOf text rows) x y k few l hl u) u,
-            unmet-falls (meet l (pair x y)) (opened x y) (in-m (tableOf text rows) x y k few l hl u (o .0)) (o .0),
-            high-le rows x hx,
-          ))
-
-      pub entered-grown : Grown l m
-      entered-grown =
-          cases (not r)
-          (λ z. entered-not z .grown)
-          (λ z. let o = opens z in let e = o .1 in rw e (grown-trans (grown-meet l (pair x y) (in-l (tableOf text rows) x y k few l hl u) u) (grown-meet (meet l (pair x y)) (opened x y) (in-m (tableOf text rows) x y k few l hl u (o .0)) (o .0))))
-
-      -- the pair is met
-      entered-met : met m (pair x y) ≡ true
-      entered-met =
-          cases (not r)
-          (λ z. let e = n .marked .passed (not-true r z) in rw e (met-same l (pair x y) (in-l (tableOf text rows) x y k few l hl u) u))
-          (λ z.
-          let o = opens z in
-          let e = o .1 in
-          rw e (met-other (meet l (pair x y)) (opened x y) (pair x y) (λ q. omega arith) (in-m (tableOf text rows) x y k few l hl u (o .0)) (o .0) ∙ met-same l (pair x y) (in-l (tableOf text rows) x y k few l hl u) u))
-
-      pub entered-follows : Follows (tableOf text rows) m c′
-      entered-follows =
-          either (n .linked)
-          (λ e. rw e (follows-grown (tableOf text rows) l m c entered-grown f))
-          (λ j. follows-joined (tableOf text rows) m x y hx hy c c′ entered-met j (follows-grown (tableOf text rows) l m c entered-grown f))
+          let o = n .entered (not-false r z) in
+          let e = o .0 in
+          rw e (omega (arith, unmet-falls l (pair x y) in-l u, high-le rows x (key-small x left-small)))
 
     -- ---- their parts
 
     module _ (i n : ℕ) (e : n ≡ partCount rows x) (h : i < n) where
-      pub part-falls : (t : ℕ) (p : TypeKey) (l m : List ℕ) → p ≡ partAt rows x i → Passed text rows l m x y i → 1024 * unmet l + high rows x ≡ t → 1024 * unmet m + rank rows p < t
-      part-falls t p l m z g q = rw z (omega (arith, rank-part text rows lib x (left-in text rows x y (peers-kin (tableOf text rows) x y k)) i (omega arith), g .grown .fewer))
-
--- a type that is no interface: its number falls
-pub other-falls : (rows : Words) (x : TypeKey) (l m : List ℕ) → Grown l m → (t : ℕ) → (numberRead rows x ≡ 9 → ⊥) → 1024 * unmet l + rank rows x ≡ t → 1024 * unmet m + high rows x < t
-other-falls rows x l m g t n q = omega (arith, high-rank rows x n, g .fewer)
+      pub part-falls : (t : ℕ) (p : TypeKey) (l m c c′ : List ℕ) → p ≡ partAt rows x i → Passed text rows l m c c′ x y i → rankSpan * unmet l + high rows x ≡ t → rankSpan * unmet m + rank rows p < t
+      part-falls t p l m c c′ z g q = rw z (omega (arith, rank-part text rows lib x left-small i (omega arith), g .grown .fewer))

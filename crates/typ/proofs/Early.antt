@@ -7,7 +7,6 @@ use Rattle.objects.specs.declared.TypeKey.{TypeKey}
 use Rattle.objects.specs.Lists.{Bytes}
 use Rattle.objects.specs.Rows.{Words, typeCount, tableOf}
 use Rattle.objects.proofs.ListLaws.{clash}
-use Rattle.objects.proofs.BoolLaws.{false-of}
 use Rattle.rules.specs.Identity.{identical}
 use Rattle.rules.specs.StepIdentity.{sameIn}
 use Rattle.rules.specs.Library.{Library}
@@ -23,7 +22,7 @@ module _ (text : Bytes) (rows : Words) (lib : Library text rows) (x y : TypeKey)
   -- the parts at place i are of two kinds or of two own numbers
   pub parts-differ : (p q : TypeKey) → p ≡ partAt rows x i → q ≡ partAt rows y i → sameNumbers rows p q ≡ false → identical (tableOf text rows) x y ≡ false
   parts-differ p q l r u =
-      sym (differed (tableOf text rows) x y (library-sound lib) (2, false-of (sameIn (tableOf text rows) 2 x y) (λ s. two s)))
+      sym (differed (tableOf text rows) x y (library-sound lib) (λ s. two (s 2)))
     where
       hp : p .0 < typeCount rows
       hp = left-inside text rows lib x y (peers-kin (tableOf text rows) x y k) i n e h p l

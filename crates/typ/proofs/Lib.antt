@@ -1,10 +1,7 @@
 pub mod Lower
 pub mod ContentLaws
-pub mod Bits
-pub mod Zero
 pub mod Marked
-pub mod JoinLaws
-pub mod Following
+pub mod Entering
 pub mod Passing
 pub mod DepthLaws
 pub mod Cycle

@@ -1,6 +1,5 @@
 -- What falls from call to call of `comparable_impl`: how many types have a smaller rank. That is less than the number of types, so that no more calls than
 -- there are types are ever nested; the rank itself has no such bound.
-use mathlib.Core.Path.{_≡_}
 use Prim.Native.Nat.{ℕ, zero, suc, _+_, _<_, _≤_}
 use native.Mathlib.Nat.{eq-or-lt-of-le, le-of-suc-le-suc}
 use native.Mathlib.Omega.{arith}

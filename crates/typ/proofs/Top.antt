@@ -1,245 +1,256 @@
--- The pairs that were put off are opened, and the answer.
-use mathlib.Core.Path.{_≡_, refl, sym, ap, _∙_}
-use mathlib.Core.Bool.{Bool, true, false, not}
+-- The types whose classes were not looked into are compared with the type that their label names, round after round; and the answer.
+use mathlib.Core.Path.{_≡_, refl, sym, _∙_}
+use mathlib.Core.Bool.{Bool, true, false, not, cond}
 use mathlib.Core.List.{List}
-use mathlib.Core.Logic.{_⊎_, inl, inr}
-use Prim.Native.Nat.{ℕ, zero, suc, _+_, _-_, _*_, _/_, _%_, _<_, _≤_}
+use mathlib.Core.Logic.{_⊎_, inl, inr, _≢_}
+use Prim.Native.Nat.{ℕ, zero, suc, _+_, _/_, _<_, _≤_}
 use native.Mathlib.Omega.{arith}
+use native.Mathlib.Nat.{le-trans}
 use lib.Dec.{eqb}
 use lib.ListN.{length, getD}
 use borrow.Author.Count.{below-more}
-use borrow.Author.Tests.{eqb-true, eqb-false, not-true, not-false}
+use borrow.Author.Tests.{eqb-true, eqb-false, not-false}
 use Rattle.objects.specs.declared.TypeKey.{TypeKey}
-use Rattle.objects.specs.Bounds.{maxTypes, markWords}
-use Rattle.objects.specs.Table.{Table, typeKey}
-use Rattle.objects.proofs.ListLaws.{cases, clash}
+use Rattle.objects.specs.Table.{Table, size, typeKey}
+use Rattle.objects.proofs.ListLaws.{cases, clash, either}
 use Rattle.objects.proofs.BoolLaws.{false-of}
 use Rattle.objects.proofs.KeyLaws.{key-eq}
 use Rattle.rules.specs.Identity.{identical}
 use Rattle.rules.specs.StepIdentity.{sameIn}
 use Rattle.rules.specs.Sound.{Sound}
-use Rattle.rules.proofs.StepLaws.{same-zero}
+use Rattle.rules.proofs.StepLaws.{same-zero, same-less, same-self, same-turn, same-trans}
 use Rattle.rules.proofs.IdentityLaws.{identical-steps, identical-self}
 use Rattle.type_parts.specs.Parts.{Peers}
-use Rattle.typ.specs.Marks.{met, meet, unmet}
-use Rattle.typ.specs.Compared.{pairs, pairWords, pair, opened, Clean, WordClean, AllClean, Grown, Apart, Well, AllMet, NewMet, Leads, Compared, PartsCompared, State, Turn}
-use Rattle.typ.proofs.Bits.{met-other, unmet-falls}
-use Rattle.typ.proofs.Marked.{grown-meet, all-less, pair-one}
+use Rattle.pair_marks.specs.Marks.{met, meet, unmet}
+use Rattle.pair_marks.specs.Classes.{OneClass, Single}
+use Rattle.pair_marks.specs.Pairs.{pair}
+use Rattle.typ.specs.Compared.{Clean, AllClean, Same, Well, AllMet, AllOne, Agree, Leads, PartsCompared, State, Turn}
+use Rattle.pair_marks.proofs.Bits.{unmet-falls}
+use Rattle.pair_marks.proofs.JoinLaws.{rooted-single}
+use Rattle.typ.proofs.Marked.{agree-less, new-all}
+use Rattle.typ.proofs.Entering.{well-open, went-open}
+use Rattle.typ.proofs.Cycle.{once-match}
 
--- the types of the pair numbered p
-abbrev pub first : ℕ → TypeKey
-first p = typeKey (p / 256)
+-- ---- no pair is met, and every type is a class of its own
 
-abbrev pub second : ℕ → TypeKey
-second p = typeKey (p % 256)
+module _ (T : Table) (l c : List ℕ) (u : (p : ℕ) → met l p ≡ false) (h : size T ≤ length c) (s : Single c) where
+  agree-none : (n : ℕ) → Agree T n l c
+  unfolding AllMet AllOne OneClass
+  agree-none n = (
+    λ a b ha hb d m. clash m (u (pair a b)),
+    λ a b ha hb o. let z : a ≡ b = key-eq a b (sym (s (a .0) (le-trans ha h)) ∙ o ∙ s (b .0) (le-trans hb h)) in rw z (same-self T n b),
+  )
 
-number : (p : ℕ) → pair (first p) (second p) ≡ p
-number p = omega arith
+  pub well-none : Well T l c
+  well-none = record { rooted = rooted-single (size T) c h s; agree = agree-none 1 }
 
-module _ (T : Table) (x y : TypeKey) where
-  -- after the first comparison
-  pub begun : (l l′ : List ℕ) (r : Bool) → ((p : ℕ) → met l p ≡ false) → Compared T l l′ x y r → not r ≡ false → State T l′ x y
-  unfolding NewMet Leads
-  begun l l′ r u w e = record {
+  -- the parts of x and y have been compared
+  pub begun : (x y : TypeKey) (l′ c′ : List ℕ) (r : Bool) → PartsCompared T l l′ c c′ x y r → not r ≡ false → State T l′ c′ x y
+  unfolding Leads
+  begun x y l′ c′ r w e = record {
     well = w .well;
-    same-if = λ n a. let h = w .same-if (not-false r e) n a in (h .0, λ a b ha hb m. h .1 a b ha hb (u (opened a b)) m);
-    leads = λ a b ha hb m. w .leads a b ha hb (u (pair a b)) m;
+    same-if = λ n a. let k = w .same-if (not-false r e) n a in (same-less T n x y (k .0), new-all T n l l′ (agree-none (suc n) .0) (k .1));
+    leads = λ k. w .leads k agree-none;
   }
 
-  module _ (l : List ℕ) (p : ℕ) (s : State T l x y) (hp : p < pairs) where
-    skip : Clean l p → Turn T (Clean l p) l l x y 1
-    skip c = record { small = omega arith; if-0 = λ z. absurd (omega arith); if-1 = λ _. (refl, c); if-2 = λ z. absurd (omega arith) }
+module _ (T : Table) (x y : TypeKey) where
+  -- ---- how a turn ends
 
-    pub skip-unmet : (r : Bool) → r ≡ met l p → not r ≡ true → Turn T (Clean l p) l l x y 1
+  module _ (C : Type 0) (l l′ c c′ : List ℕ) where
+    pub turn-differ : (Same T x y → ⊥) → Turn T C l l′ c c′ x y 0
+    turn-differ d = record { small = omega arith; if-0 = λ _. d; if-1 = λ z. absurd (omega arith); if-2 = λ z. absurd (omega arith) }
+
+    turn-opened : unmet l′ < unmet l → State T l′ c′ x y → Turn T C l l′ c c′ x y 2
+    turn-opened h s = record { small = omega arith; if-0 = λ z. absurd (omega arith); if-1 = λ z. absurd (omega arith); if-2 = λ _. (h, s) }
+
+  turn-clean : (C : Type 0) (l c : List ℕ) → C → Turn T C l l c c x y 1
+  turn-clean C l c h = record { small = omega arith; if-0 = λ z. absurd (omega arith); if-1 = λ _. (refl, refl, h); if-2 = λ z. absurd (omega arith) }
+
+  -- ---- the type numbered i
+
+  module _ (l c : List ℕ) (i : ℕ) (s : State T l c x y) (hi : i < size T) where
+    pub skip-own : getD c i 0 ≡ i → Turn T (Clean l c i) l l c c x y 1
     unfolding Clean
-    skip-unmet r e h = skip (λ m. clash m (sym e ∙ not-true r h))
+    skip-own e = turn-clean (Clean l c i) l c (inl e)
 
-    pub skip-opened : (r : Bool) → r ≡ met l (pairs + p) → r ≡ true → Turn T (Clean l p) l l x y 1
+    -- the type that its label names, and the pair of the two
+    abbrev root : TypeKey
+    root = typeKey (getD c i 0)
+
+    abbrev this : TypeKey
+    this = typeKey i
+
+    pub skip-met : (p : ℕ) → p ≡ pair root this → (r : Bool) → r ≡ met l p → r ≡ true → Turn T (Clean l c i) l l c c x y 1
     unfolding Clean
-    skip-opened r e h = skip (λ _. sym e ∙ h)
+    skip-met p z r e h = turn-clean (Clean l c i) l c (inr (rw z at (sym e ∙ h)))
 
-    module _ (r : Bool) (e : r ≡ met l p) (h : not r ≡ false) (v : Bool) (f : v ≡ met l (pairs + p)) (g : v ≡ false) (hl : markWords ≤ length l) where
-      is-met : met l (pair (first p) (second p)) ≡ true
-      is-met = ap (met l) (number p) ∙ sym e ∙ not-false r h
+    in-size : root .0 < size T
+    in-size = s .well .rooted .small i hi
 
-      pub known : Peers T (first p) (second p)
-      unfolding Well
-      known = s .well (first p) (second p) (omega arith) (omega arith) is-met
+    -- the two are of one class
+    agree-root : (n : ℕ) → Agree T n l c → sameIn T n root this ≡ true
+    unfolding AllOne OneClass
+    agree-root n a = a .1 root this in-size hi (s .well .rooted .own i hi)
 
-      off : met l (pairs + p) ≡ false
-      off = sym f ∙ g
+    once : sameIn T 1 root this ≡ true
+    once = agree-root 1 (s .well .agree)
 
-      in-l : (pairs + p) / 32 < length l
-      in-l = omega arith
+    pub root-peers : Peers T root this
+    root-peers = record { left = in-size; right = hi; alike = once-match T root this once }
 
-      same-met : (a b : TypeKey) → a .0 < maxTypes → b .0 < maxTypes → met (meet l (pairs + p)) (pair a b) ≡ met l (pair a b)
-      same-met a b ha hb = met-other l (pairs + p) (pair a b) (λ z. omega arith) in-l off
+    root-same : Same T x y → Same T root this
+    root-same k n = agree-root n (s .leads k n)
 
-      well-open : Well T (meet l (pairs + p))
-      unfolding Well
-      well-open a b ha hb m = s .well a b ha hb (sym (same-met a b ha hb) ∙ m)
+    -- their pair is met
+    module _ (d : getD c i 0 ≢ i) (p : ℕ) (z : p ≡ pair root this) (in-l : p / 32 < length l) (r : Bool) (e : r ≡ met l p) (f : r ≡ false) (o : List ℕ) (m : o ≡ meet l p) where
+      in-l′ : pair root this / 32 < length l
+      in-l′ = rw z at in-l
 
-      pub open-well : (o : List ℕ) → o ≡ meet l (pairs + p) → Well T o
-      open-well o z = rw z well-open
+      off : met l (pair root this) ≡ false
+      off = rw z at (sym e ∙ f)
 
-      grows : Grown l (meet l (pairs + p))
-      grows = grown-meet l (pairs + p) in-l off
+      marked : o ≡ meet l (pair root this)
+      marked = rw z at m
 
-      pub open-grown : (o : List ℕ) → o ≡ meet l (pairs + p) → Grown l o
-      open-grown o z = rw z grows
+      pub open-well : Well T o c
+      open-well = rw marked (well-open T root this in-size hi d l in-l′ off c c (s .well) (inl refl) once)
 
-      module _ (o l′ : List ℕ) (z : o ≡ meet l (pairs + p)) (u : Bool) (w : PartsCompared T o l′ (first p) (second p) u) where
-        went : PartsCompared T (meet l (pairs + p)) l′ (first p) (second p) u
-        went = rw z at w
+      module _ (l′ c′ : List ℕ) (b : Bool) (w : PartsCompared T o l′ c c′ root this b) where
+        went : PartsCompared T (meet l (pair root this)) l′ c c′ root this b
+        went = rw marked at w
 
-        leads-on : (a b : TypeKey) → a .0 < maxTypes → b .0 < maxTypes → met l′ (pair a b) ≡ true → Apart T a b → Apart T x y
-        unfolding Leads
-        leads-on a b ha hb m d =
-            cases (met (meet l (pairs + p)) (pair a b))
-            (λ q. s .leads a b ha hb (sym (same-met a b ha hb) ∙ q) d)
-            (λ q. s .leads (first p) (second p) (omega arith) (omega arith) is-met (went .leads a b ha hb q m d))
+        went-all : PartsCompared T l l′ c c′ root this b
+        went-all = went-open T root this in-size hi d l in-l′ off c c (s .well) (inl refl) l′ c′ b went
 
         falls : unmet l′ < unmet l
-        falls = omega (arith, unmet-falls l (pairs + p) in-l off, went .grown .fewer)
+        falls = omega (arith, unmet-falls l (pair root this) in-l′ off, went .grown .fewer)
 
-        state : u ≡ true → State T l′ x y
-        unfolding NewMet
+        state : b ≡ true → State T l′ c′ x y
+        unfolding Leads
         state q = record {
-          well = went .well;
-          leads = leads-on;
-          same-if = λ n all.
-              let k = went .same-if q n all in
-              let old = s .same-if n (all-less T n l (meet l (pairs + p)) grows (all-less T n (meet l (pairs + p)) l′ (went .grown) all)) in (
-                old .0,
-                λ a b ha hb m.
-                    cases (met (meet l (pairs + p)) (opened a b))
-                    (λ i. cases (eqb (opened a b) (pairs + p))
-                    (λ j. this n a b hb (k .0) (eqb-true (opened a b) (pairs + p) j))
-                    (λ j. old .1 a b ha hb (sym (met-other l (pairs + p) (opened a b) (eqb-false (opened a b) (pairs + p) j) in-l off) ∙ i)))
-                    (λ i. k .1 a b ha hb i m),
-              );
-        }
-          where
-            this : (n : ℕ) (a b : TypeKey) → b .0 < maxTypes → sameIn T (suc n) (first p) (second p) ≡ true → opened a b ≡ pairs + p → sameIn T (suc n) a b ≡ true
-            this n a b hb k z = let r = pair-one a b (first p) (second p) hb (omega arith) (omega arith) in rw (r .0, r .1) k
-
-        pub open-same : u ≡ true → Turn T (Clean l p) l l′ x y 2
-        open-same q = record { small = omega arith; if-0 = λ z. absurd (omega arith); if-1 = λ z. absurd (omega arith); if-2 = λ _. (falls, state q) }
-
-        pub open-differ : u ≡ false → Turn T (Clean l p) l l′ x y 0
-        open-differ q = record {
-          small = omega arith;
-          if-0 = λ _. s .leads (first p) (second p) (omega arith) (omega arith) is-met (went .differ-if q);
-          if-1 = λ z. absurd (omega arith);
-          if-2 = λ z. absurd (omega arith);
+          well = w .well;
+          same-if = λ n a.
+              let old = s .same-if n (agree-less T n l l′ c c′ (went-all .grown) (went-all .merged) a) in
+              (old .0, new-all T n l l′ (old .1) (went-all .same-if q n a .1));
+          leads = λ k. went-all .leads (root-same k) (s .leads k);
         }
 
-  -- ---- the answers
+        pub open-same : b ≡ true → Turn T (Clean l c i) l l′ c c′ x y 2
+        open-same q = turn-opened (Clean l c i) l l′ c c′ falls (state q)
 
-  pub selfsame : Sound T → x .0 ≡ y .0 → true ≡ identical T x y
-  selfsame s e = let z : x ≡ y = key-eq x y e in rw z (sym (identical-self T s y))
+        pub open-differ : b ≡ false → Turn T (Clean l c i) l l′ c c′ x y 0
+        open-differ q = turn-differ (Clean l c i) l l′ c c′ (λ k. w .differ-if q (root-same k))
 
-  pub differed : Sound T → Apart T x y → false ≡ identical T x y
-  differed s d = sym (false-of (identical T x y) (λ e. clash (identical-steps T s x y .0 e (d .0)) (d .1)))
+  -- ---- the types in turn
 
-  all-met : (l : List ℕ) → State T l x y → AllClean l → (n : ℕ) → AllMet T n l
-  unfolding AllMet Clean
-  all-met l s c zero a b ha hb m = same-zero T a b
-  all-met l s c (suc n) a b ha hb m = s .same-if n (all-met l s c n) .1 a b ha hb (c (pair a b) (omega arith) m)
-
-  pub agreed : Sound T → (l : List ℕ) → State T l x y → AllClean l → true ≡ identical T x y
-  agreed h l s c = sym (identical-steps T h x y .1 (λ n. s .same-if n (all-met l s c n) .0))
-
--- ---- no pair is put off
-
--- the bits of the pairs of word w that were met are those of the pairs that were opened
-pub halves-clean : (l : List ℕ) (w : ℕ) → w < pairWords → getD l w 0 ≡ getD l (2048 + w) 0 → WordClean l w
-unfolding WordClean Clean met
-halves-clean l w h e k hk m =
-    let a : (pairs + (32 * w + k)) / 32 ≡ 2048 + w = omega arith in
-    let b : (pairs + (32 * w + k)) % 32 ≡ k = omega arith in
-    let d : (32 * w + k) / 32 ≡ w = omega arith in
-    let f : (32 * w + k) % 32 ≡ k = omega arith in
-    rw (a, b, ← e) (rw (d, f) at m)
-
--- pair k of word w is not put off
-abbrev pub PairClean : ℕ → List ℕ → ℕ → Type 0
-PairClean w l k = Clean l (32 * w + k)
-
-pub pairs-clean : (l : List ℕ) (w i : ℕ) → 32 ≤ i → ((k : ℕ) → k < i → PairClean w l k) → WordClean l w
-unfolding WordClean
-pairs-clean l w i h e k hk = e k (omega arith)
-
-pub words-clean : (l : List ℕ) (i : ℕ) → pairWords ≤ i → ((w : ℕ) → w < i → WordClean l w) → AllClean l
-unfolding WordClean
-words-clean l i h e p hp = let z : 32 * (p / 32) + p % 32 ≡ p = omega arith in rw z at (e (p / 32) (omega arith) (p % 32) (omega arith))
-
--- the words looked at are clean as long as none is counted
-pub clean-more : (l : List ℕ) (w off off′ : ℕ) → w < pairWords → (off ≡ 0 → (v : ℕ) → v < w → WordClean l v) → (off′ ≡ off + 1) ⊎ ((getD l w 0 ≡ getD l (2048 + w) 0) × (off′ ≡ off))
-    → off′ ≡ 0 → (v : ℕ) → v < w + 1 → WordClean l v
-clean-more l w off off′ h c (inl e) z = absurd (omega arith)
-clean-more l w off off′ h c (inr e) z = below-more (λ (v : ℕ). WordClean l v) w (c (sym (e .1) ∙ z)) (halves-clean l w h (e .0))
-
--- ---- pairs, and words of them, are seen to in turn
-
-is-one : (r : ℕ) → r ≤ 2 → (r ≡ 0 → ⊥) → (r ≡ 2 → ⊥) → r ≡ 1
-is-one r a b c = omega arith
-
-is-two : (r : ℕ) → r ≤ 2 → (r ≡ 0 → ⊥) → (r ≡ 1 → ⊥) → r ≡ 2
-is-two r a b c = omega arith
-
-module _ (T : Table) (x y : TypeKey) where
-  pub turn-differ : (C : Type 0) (l l′ : List ℕ) → Apart T x y → Turn T C l l′ x y 0
-  turn-differ C l l′ d = record { small = omega arith; if-0 = λ _. d; if-1 = λ z. absurd (omega arith); if-2 = λ z. absurd (omega arith) }
-
-  pub turn-clean : (C : Type 0) (l : List ℕ) → C → Turn T C l l x y 1
-  turn-clean C l c = record { small = omega arith; if-0 = λ z. absurd (omega arith); if-1 = λ _. (refl, c); if-2 = λ z. absurd (omega arith) }
-
-  pub turn-as : (C D : Type 0) (l l′ : List ℕ) (r : ℕ) → (C → D) → Turn T C l l′ x y r → Turn T D l l′ x y r
-  turn-as C D l l′ r f t = record { small = t .small; if-0 = t .if-0; if-1 = λ e. (t .if-1 e .0, f (t .if-1 e .1)); if-2 = t .if-2 }
-
-  turn-opened : (C : Type 0) (l l′ : List ℕ) → unmet l′ < unmet l → State T l′ x y → Turn T C l l′ x y 2
-  turn-opened C l l′ h s = record { small = omega arith; if-0 = λ z. absurd (omega arith); if-1 = λ z. absurd (omega arith); if-2 = λ _. (h, s) }
-
-  -- the first i have been seen to, f as for a turn: each is P if it was not put off
-  pub record Turns (P : List ℕ → ℕ → Type 0) (l l′ : List ℕ) (i f : ℕ) : Type 0 where
-    pub state : State T l′ x y
+  -- the first i have been seen to, f as for a turn
+  pub record Turns (l l′ c c′ : List ℕ) (i f : ℕ) : Type 0 where
+    pub state : State T l′ c′ x y
     pub some : f ≡ 0 → ⊥
-    pub turn : Turn T ((k : ℕ) → k < i → P l k) l l′ x y f
+    pub turn : Turn T ((k : ℕ) → k < i → Clean l c k) l l′ c c′ x y f
 
-  pub turns-none : (P : List ℕ → ℕ → Type 0) (l : List ℕ) → State T l x y → Turns P l l 0 1
-  turns-none P l s = record { state = s; some = λ z. absurd (omega arith); turn = turn-clean _ l (λ k h. absurd (omega arith)) }
+  pub turns-none : (l c : List ℕ) → State T l c x y → Turns l l c c 0 1
+  turns-none l c s = record { state = s; some = λ z. absurd (omega arith); turn = turn-clean _ l c (λ k h. absurd (omega arith)) }
 
-  module _ (P : List ℕ → ℕ → Type 0) (l m : List ℕ) (i f : ℕ) (t : Turns P l m i f) where
+  is-one : (r : ℕ) → r ≤ 2 → (r ≡ 0 → ⊥) → (r ≡ 2 → ⊥) → r ≡ 1
+  is-one r a b c = omega arith
+
+  is-two : (r : ℕ) → r ≤ 2 → (r ≡ 0 → ⊥) → (r ≡ 1 → ⊥) → r ≡ 2
+  is-two r a b c = omega arith
+
+  module _ (l m c d : List ℕ) (i f : ℕ) (t : Turns l m c d i f) where
     fewer : unmet m ≤ unmet l
     fewer =
         cases (eqb f 1)
         (λ e. rw (t .turn .if-1 (eqb-true f 1 e) .0) (omega arith))
         (λ e. omega (arith, t .turn .if-2 (is-two f (t .turn .small) (t .some) (eqb-false f 1 e)) .0))
 
-    pub turns-more : (l′ : List ℕ) (r f′ : ℕ) → Turn T (P m i) m l′ x y r → (r ≡ 0 → ⊥) → ((r ≡ 2) × (f′ ≡ 2)) ⊎ ((r ≡ 2 → ⊥) × (f′ ≡ f)) → Turns P l l′ (i + 1) f′
-    turns-more l′ r f′ u n (inl e) =
+    pub turns-more : (l′ c′ : List ℕ) (r f′ : ℕ) → Turn T (Clean m d i) m l′ d c′ x y r → (r ≡ 0 → ⊥) → ((r ≡ 2) × (f′ ≡ 2)) ⊎ ((r ≡ 2 → ⊥) × (f′ ≡ f)) → Turns l l′ c c′ (i + 1) f′
+    turns-more l′ c′ r f′ u n (inl e) =
         let o = u .if-2 (e .0) in
-        rw (e .1) (record { state = o .1; some = λ z. absurd (omega arith); turn = turn-opened _ l l′ (omega (arith, fewer, o .0)) (o .1) })
-    turns-more l′ r f′ u n (inr e) =
+        rw (e .1) (record { state = o .1; some = λ z. absurd (omega arith); turn = turn-opened _ l l′ c c′ (omega (arith, fewer, o .0)) (o .1) })
+    turns-more l′ c′ r f′ u n (inr e) =
         let o = u .if-1 (is-one r (u .small) n (e .0)) in
-        rw (e .1, o .0) (record {
+        rw (e .1, o .0, o .1) (record {
           state = t .state;
           some = t .some;
           turn = record {
             small = t .turn .small;
             if-0 = t .turn .if-0;
-            if-1 = λ z. let k = t .turn .if-1 z in (k .0, below-more (λ (j : ℕ). P l j) i (k .1) (rw (k .0) at (o .1)));
+            if-1 = λ z. let k = t .turn .if-1 z in (k .0, k .1, below-more (λ (j : ℕ). Clean l c j) i (k .2) (rw (k .0, k .1) at (o .2)));
             if-2 = t .turn .if-2;
           };
         })
 
+    -- all have been
+    pub turns-all : size T ≤ i → Turn T (AllClean T l c) l m c d x y f
+    turns-all h = record {
+      small = t .turn .small;
+      if-0 = t .turn .if-0;
+      if-1 = λ z. let k = t .turn .if-1 z in (k .0, k .1, λ j lt. k .2 j (le-trans lt h));
+      if-2 = t .turn .if-2;
+    }
+
+  -- ---- the answers
+
+  pub selfsame : Sound T → x .0 ≡ y .0 → true ≡ identical T x y
+  selfsame s e = let z : x ≡ y = key-eq x y e in rw z (sym (identical-self T s y))
+
+  pub differed : Sound T → (Same T x y → ⊥) → false ≡ identical T x y
+  differed s d = sym (false-of (identical T x y) (λ e. d (identical-steps T s x y .0 e)))
+
+  module _ (l c : List ℕ) (s : State T l c x y) (w : AllClean T l c) where
+    -- a type agrees with the one that its label names wherever all pairs met agree
+    named-same : (n : ℕ) → AllMet T n l → (a : TypeKey) → a .0 < size T → sameIn T n (typeKey (getD c (a .0) 0)) a ≡ true
+    unfolding AllMet Clean
+    named-same n h a ha =
+        cases (eqb (getD c (a .0) 0) (a .0))
+        (λ q. let z : typeKey (getD c (a .0) 0) ≡ a = key-eq _ a (eqb-true _ (a .0) q) in rw z (same-self T n a))
+        (λ q. let d = eqb-false (getD c (a .0) 0) (a .0) q in either (w (a .0) ha) (λ e. absurd (d e)) (λ m. h _ a (s .well .rooted .small (a .0) ha) ha d m))
+
+    -- so types of one class do
+    all-agree : (n : ℕ) → Agree T n l c
+    unfolding AllMet AllOne OneClass
+    all-agree zero = (λ a b ha hb d m. same-zero T a b, λ a b ha hb o. same-zero T a b)
+    all-agree (suc n) =
+        let met-same : AllMet T (suc n) l = s .same-if n (all-agree n) .1 in (
+          met-same,
+          λ a b ha hb o.
+              let r = typeKey (getD c (a .0) 0) in
+              same-trans T (suc n) a r b (same-turn T (suc n) r a (named-same (suc n) met-same a ha)) (rw o (named-same (suc n) met-same b hb)),
+        )
+
+    agreed : Sound T → true ≡ identical T x y
+    agreed h = sym (identical-steps T h x y .1 (λ n. s .same-if n (all-agree n) .0))
+
   -- the answer of the last round
-  pub answered : Sound T → (l l′ : List ℕ) (r : ℕ) → State T l x y → Turn T (AllClean l) l l′ x y r → (r ≡ 2 → ⊥) → eqb r 1 ≡ identical T x y
-  answered h l l′ r s t n =
+  answered : Sound T → (l l′ c c′ : List ℕ) (r : ℕ) → State T l c x y → Turn T (AllClean T l c) l l′ c c′ x y r → (r ≡ 2 → ⊥) → eqb r 1 ≡ identical T x y
+  answered h l l′ c c′ r s t n =
       cases (eqb r 1)
-      (λ e. e ∙ agreed T x y h l s (t .if-1 (eqb-true r 1 e) .1))
-      (λ e. e ∙ differed T x y h (t .if-0 (none (t .small) (eqb-false r 1 e) n)))
+      (λ e. e ∙ agreed l c s (t .if-1 (eqb-true r 1 e) .2) h)
+      (λ e. e ∙ differed h (t .if-0 (none (t .small) (eqb-false r 1 e) n)))
     where
       none : r ≤ 2 → (r ≡ 1 → ⊥) → (r ≡ 2 → ⊥) → r ≡ 0
       none a b c = omega arith
+
+  -- ---- round after round
+
+  -- a round is to follow, or r is the answer
+  pub record Rounds (l c : List ℕ) (r : ℕ) : Type 0 where
+    pub state : r ≡ 2 → State T l c x y
+    pub answer : (r ≡ 2 → ⊥) → eqb r 1 ≡ identical T x y
+
+  pub rounds-none : (l c : List ℕ) → State T l c x y → Rounds l c 2
+  rounds-none l c s = record { state = λ _. s; answer = λ n. absurd (n refl) }
+
+  pub rounds-more : Sound T → (l l′ c c′ : List ℕ) (r : ℕ) → State T l c x y → Turn T (AllClean T l c) l l′ c c′ x y r → Rounds l′ c′ r
+  rounds-more h l l′ c c′ r s t = record { state = λ e. t .if-2 e .1; answer = answered h l l′ c c′ r s t }
+
+  -- what falls: the pairs not met, and nothing is left when no round is to follow
+  unfoldable pub left : List ℕ → ℕ → ℕ
+  left l r = cond (eqb r 2) (suc (unmet l)) 0
+
+  pub left-falls : (l l′ c c′ : List ℕ) (r r′ : ℕ) → r ≡ 2 → Turn T (AllClean T l c) l l′ c c′ x y r′ → left l′ r′ < left l r
+  unfolding left
+  left-falls l l′ c c′ r r′ e t =
+      rw e (cases (eqb r′ 2) (λ q. rw q (omega (arith, t .if-2 (eqb-true r′ 2 q) .0))) (λ q. rw q (omega arith)))

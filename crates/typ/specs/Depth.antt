@@ -9,11 +9,11 @@ use Rattle.objects.specs.Rows.{Words}
 use Rattle.objects.specs.Types.{numberRead}
 use Rattle.type_parts.specs.Parts.{partCount, partAt}
 
--- a pair of several parts is opened above this level, and put off from it on
+-- a pair of interfaces is opened above this level, and put off from it on
 abbrev pub openLevels : ℕ
 openLevels = 250
 
--- From there on only arrays, slices, pointers and channels are opened, whose numbers fall: a level for each type at most.
+-- From there on no interfaces are opened, and the numbers of all other types fall: a level for each type at most.
 abbrev pub deepest : ℕ
 deepest = openLevels + maxTypes
 

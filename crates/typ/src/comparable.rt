@@ -2,22 +2,20 @@
 ghost use mathlib.Core.Path.{_≡_};
 ghost use Prim.Native.Nat.{_+_, _<_, _≤_};
 ghost use lib.ListN.{length, replicate};
-ghost use Rattle.objects.specs.Bounds.{maxTypes};
+ghost use Rattle.objects.specs.Bounds.{maxTypes, wordValues};
 ghost use Rattle.objects.specs.Rows.{typeCount, tableOf};
 ghost use Rattle.objects.specs.Types.{firstRead};
 ghost use Rattle.rules.specs.Library.{Library};
 ghost use Rattle.rules.specs.Comparable.{comparable};
 ghost use Rattle.typ.specs.Contents.{mayCompare, contentCount, contentAt, MetComparable, Judged};
-use crate::marks::clear;
 use objects::ObjKey;
 use objects::Type;
 use objects::TypeKey;
 use objects::rows::member_type;
+use objects::rows::type_count;
 use objects::rows::type_of;
+use pair_marks::marks::clear;
 use type_parts::basic::BasicType;
-
-// A word for each type that there may be.
-const TYPES: usize = 256;
 
 // Comparable if all is that it contains by value.
 pub fn may_compare(rows: &[u32], t: TypeKey) -> bool
@@ -61,7 +59,7 @@ pub fn content_count(rows: &[u32], t: TypeKey) -> u32
 
 // The i-th of them.
 pub fn content_at(rows: &[u32], t: TypeKey, i: u32) -> TypeKey
-    requires { ⌜ firstRead (now rows) t + i < 65_536 ⌝ }
+    requires { ⌜ firstRead (now rows) t + i < wordValues ⌝ }
     ensures { λ r. ⌜ r ≡ contentAt (now (rows .entry)) t i ⌝ }
 {
     let ty = type_of(rows, t);
@@ -81,11 +79,11 @@ pub fn content_at(rows: &[u32], t: TypeKey, i: u32) -> TypeKey
 }
 
 // t is judged by what it contains by value, whose rank is lower: "no type contains itself by value". A type met before is comparable, since the first
-// that is not ends all; so each type is judged once. At most 256 levels are nested (`lower-few`, proofs/Lower.antt), of 144 bytes of stack each as measured:
-// 37 KB.
+// that is not ends all; so each type is judged once. At most as many levels are nested as there are types (`lower-few`, proofs/Lower.antt).
+// docs/ENTRY.md has what stack they take.
 fn comparable_impl(text: &[u8], rows: &[u32], met: &mut [u32], t: TypeKey) -> bool
     requires { ⌜ Library (now text) (now rows) ⌝ }
-    requires { ⌜ (t .0 < typeCount (now rows)) × (maxTypes ≤ length (now met)) ⌝ }
+    requires { ⌜ (t .0 < typeCount (now rows)) × (typeCount (now rows) ≤ length (now met)) ⌝ }
     requires { ⌜ MetComparable (now text) (now rows) (now met) ⌝ }
     ensures { λ r. ⌜ Judged (now (text .entry)) (now (rows .entry)) (now (met .exit)) t r ⌝ }
 {
@@ -112,7 +110,7 @@ fn comparable_impl(text: &[u8], rows: &[u32], met: &mut [u32], t: TypeKey) -> bo
 // Type t is comparable. Every word lent is cleared.
 fn judge(text: &[u8], rows: &[u32], met: &mut [u32], t: TypeKey) -> bool
     requires { ⌜ Library (now text) (now rows) ⌝ }
-    requires { ⌜ (t .0 < typeCount (now rows)) × (maxTypes ≤ length (now met)) ⌝ }
+    requires { ⌜ (t .0 < typeCount (now rows)) × (typeCount (now rows) ≤ length (now met)) ⌝ }
     requires { ⌜ now met ≡ replicate (length (now met)) 0 ⌝ }
     ensures { λ r. ⌜ r ≡ comparable (tableOf (now (text .entry)) (now (rows .entry))) t ⌝ }
     ensures { λ _. ⌜ now (met .exit) ≡ now (met .entry) ⌝ }
@@ -122,7 +120,7 @@ fn judge(text: &[u8], rows: &[u32], met: &mut [u32], t: TypeKey) -> bool
     r
 }
 
-// Type t is comparable. The words lent are 0 before and after; a word for each type is all that is used of them, and cleared.
+// Type t is comparable. The words lent are 0 before and after; a word for each type of the table is all that is used of them, and cleared.
 pub fn comparable(text: &[u8], rows: &[u32], met: &mut [u32], t: TypeKey) -> bool
     requires { ⌜ Library (now text) (now rows) ⌝ }
     requires { ⌜ (t .0 < typeCount (now rows)) × (maxTypes ≤ length (now met)) ⌝ }
@@ -130,5 +128,6 @@ pub fn comparable(text: &[u8], rows: &[u32], met: &mut [u32], t: TypeKey) -> boo
     ensures { λ r. ⌜ r ≡ comparable (tableOf (now (text .entry)) (now (rows .entry))) t ⌝ }
     ensures { λ _. ⌜ now (met .exit) ≡ now (met .entry) ⌝ }
 {
-    judge(text, rows, &mut met[0..TYPES], t)
+    let types = type_count(rows) as usize;
+    judge(text, rows, &mut met[0..types], t)
 }

@@ -2,6 +2,7 @@
 use mathlib.Core.Path.{_≡_}
 use Prim.Native.Nat.{ℕ, _+_, _<_}
 use native.Mathlib.Omega.{arith}
+use Rattle.objects.specs.Bounds.{wordValues}
 use Rattle.objects.specs.declared.TypeKey.{TypeKey}
 use Rattle.objects.specs.Lists.{Bytes}
 use Rattle.objects.specs.Table.{Table}
@@ -32,10 +33,10 @@ module _ (text : Bytes) (rows : Words) (x y : TypeKey) (k : Kin (tableOf text ro
 -- ---- their parts
 
 module _ (text : Bytes) (rows : Words) (lib : Library text rows) (x y : TypeKey) (k : Kin (tableOf text rows) x y) (i n : ℕ) (e : n ≡ partCount rows x) (h : i < n) where
-  pub left-place : firstRead rows x + i < 65_536
+  pub left-place : firstRead rows x + i < wordValues
   left-place = place-small rows x i (lib .laid) (left-in text rows x y k) (omega arith)
 
-  pub right-place : firstRead rows y + i < 65_536
+  pub right-place : firstRead rows y + i < wordValues
   right-place = place-small rows y i (lib .laid) (right-in text rows x y k) (right-part text rows x y k i n e h)
 
   pub left-inside : (p : TypeKey) → p ≡ partAt rows x i → p .0 < typeCount rows

@@ -81,12 +81,16 @@ module _ (T : Table) (t : TypeKey) where
 
 -- ---- the numbers that fall
 
+-- above both for every type
+abbrev pub rankSpan : ℕ
+rankSpan = 2 * maxTypes + 3
+
 -- of a type that is compared, and of one whose parts are
 unfoldable pub rank : Words → TypeKey → ℕ
 rank rows x = cond (eqb (numberRead rows x) 9) 0 (cond (eqb (numberRead rows x) 10) 1 (2 * x .0 + 3))
 
 unfoldable pub high : Words → TypeKey → ℕ
-high rows x = cond (eqb (numberRead rows x) 9) 1000 (cond (eqb (numberRead rows x) 10) 0 (2 * x .0 + 2))
+high rows x = cond (eqb (numberRead rows x) 9) (2 * maxTypes + 2) (cond (eqb (numberRead rows x) 10) 0 (2 * x .0 + 2))
 
 module _ (rows : Words) (x : TypeKey) where
   rank-9 : numberRead rows x ≡ 9 → rank rows x ≡ 0
@@ -101,15 +105,11 @@ module _ (rows : Words) (x : TypeKey) where
   unfolding rank
   rank-le = cases (eqb (numberRead rows x) 9) (λ e. rw e (omega arith)) (λ e. rw e (cases (eqb (numberRead rows x) 10) (λ f. rw f (omega arith)) (λ f. rw f (omega arith))))
 
-  pub high-le : x .0 < maxTypes → high rows x ≤ 1000
+  pub high-le : x .0 < maxTypes → high rows x < rankSpan
   unfolding high
   high-le h = cases (eqb (numberRead rows x) 9) (λ e. rw e (omega arith)) (λ e. rw e (cases (eqb (numberRead rows x) 10) (λ f. rw f (omega arith)) (λ f. rw f (omega arith))))
 
-  pub high-rank : numberRead rows x ≢ 9 → high rows x < rank rows x
-  unfolding high rank
-  high-rank h = rw (ne-eqb (numberRead rows x) 9 h) (cases (eqb (numberRead rows x) 10) (λ f. rw f (omega arith)) (λ f. rw f (omega arith)))
-
-  high-9 : numberRead rows x ≡ 9 → high rows x ≡ 1000
+  high-9 : numberRead rows x ≡ 9 → high rows x ≡ 2 * maxTypes + 2
   unfolding high
   high-9 e = rw e
 

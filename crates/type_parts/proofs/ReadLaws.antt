@@ -7,6 +7,7 @@ use Prim.Native.Nat.{ℕ, suc, _+_, _-_, _<_, _≤_}
 use native.Mathlib.Omega.{arith}
 use lib.Dec.{eqb}
 use borrow.Author.Tests.{ne-eqb, eq-eqb}
+use Rattle.objects.specs.Bounds.{wordValues}
 use Rattle.objects.specs.declared.TypeKey.{TypeKey}
 use Rattle.objects.specs.declared.«Type».{«Type»}
 use Rattle.objects.specs.Lists.{Bytes, upTo}
@@ -82,7 +83,7 @@ count-small first count («Type».Struct f n) s = let e = s .1 in omega arith
 count-small first count («Type».Iface f n) s = let e = s .1 in omega arith
 count-small first count («Type».Named u f n) s = omega arith
 
-pub place-small : (rows : Words) (t : TypeKey) (i : ℕ) → Laid rows → t .0 < typeCount rows → i < partCount rows t → firstRead rows t + i < 65_536
+pub place-small : (rows : Words) (t : TypeKey) (i : ℕ) → Laid rows → t .0 < typeCount rows → i < partCount rows t → firstRead rows t + i < wordValues
 unfolding partCount
 place-small rows t i l h k = omega (arith, span-small rows t l h, count-small (firstRead rows t) (totalRead rows t) (typeRead rows t) (span-is rows t))
 

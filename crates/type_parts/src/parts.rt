@@ -4,6 +4,7 @@ ghost use mathlib.Core.Path.{_≡_};
 ghost use mathlib.Core.Bool.{true};
 ghost use mathlib.Core.Logic.{_⊎_};
 ghost use Prim.Native.Nat.{_+_, _<_};
+ghost use Rattle.objects.specs.Bounds.{wordValues};
 ghost use Rattle.objects.specs.Rows.{typeWord, typeCount, tableOf, memberAt};
 ghost use Rattle.objects.specs.Types.{firstRead};
 ghost use Rattle.objects.specs.Table.{dirNumber, hasPackage, membersOf, kindAt};
@@ -107,7 +108,7 @@ pub fn part_count(rows: &[u32], t: TypeKey) -> u32
 
 // The i-th of them, whatever the kind is.
 fn part_of(rows: &[u32], t: TypeKey, i: u32) -> TypeKey
-    requires { ⌜ firstRead (now rows) t + i < 65_536 ⌝ }
+    requires { ⌜ firstRead (now rows) t + i < wordValues ⌝ }
     ensures { λ r. ⌜ r ≡ partAt (now (rows .entry)) t i ⌝ }
 {
     let ty = type_of(rows, t);
@@ -128,7 +129,7 @@ fn part_of(rows: &[u32], t: TypeKey, i: u32) -> TypeKey
 
 // The i-th of them. The kinds of several parts, of which there are the most parts to read, come first, and only the words are read that one takes.
 pub fn part_at(rows: &[u32], t: TypeKey, i: u32) -> TypeKey
-    requires { ⌜ firstRead (now rows) t + i < 65_536 ⌝ }
+    requires { ⌜ firstRead (now rows) t + i < wordValues ⌝ }
     ensures { λ r. ⌜ r ≡ partAt (now (rows .entry)) t i ⌝ }
 {
     let k = type_word(rows, t, 0);
@@ -150,7 +151,7 @@ pub fn part_at(rows: &[u32], t: TypeKey, i: u32) -> TypeKey
 // The i-th of them, for a loop over i: the kind and the first member or element are known.
 pub fn part_in(rows: &[u32], t: TypeKey, k: u32, first: u32, i: u32) -> TypeKey
     requires { ⌜ (k ≡ typeWord (now rows) t 0) × (first ≡ firstRead (now rows) t) ⌝ }
-    requires { ⌜ firstRead (now rows) t + i < 65_536 ⌝ }
+    requires { ⌜ firstRead (now rows) t + i < wordValues ⌝ }
     ensures { λ r. ⌜ r ≡ partAt (now (rows .entry)) t i ⌝ }
 {
     if has_members(k) {

@@ -1,6 +1,7 @@
 // Runs the program typeask on each input of standard input, and prints its number before what it prints. Each input stands behind its length, five
 // digits and a newline. The inputs and what is due for them are made by tools/ask_sample.py.
 use frames::Frame;
+use frames::ROOM;
 
 fn title(k: u32) {
     io::write_all(1, b"== ");
@@ -21,6 +22,6 @@ fn all(buf: &mut [u8]) {
 }
 
 fn main() {
-    let mut buf = [0u8; 32_800];
+    let mut buf = [0u8; ROOM];
     all(&mut buf);
 }

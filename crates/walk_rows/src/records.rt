@@ -12,6 +12,7 @@ ghost use Rattle.walk_rows.specs.Records.{recordAt, rowMeant, rowsOf, ma
 ghost use Rattle.walk_rows.specs.State.{HasRoom, Wide, Empty, Rowed, Fits, Holds};
 use multiples::EmbeddedType;
 use multiples::FIRST;
+use multiples::RECORD_WORDS;
 use multiples::TYP;
 use multiples::consolidate_multiples;
 use objects::TypeKey;
@@ -20,7 +21,11 @@ use objects::TypeKey;
 pub fn record_at(walk: &[EmbeddedType], i: usize) -> EmbeddedType
     ensures { λ r. ⌜ ((c : ℕ) → wordAt r c ≡ wordAt (recordAt (now (walk .entry)) i) c) ⌝ }
 {
-    if i < walk.len() { walk[i] } else { [0u32; 8] }
+    if i < walk.len() {
+        walk[i]
+    } else {
+        [0u32; RECORD_WORDS]
+    }
 }
 
 // No type has a row.

@@ -10,7 +10,7 @@ use Rattle.objects.specs.Bounds.{workWords}
 use Rattle.objects.specs.Lists.{Bytes}
 use Rattle.objects.specs.Rows.{Words, tableOf}
 use Rattle.rules.specs.Question.{questionOf}
-use Rattle.rules.specs.Asked.{Outcome, refuse, say, answered, outcomeOf, outcome, numberOf, written, asked}
+use Rattle.rules.specs.Asked.{Outcome, refuse, say, answered, outcomeOf, outcomeWithin, outcome, numberOf, written, askedWithin, asked}
 use Rattle.table.specs.declared.Loading.{Loading}
 use Rattle.table.specs.Loading.{loadingMeant, Loads}
 use Rattle.reply.specs.declared.Done.{Done}
@@ -22,12 +22,12 @@ use Rattle.yifgrun.specs.Gives.{Gives, numberRead, Fits}
 
 module _ (text question before : Bytes) (rows : Words) {l : Loading} (h : Loads text l rows) where
   pub table-refused : {n line : ℕ} → l ≡ Loading.Refused n line → Does (outcome text question (length before)) (Done.Refused n line) before before
-  unfolding outcome outcomeOf loadingMeant
+  unfolding outcomeWithin outcomeOf loadingMeant
   table-refused e = does-refuse before (ap (λ z. outcomeOf z question (length before)) (sym (h .says) ∙ ap (loadingMeant text rows) e))
 
   pub table-asked : {after : Bytes} {r : Done} → l ≡ Loading.Loaded → Does (answered (tableOf text rows) (length before) (questionOf (tableOf text rows) question)) r before after
       → Does (outcome text question (length before)) r before after
-  unfolding outcome outcomeOf loadingMeant
+  unfolding outcomeWithin outcomeOf loadingMeant
   table-asked e d = does-as (sym (ap (λ z. outcomeOf z question (length before)) (sym (h .says) ∙ ap (loadingMeant text rows) e))) d
 
 -- ---- the number
@@ -65,13 +65,13 @@ number-done (say bytes) = refl
 module _ (text question before : Bytes) (work : Words) (r : ℤ) where
   -- 1
   pub few-words : length work < workWords → r ≡ numberRead (Done.Refused 1 0) → Gives (asked text question before work) r before work
-  unfolding asked numberRead
+  unfolding askedWithin numberRead
   few-words h e = rw (lt-ltb (length work) workWords h) (record { number = e; answer = refl; work = refl })
 
   -- the rest: what was decided, with the work area clear
   pub enough-words : workWords ≤ length work → {d : Done} {after : Bytes} {clear last : Words} → Does (outcome text question (length before)) d before after → r ≡ numberRead d
       → clear ≡ replicate (length work) 0 → last ≡ clear → Gives (asked text question before work) r after last
-  unfolding asked
+  unfolding askedWithin
   enough-words h p e z k =
       rw (le-ltb (length work) workWords h)
       (record {

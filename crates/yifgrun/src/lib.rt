@@ -7,16 +7,16 @@ ghost use Rattle.rules.specs.Asked.{outcome, asked};
 ghost use Rattle.reply.specs.Done.{Does};
 ghost use Rattle.yifgrun.specs.Gives.{Cleared, Gives, numberRead, Fits};
 use answer::answered;
+use objects::bounds::ALL_WORDS;
+use objects::bounds::MEMBERS_AT;
+use objects::bounds::MIDDLE_TEXT;
+use objects::bounds::REFUSAL_UNIT;
+use objects::bounds::SMALL_TEXT;
+use objects::bounds::WORK_WORDS;
+use pair_marks::marks::clear;
 use reply::Done;
 use table::Loading;
 use table::load;
-use typ::marks::clear;
-
-const WORK_WORDS: usize = 4_096;
-
-const SMALL_TEXT: usize = 1_024;
-
-const MIDDLE_TEXT: usize = 6_144;
 
 // Refusals 2 to 13, or the answer. The work area is clear when it is called, and when it returns; the rows are clear when it is called, and have room for
 // the table.
@@ -43,7 +43,7 @@ fn decide_small(table: &[u8], question: &[u8], answer: &mut [u8], work: &mut [u3
     ensures { λ r. ⌜ Does (outcome (now (table .entry)) (now (question .entry)) (length (now (answer .entry)))) r (now (answer .entry)) (now (answer .exit)) ⌝ }
     ensures { λ _. ⌜ now (work .exit) ≡ now (work .entry) ⌝ }
 {
-    let mut rows = [0u32; 3_208];
+    let mut rows = [0u32; MEMBERS_AT + SMALL_TEXT];
     decide_in(table, &mut rows, question, answer, work)
 }
 
@@ -52,7 +52,7 @@ fn decide_middle(table: &[u8], question: &[u8], answer: &mut [u8], work: &mut [u
     ensures { λ r. ⌜ Does (outcome (now (table .entry)) (now (question .entry)) (length (now (answer .entry)))) r (now (answer .entry)) (now (answer .exit)) ⌝ }
     ensures { λ _. ⌜ now (work .exit) ≡ now (work .entry) ⌝ }
 {
-    let mut rows = [0u32; 8_328];
+    let mut rows = [0u32; MEMBERS_AT + MIDDLE_TEXT];
     decide_in(table, &mut rows, question, answer, work)
 }
 
@@ -61,7 +61,7 @@ fn decide_large(table: &[u8], question: &[u8], answer: &mut [u8], work: &mut [u3
     ensures { λ r. ⌜ Does (outcome (now (table .entry)) (now (question .entry)) (length (now (answer .entry)))) r (now (answer .entry)) (now (answer .exit)) ⌝ }
     ensures { λ _. ⌜ now (work .exit) ≡ now (work .entry) ⌝ }
 {
-    let mut rows = [0u32; 26_760];
+    let mut rows = [0u32; ALL_WORDS];
     decide_in(table, &mut rows, question, answer, work)
 }
 
@@ -85,7 +85,7 @@ fn number(d: Done) -> i64
     ensures { λ r. ⌜ r ≡ numberRead d ⌝ }
 {
     match d {
-        Done::Refused(n, line) => 0 - ((n as u64 * 65_536 + line as u64) as i64),
+        Done::Refused(n, line) => 0 - ((n as u64 * REFUSAL_UNIT + line as u64) as i64),
         Done::Said(n) => n as i64,
     }
 }

@@ -1,5 +1,6 @@
 //! Damage to table texts and questions, and texts that are damaged from the start.
 
+use crate::bounds;
 use crate::prng::Prng;
 use crate::table::{Kind, Table};
 use std::ops::Range;
@@ -186,7 +187,13 @@ fn multiply_line(prng: &mut Prng, text: &mut Vec<u8>) {
         return;
     }
     let at = prng.below(lines.len());
-    let times = [62, 250, 1_020, 3_000][prng.below(4)] + prng.below(10);
+    let times = [
+        bounds::PACKAGES - 2,
+        bounds::TYPES - 6,
+        bounds::MEMBERS - 4,
+        3_000,
+    ][prng.below(4)]
+        + prng.below(10);
     let copies = vec![lines[at].clone(); times];
     lines.splice(at..at, copies);
     *text = lines.concat();

@@ -6,6 +6,7 @@
 mod lent;
 
 use crate::agreement::{agrees_with, is_ambiguous, Agreed};
+use crate::bounds;
 use crate::damage::{self, damage, misdirect};
 use crate::departures::{self, Departure};
 use crate::engine::{self, Engine};
@@ -13,7 +14,6 @@ use crate::prng::Prng;
 use crate::random::{self, Shape};
 use crate::refusals;
 use crate::table::Table;
-use crate::typeask::ANSWER_BYTES;
 use yifgrun::WORK_WORDS;
 
 /// What a call is asked and lent.
@@ -32,7 +32,7 @@ impl Call {
         let (table, question) = asked(&mut prng);
         let room = match prng.below(8) {
             0 => prng.below(41),
-            1 => 16_384,
+            1 => bounds::ANSWER,
             _ => prng.below(1_000),
         };
         let words = match prng.below(20) {
@@ -176,7 +176,7 @@ impl Hammer {
     /// What `typeask` prints for the call's table and question, known without the library; nothing if that is not
     /// known, as where goscript shows one way of two.
     pub fn printed(&mut self, call: &Call) -> Option<String> {
-        let known = |answer: &String| answer.len() <= ANSWER_BYTES && !is_ambiguous(answer);
+        let known = |answer: &String| answer.len() <= bounds::ANSWER && !is_ambiguous(answer);
         Some(match self.due(call) {
             Ok(due) => due.map(|(answer, _)| answer).filter(known)?,
             Err((number, line)) => format!("refused\t{number}\t{line}\n"),

@@ -1,6 +1,8 @@
 //! goscript's own functions over type tables, and the answers of the proved library held against them.
 
 pub mod agreement;
+#[path = "../../tests/bounds/mod.rs"]
+pub mod bounds;
 pub mod damage;
 pub mod departures;
 pub mod engine;

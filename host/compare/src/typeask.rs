@@ -1,12 +1,7 @@
 //! The program `typeask` of document 01, with the answers of some engine.
 
+use crate::bounds;
 use crate::engine::Engine;
-
-/// The bytes that the program reads, table and questions together.
-pub const INPUT_BYTES: usize = 32_768;
-
-/// The bytes that an answer of the program may have.
-pub const ANSWER_BYTES: usize = 16_384;
 
 /// The table text and the questions of an input: what stands before the first line `Q`, and the lines behind it;
 /// without one, everything and a V.
@@ -29,7 +24,7 @@ pub fn print(engine: &mut dyn Engine, input: &str) -> Option<String> {
     let mut printed = String::new();
     for question in questions {
         let answer = engine.ask(str::from_utf8(question).ok()?)?;
-        printed += if answer.len() > ANSWER_BYTES {
+        printed += if answer.len() > bounds::ANSWER {
             "refused\t13\t0\n"
         } else {
             &answer

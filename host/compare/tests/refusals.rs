@@ -5,7 +5,7 @@ mod batches;
 mod said;
 
 use compare::refusals::{self, Refused};
-use compare::typeask::{self, INPUT_BYTES};
+use compare::{bounds, typeask};
 use std::path::Path;
 
 /// A refusal as `typeask` prints it.
@@ -40,7 +40,7 @@ fn all_agree(folder: &Path, name: &str) {
 }
 
 fn agrees(input: &[u8], output: &str, case: &str) {
-    if input.len() > INPUT_BYTES {
+    if input.len() > bounds::TEXT {
         assert_eq!(output, "refused\t2\t0\n", "{case}");
         return;
     }

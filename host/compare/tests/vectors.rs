@@ -7,7 +7,7 @@ use compare::agreement::{agrees, agrees_with, Agreed};
 use compare::departures::due;
 use compare::engine::{self, Engine};
 use compare::refusals;
-use compare::typeask::{self, ANSWER_BYTES, INPUT_BYTES};
+use compare::{bounds, typeask};
 use said::say;
 use std::path::Path;
 
@@ -72,7 +72,7 @@ fn case(
     let Ok(table) = refusals::table(text) else {
         return Ok(());
     };
-    if input.len() > INPUT_BYTES {
+    if input.len() > bounds::TEXT {
         return Ok(());
     }
     goscript.load(&table.to_string()).expect("it loads");
@@ -86,7 +86,7 @@ fn case(
         let theirs = goscript.ask(question).expect("it can be read");
         let (theirs, departs) = due(goscript, &table, question, theirs);
         let how = match theirs.len() {
-            0..=ANSWER_BYTES => agrees_with((&theirs, departs), &stored),
+            0..=bounds::ANSWER => agrees_with((&theirs, departs), &stored),
             _ => agrees("refused\t13\t0\n", &stored),
         };
         agreed.count(how.ok_or(format!("{question}: {theirs:?}, stored: {stored:?}"))?);

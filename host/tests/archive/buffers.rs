@@ -1,5 +1,6 @@
 //! The lengths of the answer buffer and of the work area, and what a call leaves in them.
 
+use crate::bounds;
 use crate::lent::asked;
 use std::thread;
 use yifgrun::{ask, Answers, WORK_WORDS};
@@ -171,5 +172,5 @@ fn long_answers_are_whole() {
     let lines: Vec<&[u8]> = answer.split_inclusive(|&b| b == b'\n').collect();
     assert_eq!((lines.len(), lines[0]), (1_017, &b"set\t1016\n"[..]));
     assert_eq!(lines[1_016], b"sel\t1015\t1\t0\t0\t0\t0\t3\t253\n");
-    assert!(answer.len() > 16_384);
+    assert!(answer.len() > bounds::ANSWER);
 }

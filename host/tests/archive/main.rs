@@ -1,5 +1,7 @@
 //! The library's call through its archive: answers, refusals, and what it leaves in the buffers lent.
 
+#[path = "../bounds/mod.rs"]
+mod bounds;
 mod buffers;
 #[cfg(target_os = "linux")]
 mod fenced;

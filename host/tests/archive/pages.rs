@@ -1,6 +1,7 @@
 //! Each buffer against a page that may not be touched, before it and behind it; table and question also may not be
 //! written. Any access outside what was lent is a fault.
 
+use crate::bounds;
 use crate::fenced::{Fenced, Side};
 use crate::lent::asked;
 use crate::stored::{cases, say};
@@ -140,15 +141,20 @@ fn filled(bytes: usize) -> Vec<u8> {
 fn longest_tables_and_questions() {
     let mut pages = Pages::new();
     for side in SIDES {
-        for bytes in 32_760..32_776 {
+        for bytes in bounds::TEXT - 8..bounds::TEXT + 8 {
             let result = pages.ask([side; 4], (&filled(bytes), b"V"), (40, WORK_WORDS));
             let due = match bytes {
-                ..=32_768 => Ok(b"ok\t1\t9\t5\n".to_vec()),
+                ..=bounds::TEXT => Ok(b"ok\t1\t9\t5\n".to_vec()),
                 _ => Err(2),
             };
             assert_eq!(result.map_err(|refusal| refusal.number), due, "{bytes}");
         }
-        for bytes in [255, 256, 257, 4_000] {
+        for bytes in [
+            bounds::QUESTION - 1,
+            bounds::QUESTION,
+            bounds::QUESTION + 1,
+            4_000,
+        ] {
             for byte in [b'S', b'\t', b'0', 0, 255] {
                 let question = vec![byte; bytes];
                 let result = pages.ask([side; 4], (TABLE.as_bytes(), &question), (40, WORK_WORDS));

@@ -1,5 +1,6 @@
 //! The stack of the calls that nest deepest, measured, and on threads of 2 MiB and 1 MiB.
 
+use crate::bounds;
 use crate::lent::asked;
 use crate::stored::say;
 use std::ffi::c_void;
@@ -92,7 +93,7 @@ fn rings() -> Deep {
         first += 3 * length;
         start
     });
-    assert!(first <= 256, "{first} types");
+    assert!(first <= bounds::TYPES, "{first} types");
     Deep {
         name: "rings of interfaces over chains of pointers, I",
         table,
@@ -189,7 +190,7 @@ fn chain() -> [Deep; 5] {
 
 impl Deep {
     fn run(&self) {
-        let mut answer = vec![0; 16_384];
+        let mut answer = vec![0; bounds::ANSWER];
         let mut work = vec![0; WORK_WORDS];
         let (table, question) = (self.table.as_bytes(), self.question.as_bytes());
         let result = asked(table, question, &mut answer, &mut work);

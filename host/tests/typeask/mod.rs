@@ -1,11 +1,8 @@
 //! The program `typeask` put together from calls, each question in a call of its own.
 
+use crate::bounds;
 use std::collections::BTreeSet;
 use yifgrun::{Refusal, WORK_WORDS};
-
-/// The bytes that `typeask` reads at most, and those of its answer buffer.
-const INPUT: usize = 32_768;
-const ROOM: usize = 16_384;
 
 /// Every answer word, and every refusal but the first: `typeask` has a work area of its own.
 pub const WORDS: [&str; 24] = [
@@ -55,7 +52,7 @@ pub fn parted(input: &[u8]) -> (&[u8], Vec<&[u8]>) {
 
 /// What `typeask` prints for an input.
 pub fn print(input: &[u8], ask: Ask) -> Vec<u8> {
-    if input.len() > INPUT {
+    if input.len() > bounds::TEXT {
         return b"refused\t2\t0\n".to_vec();
     }
     let (table, questions) = parted(input);
@@ -78,7 +75,7 @@ fn say_answer(
     ask: Ask,
     printed: &mut Vec<u8>,
 ) -> Result<(), Refusal> {
-    let (mut answer, mut work) = ([0; ROOM], [0; WORK_WORDS]);
+    let (mut answer, mut work) = ([0; bounds::ANSWER], [0; WORK_WORDS]);
     let length = ask(table, question, &mut answer, &mut work)?;
     printed.extend(&answer[..length]);
     Ok(())

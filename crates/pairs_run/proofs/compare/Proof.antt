@@ -2,10 +2,12 @@
 use mathlib.Core.Path.{refl}
 use native.Mathlib.Omega.{arith}
 use borrow.Author.Needs.{needs}
-use Rattle.typ.proofs.Zero.{none-met}
-use Rattle.typ.proofs.Marked.{well-none}
-use Rattle.typ.proofs.Following.{follows-single}
+use Rattle.objects.specs.Bounds.{maxTypes}
+use Rattle.objects.proofs.RowLaws.{size-read}
+use Rattle.pair_marks.proofs.Zero.{none-met}
+use Rattle.pair_marks.proofs.PairLaws.{words-more}
 use Rattle.typ.proofs.DepthLaws.{within}
+use Rattle.typ.proofs.Top.{well-none}
 use Rattle.pairs_run.proofs.compare.Statement.{statement}
 use Rattle.pairs_run.proofs.compare.Tie as tie
 
@@ -38,8 +40,19 @@ slice-aggregate-identical-impl-2 c = search needs
 
 identical-impl-requires : tie.Need-identical-impl-requires
 identical-impl-requires c κs =
-    let library = c .before .before .before .before .before .before .before .before .before .pre in
-    (library, (omega arith, (well-none _ _ (none-met _ refl), (follows-single _ _ _ (search needs) (c .before .before .before .number .ensures), within _ _ library _ (omega arith) _ _ (omega arith) (omega arith)))))
+    let start = c .before .before .before .before .before .before .before .before .before in
+    let library = start .pre in
+    let few = library .laid .types in
+    let size = size-read (start .args .text .now) (start .args .rows .now) in (
+      library,
+      (
+        (omega arith, omega arith, omega (arith, words-more _ maxTypes few)),
+        (
+          well-none _ _ _ (none-met _ refl) (omega (arith, size, few)) (c .before .before .before .number .ensures),
+          within _ _ library _ (omega arith) _ _ (omega arith) (omega arith),
+        ),
+      ),
+    )
 
 slice-aggregate-pairs-met : tie.Need-slice-aggregate-pairs-met
 slice-aggregate-pairs-met c = search needs

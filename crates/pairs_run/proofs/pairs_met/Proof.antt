@@ -1,17 +1,17 @@
 -- `pairs_met` counts no more pairs than it has passed, so that the count fits.
-use Prim.Native.Nat.{_-_, _≤_}
+use Prim.Native.Nat.{_*_, _-_, _≤_}
 use native.Mathlib.Omega.{arith}
 use mathlib.Core.Logic.{⊎-elim}
+use lib.ListN.{length}
 use borrow.Author.Needs.{needs}
-use Rattle.typ.specs.Compared.{pairs}
 use Rattle.pairs_run.proofs.pairs_met.Statement.{statement}
 use Rattle.pairs_run.proofs.pairs_met.Tie as tie
 
 abbrev Inv-loop : tie.InvT-loop
-Inv-loop marks n₀ p₀ n p = (n ≤ p) × (p ≤ pairs)
+Inv-loop marks n₀ p₀ n p = (n ≤ p) × (p ≤ 32 * length marks)
 
 abbrev μ-loop : tie.MeasureT-loop
-μ-loop marks n₀ p₀ n p = pairs - p
+μ-loop marks n₀ p₀ n p = 32 * length marks - p
 
 loop-holds : tie.Need-loop-holds Inv-loop μ-loop
 loop-holds c = omega arith

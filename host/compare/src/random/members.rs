@@ -1,6 +1,7 @@
 //! The fields and methods of a random table.
 
 use super::maker::{Maker, Plan};
+use crate::bounds;
 use crate::table::{Kind, Member};
 
 /// Few names, so that they meet; exported or not, and the blank one.
@@ -9,9 +10,6 @@ const NAMES: [&str; 12] = [
 ];
 
 const TAGS: [&str; 3] = ["t", "k:\"v\"", "a b"];
-
-/// The most members of a table.
-const MEMBERS: usize = 1024;
 
 impl Maker<'_> {
     /// The fields of a struct: an earlier one's with twins for types, or new ones.
@@ -157,7 +155,7 @@ impl Maker<'_> {
     }
 
     fn has_room(&self) -> bool {
-        self.members.iter().map(Vec::len).sum::<usize>() < MEMBERS
+        self.members.iter().map(Vec::len).sum::<usize>() < bounds::MEMBERS
     }
 
     /// Whether a type may have this member beside those it has and, if it is named, those of its struct.

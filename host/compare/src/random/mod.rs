@@ -4,6 +4,7 @@
 mod maker;
 mod members;
 
+use crate::bounds;
 use crate::prng::Prng;
 use crate::table::{Kind, Member, Table};
 use maker::Maker;
@@ -61,14 +62,14 @@ impl Shape {
         }
     }
 
-    /// A table as large as document 01 allows.
+    /// A table as large as the papers allow.
     pub fn largest() -> Shape {
         Shape {
-            packages: 64,
-            least_types: 256,
-            types: 256,
+            packages: bounds::PACKAGES,
+            least_types: bounds::TYPES,
+            types: bounds::TYPES,
             members: 24,
-            bytes: 32_768,
+            bytes: bounds::TEXT,
             long_names: true,
         }
     }

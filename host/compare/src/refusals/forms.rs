@@ -1,5 +1,6 @@
 //! The forms of lines and questions: refusals 4 and 11.
 
+use crate::bounds;
 use crate::table::{Kind, Member, Table};
 
 /// A line of the right form.
@@ -121,7 +122,7 @@ fn number(field: &[u8], most: u64) -> Option<u64> {
 
 /// Whether a question has the right form and numbers that the table has; of an N question, its second type.
 pub fn question(table: &Table, line: &[u8]) -> Option<Option<usize>> {
-    if line.len() > 256 {
+    if line.len() > bounds::QUESTION {
         return None;
     }
     let fields: Vec<&[u8]> = line.split(|&b| b == b'\t').collect();

@@ -4,6 +4,7 @@
 mod forms;
 mod rules;
 
+use crate::bounds;
 use crate::table::{Kind, Table};
 use forms::Line;
 
@@ -13,9 +14,6 @@ pub struct Refused {
     pub number: u8,
     pub line: usize,
 }
-
-/// The bytes that a table may have.
-const TEXT: usize = 32_768;
 
 const HEADER: &[u8] = b"typetable\t1\n";
 
@@ -28,7 +26,7 @@ struct Read {
 
 /// The table that a text loads to, or the refusal that it earns.
 pub fn table(text: &[u8]) -> Result<Table, Refused> {
-    if text.len() > TEXT {
+    if text.len() > bounds::TEXT {
         return Err(Refused { number: 2, line: 0 });
     }
     let Some(rest) = text.strip_prefix(HEADER) else {
@@ -79,11 +77,11 @@ fn in_place(table: &Table, line: &Line) -> bool {
 /// "A 65th package, 257th type, 1,025th member, or 256th member of one type".
 fn has_room(table: &Table, line: &Line) -> bool {
     match line {
-        Line::Package(_) => table.packages.len() < 64,
-        Line::Type(_) => table.types.len() < 256,
+        Line::Package(_) => table.packages.len() < bounds::PACKAGES,
+        Line::Type(_) => table.types.len() < bounds::TYPES,
         Line::Field(_) | Line::Method(_) => {
             let above = table.types.last().map_or(0, |t| t.members.len());
-            table.members.len() < 1024 && above < 255
+            table.members.len() < bounds::MEMBERS && above < bounds::MEMBERS_OF_ONE
         }
     }
 }

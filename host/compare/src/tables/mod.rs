@@ -4,6 +4,7 @@ mod identity;
 mod loading;
 mod members;
 
+use crate::bounds;
 use crate::prng::Prng;
 use crate::random::{self, Shape};
 use crate::table::{Kind, Member, Table};
@@ -59,7 +60,10 @@ pub fn cases() -> Vec<Case> {
         "random table of 40 to 120 types",
         &Shape::middle(),
     ));
-    cases.push(random_text("random table of 256 types", &Shape::largest()));
+    cases.push(random_text(
+        &format!("random table of {} types", bounds::TYPES),
+        &Shape::largest(),
+    ));
     cases.extend(long_loads());
     cases
 }

@@ -1,4 +1,4 @@
--- `ask_c` meets its contract: 256 of the marks are enough.
+-- `ask_c` meets its contract: the marks are more than the types.
 use native.Mathlib.Omega.{arith}
 use Rattle.answer.proofs.Answering.{c-due}
 use borrow.Author.Needs.{needs}

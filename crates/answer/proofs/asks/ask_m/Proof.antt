@@ -3,6 +3,8 @@ use mathlib.Core.Path.{ap}
 use Prim.Native.Nat.{_*_}
 use native.Mathlib.Omega.{arith}
 use borrow.Author.Tests.{leb-true}
+use Rattle.objects.specs.Bounds.{someRecords, someMembers, maxMembers}
+use Rattle.multiples.specs.Records.{maxRecords}
 use Rattle.answer.proofs.Answering.{lent-long, lent-new, held-new}
 use borrow.Author.Needs.{needs}
 use Rattle.answer.proofs.asks.ask_m.Statement.{statement}
@@ -30,7 +32,7 @@ slice-aggregate-ask-m-on : tie.Need-slice-aggregate-ask-m-on
 slice-aggregate-ask-m-on c =
     let types = c .before .before .before .before .type-count in
     let fits = c .before .before .before .if1 .taken in
-    lent-long 256 (2 * types .result) (omega arith)
+    lent-long someRecords (2 * types .result) (omega arith)
 
 slice-aggregate-ask-m-on-2 : tie.Need-slice-aggregate-ask-m-on-2
 slice-aggregate-ask-m-on-2 c = search needs
@@ -44,9 +46,9 @@ ask-m-on-requires c κs =
     let types = c .before .before .before .before .before .before .before .type-count in
     let fits = c .before .before .before .before .before .before .if1 .taken in
     let members = c .before .before .before .before .before .member-count in
-    let is = members .ensures in let few = leb-true (members .result) 256 (c .before .before .before .before .if2 .taken) in
-    let lent = lent-new (start .args .rows .now) 256 (2 * types .result) (ap (λ n. 2 * n) (types .ensures)) (omega arith) (omega arith) in
-    (start .pre .0, (start .pre .1, lent .0, lent .1, lent .2, held-new (start .args .text .now) (start .args .rows .now) 256 (omega arith)))
+    let is = members .ensures in let few = leb-true (members .result) someMembers (c .before .before .before .before .if2 .taken) in
+    let lent = lent-new (start .args .rows .now) someRecords (2 * types .result) (ap (λ n. 2 * n) (types .ensures)) (omega arith) (omega arith) in
+    (start .pre .0, (start .pre .1, lent .0, lent .1, lent .2, held-new (start .args .text .now) (start .args .rows .now) someMembers (omega arith)))
 
 same-length : tie.Need-same-length
 same-length c = search needs
@@ -62,7 +64,7 @@ slice-aggregate-ask-m-on-4 c =
     let start = c .before .before .before .before .before .before in
     let types = c .before .before .type-count in
     let most = start .pre .0 .laid .types in let is = types .ensures in
-    lent-long 512 (2 * types .result) (omega arith)
+    lent-long maxRecords (2 * types .result) (omega arith)
 
 slice-aggregate-ask-m-on-5 : tie.Need-slice-aggregate-ask-m-on-5
 slice-aggregate-ask-m-on-5 c = search needs
@@ -75,8 +77,8 @@ ask-m-on-requires-2 c κs =
     let start = c .before .before .before .before .before .before .before .before .before in
     let types = c .before .before .before .before .before .type-count in
     let most = start .pre .0 .laid .types in let members = start .pre .0 .laid .members in let is = types .ensures in
-    let lent = lent-new (start .args .rows .now) 512 (2 * types .result) (ap (λ n. 2 * n) (types .ensures)) (omega arith) (omega arith) in
-    (start .pre .0, (start .pre .1, lent .0, lent .1, lent .2, held-new (start .args .text .now) (start .args .rows .now) 1024 (omega arith)))
+    let lent = lent-new (start .args .rows .now) maxRecords (2 * types .result) (ap (λ n. 2 * n) (types .ensures)) (omega arith) (omega arith) in
+    (start .pre .0, (start .pre .1, lent .0, lent .1, lent .2, held-new (start .args .text .now) (start .args .rows .now) maxMembers (omega arith)))
 
 same-length-2 : tie.Need-same-length-2
 same-length-2 c = search needs

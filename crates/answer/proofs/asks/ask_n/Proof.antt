@@ -2,6 +2,8 @@
 use mathlib.Core.Path.{ap}
 use Prim.Native.Nat.{_*_}
 use native.Mathlib.Omega.{arith}
+use Rattle.objects.specs.Bounds.{fewRecords, someRecords}
+use Rattle.multiples.specs.Records.{maxRecords}
 use Rattle.answer.proofs.Answering.{lent-long, scratch-new}
 use borrow.Author.Needs.{needs}
 use Rattle.answer.proofs.asks.ask_n.Statement.{statement}
@@ -23,14 +25,14 @@ slice-aggregate-ask-n-on : tie.Need-slice-aggregate-ask-n-on
 slice-aggregate-ask-n-on c =
     let types = c .before .before .before .type-count in
     let fits = c .before .before .if1 .taken in
-    lent-long 64 (2 * types .result) (omega arith)
+    lent-long fewRecords (2 * types .result) (omega arith)
 
 ask-n-on-requires : tie.Need-ask-n-on-requires
 ask-n-on-requires c κs =
     let start = c .before .before .before .before .before .before .before .before .before in
     let types = c .before .before .before .before .type-count in
     let fits = c .before .before .before .if1 .taken in
-    (start .pre .0, ((start .pre .1 .0 .0, start .pre .1 .0 .1, start .pre .1 .0 .2, scratch-new (start .args .rows .now) 64 (2 * types .result) (ap (λ n. 2 * n) (types .ensures)) (omega arith) (omega arith)), start .pre .1 .1))
+    (start .pre .0, ((start .pre .1 .0 .0, start .pre .1 .0 .1, start .pre .1 .0 .2, scratch-new (start .args .rows .now) fewRecords (2 * types .result) (ap (λ n. 2 * n) (types .ensures)) (omega arith) (omega arith)), start .pre .1 .1))
 
 same-length : tie.Need-same-length
 same-length c = search needs
@@ -48,14 +50,14 @@ slice-aggregate-ask-n-on-2 : tie.Need-slice-aggregate-ask-n-on-2
 slice-aggregate-ask-n-on-2 c =
     let types = c .before .before .before .before .type-count in
     let fits = c .before .before .if2 .taken in
-    lent-long 256 (2 * types .result) (omega arith)
+    lent-long someRecords (2 * types .result) (omega arith)
 
 ask-n-on-requires-2 : tie.Need-ask-n-on-requires-2
 ask-n-on-requires-2 c κs =
     let start = c .before .before .before .before .before .before .before .before .before .before in
     let types = c .before .before .before .before .before .type-count in
     let fits = c .before .before .before .if2 .taken in
-    (start .pre .0, ((start .pre .1 .0 .0, start .pre .1 .0 .1, start .pre .1 .0 .2, scratch-new (start .args .rows .now) 256 (2 * types .result) (ap (λ n. 2 * n) (types .ensures)) (omega arith) (omega arith)), start .pre .1 .1))
+    (start .pre .0, ((start .pre .1 .0 .0, start .pre .1 .0 .1, start .pre .1 .0 .2, scratch-new (start .args .rows .now) someRecords (2 * types .result) (ap (λ n. 2 * n) (types .ensures)) (omega arith) (omega arith)), start .pre .1 .1))
 
 same-length-3 : tie.Need-same-length-3
 same-length-3 c = search needs
@@ -74,14 +76,14 @@ slice-aggregate-ask-n-on-3 c =
     let start = c .before .before .before .before .before .before .before .before .before in
     let types = c .before .before .before .before .type-count in
     let most = start .pre .0 .laid .types in let is = types .ensures in
-    lent-long 512 (2 * types .result) (omega arith)
+    lent-long maxRecords (2 * types .result) (omega arith)
 
 ask-n-on-requires-3 : tie.Need-ask-n-on-requires-3
 ask-n-on-requires-3 c κs =
     let start = c .before .before .before .before .before .before .before .before .before .before in
     let types = c .before .before .before .before .before .type-count in
     let most = start .pre .0 .laid .types in let is = types .ensures in
-    (start .pre .0, ((start .pre .1 .0 .0, start .pre .1 .0 .1, start .pre .1 .0 .2, scratch-new (start .args .rows .now) 512 (2 * types .result) (ap (λ n. 2 * n) (types .ensures)) (omega arith) (omega arith)), start .pre .1 .1))
+    (start .pre .0, ((start .pre .1 .0 .0, start .pre .1 .0 .1, start .pre .1 .0 .2, scratch-new (start .args .rows .now) maxRecords (2 * types .result) (ap (λ n. 2 * n) (types .ensures)) (omega arith) (omega arith)), start .pre .1 .1))
 
 same-length-5 : tie.Need-same-length-5
 same-length-5 c = search needs

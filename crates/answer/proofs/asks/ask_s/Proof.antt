@@ -2,6 +2,8 @@
 use mathlib.Core.Path.{ap}
 use Prim.Native.Nat.{_*_}
 use native.Mathlib.Omega.{arith}
+use Rattle.objects.specs.Bounds.{fewRecords, someRecords}
+use Rattle.multiples.specs.Records.{maxRecords}
 use Rattle.answer.proofs.Answering.{lent-long, scratch-new}
 use borrow.Author.Needs.{needs}
 use Rattle.answer.proofs.asks.ask_s.Statement.{statement}
@@ -23,14 +25,14 @@ slice-aggregate-ask-s-on : tie.Need-slice-aggregate-ask-s-on
 slice-aggregate-ask-s-on c =
     let types = c .before .before .type-count in
     let fits = c .before .if1 .taken in
-    lent-long 64 (2 * types .result) (omega arith)
+    lent-long fewRecords (2 * types .result) (omega arith)
 
 ask-s-on-requires : tie.Need-ask-s-on-requires
 ask-s-on-requires c κs =
     let start = c .before .before .before .before .before .before .before .before in
     let types = c .before .before .before .type-count in
     let fits = c .before .before .if1 .taken in
-    (start .pre .0, (start .pre .1 .0, start .pre .1 .1, scratch-new (start .args .rows .now) 64 (2 * types .result) (ap (λ n. 2 * n) (types .ensures)) (omega arith) (omega arith)))
+    (start .pre .0, (start .pre .1 .0, start .pre .1 .1, scratch-new (start .args .rows .now) fewRecords (2 * types .result) (ap (λ n. 2 * n) (types .ensures)) (omega arith) (omega arith)))
 
 same-length : tie.Need-same-length
 same-length c = search needs
@@ -45,14 +47,14 @@ slice-aggregate-ask-s-on-2 : tie.Need-slice-aggregate-ask-s-on-2
 slice-aggregate-ask-s-on-2 c =
     let types = c .before .before .before .type-count in
     let fits = c .before .if2 .taken in
-    lent-long 256 (2 * types .result) (omega arith)
+    lent-long someRecords (2 * types .result) (omega arith)
 
 ask-s-on-requires-2 : tie.Need-ask-s-on-requires-2
 ask-s-on-requires-2 c κs =
     let start = c .before .before .before .before .before .before .before .before .before in
     let types = c .before .before .before .before .type-count in
     let fits = c .before .before .if2 .taken in
-    (start .pre .0, (start .pre .1 .0, start .pre .1 .1, scratch-new (start .args .rows .now) 256 (2 * types .result) (ap (λ n. 2 * n) (types .ensures)) (omega arith) (omega arith)))
+    (start .pre .0, (start .pre .1 .0, start .pre .1 .1, scratch-new (start .args .rows .now) someRecords (2 * types .result) (ap (λ n. 2 * n) (types .ensures)) (omega arith) (omega arith)))
 
 same-length-2 : tie.Need-same-length-2
 same-length-2 c = search needs
@@ -68,14 +70,14 @@ slice-aggregate-ask-s-on-3 c =
     let start = c .before .before .before .before .before .before .before .before in
     let types = c .before .before .before .type-count in
     let most = start .pre .0 .laid .types in let is = types .ensures in
-    lent-long 512 (2 * types .result) (omega arith)
+    lent-long maxRecords (2 * types .result) (omega arith)
 
 ask-s-on-requires-3 : tie.Need-ask-s-on-requires-3
 ask-s-on-requires-3 c κs =
     let start = c .before .before .before .before .before .before .before .before .before in
     let types = c .before .before .before .before .type-count in
     let most = start .pre .0 .laid .types in let is = types .ensures in
-    (start .pre .0, (start .pre .1 .0, start .pre .1 .1, scratch-new (start .args .rows .now) 512 (2 * types .result) (ap (λ n. 2 * n) (types .ensures)) (omega arith) (omega arith)))
+    (start .pre .0, (start .pre .1 .0, start .pre .1 .1, scratch-new (start .args .rows .now) maxRecords (2 * types .result) (ap (λ n. 2 * n) (types .ensures)) (omega arith) (omega arith)))
 
 same-length-3 : tie.Need-same-length-3
 same-length-3 c = search needs

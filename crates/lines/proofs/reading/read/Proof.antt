@@ -2,6 +2,7 @@
 use mathlib.Core.Path.{sym, ap, _∙_}
 use native.Mathlib.Omega.{arith}
 use lib.ListN.{drop}
+use Rattle.objects.specs.Bounds.{bounds}
 use Rattle.text.specs.Lines.{pieces}
 use Rattle.rules.specs.Load.{linesFrom, thenChecked}
 use Rattle.lines.specs.Reading.{readMeant}
@@ -27,7 +28,7 @@ same-length : tie.Need-same-length
 same-length c = search needs
 
 returns-2 : tie.Need-returns-2
-returns-2 c = (header-read (c .before .before .before .before .before .before .before .before .before .before .args .text .now) (c .before .before .before .before .before .before .before .if1 .left) (c .before .before .before .before .before .starts .ensures) (c .before .before .before .before .if2 .taken) ∙ ap thenChecked (ap (λ T. linesFrom 2 T (pieces (drop 12 (c .before .before .before .before .before .before .before .before .before .before .args .text .now)))) (sym (none-held (c .before .before .before .before .before .before .before .before .before .before .args .text .now) _ (c .before .before .before .before .before .before .before .before .before .before .pre .0) (omega (arith, (c .before .before .before .before .before .before .before .before .before .before .pre .1))) .1)) ∙ (c .before .before .read-lines .ensures .0)), (c .before .before .read-lines .ensures .1))
+returns-2 c = (header-read (c .before .before .before .before .before .before .before .before .before .before .args .text .now) (c .before .before .before .before .before .before .before .if1 .left) (c .before .before .before .before .before .starts .ensures) (c .before .before .before .before .if2 .taken) ∙ ap thenChecked (ap (λ T. linesFrom bounds 2 T (pieces (drop 12 (c .before .before .before .before .before .before .before .before .before .before .args .text .now)))) (sym (none-held (c .before .before .before .before .before .before .before .before .before .before .args .text .now) _ (c .before .before .before .before .before .before .before .before .before .before .pre .0) (omega (arith, (c .before .before .before .before .before .before .before .before .before .before .pre .1))) .1)) ∙ (c .before .before .read-lines .ensures .0)), (c .before .before .read-lines .ensures .1))
 
 returns-3 : tie.Need-returns-3
 unfolding readMeant

@@ -3,11 +3,11 @@ use mathlib.Core.Path.{_≡_, refl, subst, _∙_}
 use Prim.Native.Nat.{_-_, _≤_}
 use native.Mathlib.Omega.{arith}
 use lib.ListN.{length, drop}
+use Rattle.objects.specs.Bounds.{bounds}
 use Rattle.objects.specs.Rows.{tableOf}
 use Rattle.objects.specs.Laid.{Laid}
 use Rattle.text.specs.Lines.{pieces}
 use Rattle.rules.specs.Load.{linesFrom}
-use Rattle.lines.specs.declared.Verdict.{Verdict}
 use Rattle.lines.specs.Adding.{bytesTaken, Grown}
 use Rattle.lines.specs.Reading.{readMeant}
 use Rattle.lines.proofs.ReadLaws.{end-within, end-behind, text-ends, line-cut, line-room, line-brings, line-refused, line-read}
@@ -16,7 +16,7 @@ use Rattle.lines.proofs.reading.read_lines.Statement.{statement}
 use Rattle.lines.proofs.reading.read_lines.Tie as tie
 
 abbrev Inv-loop : tie.InvT-loop
-Inv-loop text rows₀ from at₀ line₀ rows at line = (linesFrom 2 (tableOf text rows₀) (pieces (drop from text)) ≡ linesFrom line (tableOf text rows) (pieces (drop at text)))
+Inv-loop text rows₀ from at₀ line₀ rows at line = (linesFrom bounds 2 (tableOf text rows₀) (pieces (drop from text)) ≡ linesFrom bounds line (tableOf text rows) (pieces (drop at text)))
     × Laid rows × (bytesTaken rows ≤ at) × (at ≤ length text) × (line ≤ at) × (length rows ≡ length rows₀)
 
 abbrev μ-loop : tie.MeasureT-loop

@@ -3,7 +3,8 @@ use native.Mathlib.Omega.{arith}
 use mathlib.Core.Path.{_≡_, refl, _∙_}
 use Prim.Native.Nat.{_+_, _*_, _-_, _≤_}
 use lib.ListN.{length, take, drop}
-use Rattle.reply.specs.SetLines.{maxLine, selLines}
+use Rattle.print.specs.Written.{maxLine}
+use Rattle.reply.specs.SetLines.{selLines}
 use Rattle.reply.proofs.Setting.{next-length, end-length, short-at}
 use borrow.Author.Needs.{needs}
 use Rattle.reply.proofs.set_lines.total_length.Statement.{statement}

@@ -1,13 +1,16 @@
 use borrow.Author.Needs.{needs}
-use mathlib.Core.Path.{ap, _∙_}
-use mathlib.Core.List.{List, _++_}
-use Prim.Native.Nat.{ℕ}
+use Prim.Native.Nat.{_-_}
 use native.Mathlib.Omega.{arith}
-use lib.ListN.{drop, take-append-drop}
 use lib.Seq.{length-take-le}
-use Rattle.typ.proofs.Zero.{zero-front}
+use Rattle.pair_marks.proofs.Zero.{zero-front, front-back}
 use Rattle.typ.proofs.comparable.comparable.Statement.{statement}
 use Rattle.typ.proofs.comparable.comparable.Tie as tie
+
+type-count-requires : tie.Need-type-count-requires
+type-count-requires c κs = search needs
+
+cast-types : tie.Need-cast-types
+cast-types c = search needs
 
 sub-judge : tie.Need-sub-judge
 sub-judge c = search needs
@@ -19,15 +22,30 @@ part-judge-end : tie.Need-part-judge-end
 part-judge-end c = search needs
 
 judge-requires : tie.Need-judge-requires
-judge-requires c κs = (search needs, ((search needs, omega (arith, length-take-le 256 (c .before .before .before .before .args .met .now) (c .before .before .before .before .pre .1 .0 .1))), zero-front 256 _ (c .before .before .before .before .pre .1 .1)))
+judge-requires c κs =
+    let at-count = c .before in
+    let start = at-count .before .before .before .before in
+    let n = at-count .type-count .result - 0 in
+    (start .pre .0, ((start .pre .1 .0 .0, omega (arith, length-take-le n (start .args .met .now) (omega arith))), zero-front n _ (start .pre .1 .1)))
 
 same-length : tie.Need-same-length
 same-length c = search needs
 
 returns : tie.Need-returns
-returns c = (c .before .before .judge .ensures .0, ap (λ (l : List ℕ). l ++ drop 256 (c .before .before .before .before .before .before .before .args .met .now)) (c .before .before .judge .ensures .1) ∙ take-append-drop 256 _)
+returns c =
+    let at-judge = c .before .before in
+    let n = at-judge .before .before .type-count .result - 0 in
+    (at-judge .judge .ensures .0, front-back n _ _ (at-judge .judge .ensures .1))
 
 pub comparable-spec : {M : Type 1} → statement M
 comparable-spec =
     tie.close
-    (tie.spec sub-judge part-judge-start part-judge-end judge-requires same-length returns)
+    (tie.spec
+    type-count-requires
+    cast-types
+    sub-judge
+    part-judge-start
+    part-judge-end
+    judge-requires
+    same-length
+    returns)

@@ -1,33 +1,49 @@
 use borrow.Author.Needs.{needs}
-use Rattle.typ.proofs.Following.{follows-single}
+use Prim.Native.Nat.{_-_}
+use native.Mathlib.Omega.{arith}
+use lib.ListN.{replicate}
+use Rattle.objects.specs.Bounds.{maxTypes}
+use Rattle.pair_marks.proofs.Zero.{front-long}
 use Rattle.typ.proofs.identical.decide.Statement.{statement}
 use Rattle.typ.proofs.identical.decide.Tie as tie
 
-slice-aggregate-number : tie.Need-slice-aggregate-number
-slice-aggregate-number c = search needs
+type-count-requires : tie.Need-type-count-requires
+type-count-requires c κs = search needs
 
-number-requires : tie.Need-number-requires
-number-requires c κs = search needs
+cast-types : tie.Need-cast-types
+cast-types c = search needs
 
-slice-aggregate-decide-by : tie.Need-slice-aggregate-decide-by
-slice-aggregate-decide-by c = search needs
+sub-decide-by : tie.Need-sub-decide-by
+sub-decide-by c = search needs
+
+part-labels-start : tie.Need-part-labels-start
+part-labels-start c = search needs
+
+part-labels-end : tie.Need-part-labels-end
+part-labels-end c = search needs
 
 decide-by-requires : tie.Need-decide-by-requires
-decide-by-requires c κs = (c .before .before .before .before .before .before .before .before .pre .0, (c .before .before .before .before .before .before .before .before .pre .1 .0, (c .before .before .before .before .before .before .before .before .pre .1 .1, follows-single _ _ _ (search needs) (c .before .before .before .number .ensures))))
+decide-by-requires c κs =
+    let at-type-count = c .before .before in
+    let asked = at-type-count .before .before .before .before .pre in
+    let n = at-type-count .type-count .result - 0 in
+    (asked .0, (asked .1 .0, (front-long (replicate maxTypes 0) n _ (omega (arith, at-type-count .type-count .ensures)) (asked .0 .laid .types), asked .1 .1)))
 
 same-length : tie.Need-same-length
 same-length c = search needs
 
 returns : tie.Need-returns
-returns c = c .before .before .before .decide-by .ensures
+returns c = search needs
 
 pub decide-spec : {M : Type 1} → statement M
 decide-spec =
     tie.close
     (tie.spec
-    slice-aggregate-number
-    number-requires
-    slice-aggregate-decide-by
+    type-count-requires
+    cast-types
+    sub-decide-by
+    part-labels-start
+    part-labels-end
     decide-by-requires
     same-length
     returns)

@@ -2,28 +2,32 @@ use borrow.Author.Needs.{needs}
 use mathlib.Core.Path.{_≡_}
 use native.Mathlib.Omega.{arith}
 use lib.ListN.{length}
-use borrow.Author.Tests.{not-true, not-false}
+use borrow.Author.Tests.{not-true}
 use Rattle.objects.specs.Rows.{tableOf}
+use Rattle.objects.proofs.RowLaws.{size-read}
 use Rattle.rules.proofs.Sounds.{library-sound}
 use Rattle.type_parts.proofs.KinLaws.{peers-kin}
-use Rattle.typ.specs.Marks.{unmet}
-use Rattle.typ.specs.Compared.{Follows, State}
-use Rattle.typ.proofs.Marked.{well-none, went-parts}
 use Rattle.typ.proofs.DepthLaws.{parts-within}
-use Rattle.typ.proofs.Top.{begun, differed, agreed, answered}
+use Rattle.typ.proofs.Top.{well-none, begun, differed, Rounds, rounds-none, rounds-more, left, left-falls}
 use Rattle.typ.proofs.identical.decide_by.Statement.{statement}
 use Rattle.typ.proofs.identical.decide_by.Tie as tie
 
 abbrev Inv-loop : tie.InvT-loop
-Inv-loop text rows marks₀ labels₀ x y marks labels = (length marks ≡ length marks₀) × (length labels ≡ length labels₀) × Follows (tableOf text rows) marks labels × State (tableOf text rows) marks x y
+Inv-loop text rows marks₀ labels₀ x y r₀ marks labels r = (length marks ≡ length marks₀) × (length labels ≡ length labels₀) × Rounds (tableOf text rows) x y marks labels r
 
 abbrev μ-loop : tie.MeasureT-loop
-μ-loop text rows marks₀ labels₀ x y marks labels = unmet marks
+μ-loop text rows marks₀ labels₀ x y r₀ marks labels r = left (tableOf text rows) x y marks r
+
+number-requires : tie.Need-number-requires Inv-loop μ-loop
+number-requires c κs = search needs
 
 identical-impl-o-requires : tie.Need-identical-impl-o-requires Inv-loop μ-loop
 identical-impl-o-requires c κs =
-    let asked = c .before .before .before .before .before .before .pre in
-    (asked .0, (asked .1 .0, (well-none _ _ (asked .1 .1 .0), (asked .1 .1 .1, parts-within _ _ (asked .0) _ (omega arith) _ _ (peers-kin _ _ _ (asked .1 .0 .0))))))
+    let at-number = c .before .before .before .before in
+    let at-entry = at-number .before .before .before .before .before .before in
+    let asked = at-entry .pre in
+    let size-is = size-read (at-entry .args .text .now) (at-entry .args .rows .now) in
+    (asked .0, (asked .1 .0, (well-none _ _ _ (asked .1 .1 .1) (omega (arith, size-is, at-number .number .kept .0, asked .1 .1 .0 .0)) (at-number .number .ensures), parts-within _ _ (asked .0) _ (omega arith) _ _ (peers-kin _ _ _ (asked .1 .0 .0)))))
 
 same-length : tie.Need-same-length Inv-loop μ-loop
 same-length c = search needs
@@ -34,24 +38,38 @@ same-length-2 c = search needs
 returns : tie.Need-returns Inv-loop μ-loop
 returns c =
     let at-impl-o = c .before .before .before .before .before in
-    differed _ _ _ (library-sound (at-impl-o .before .before .before .before .before .before .before .pre .0)) ((at-impl-o .identical-impl-o .ensures .0 .differ-if) (not-true _ (c .if1 .taken)))
+    let asked = at-impl-o .before .before .before .before .before .before .before .before .before .before .before .pre in
+    differed _ _ _ (library-sound (asked .0)) (at-impl-o .identical-impl-o .ensures .differ-if (not-true _ (c .if1 .taken)))
 
 loop-holds : tie.Need-loop-holds Inv-loop μ-loop
 loop-holds c =
     let at-impl-o = c .before .before .before .before .before in
-    (search needs, search needs, at-impl-o .identical-impl-o .ensures .1, begun _ _ _ _ _ _ (at-impl-o .before .before .before .before .before .before .before .pre .1 .1 .0) (went-parts _ _ _ _ _ _ (at-impl-o .identical-impl-o .ensures .0)) (c .if1 .left))
-
-settled-requires : tie.Need-settled-requires Inv-loop μ-loop
-settled-requires c κs =
-    let at-impl-o = c .before .before .before .before .before .before .before in
-    omega (arith, c .before .loop .inv .0, at-impl-o .identical-impl-o .kept .1 .1 .0, at-impl-o .before .before .before .before .before .before .before .pre .1 .0 .1)
+    let at-number = at-impl-o .before .before .before .before .before in
+    let at-entry = at-number .before .before .before .before .before .before in
+    let asked = at-entry .pre in
+    let size-is = size-read (at-entry .args .text .now) (at-entry .args .rows .now) in
+    let begins = begun _ _ _ (asked .1 .1 .1) (omega (arith, size-is, at-number .number .kept .0, asked .1 .1 .0 .0)) (at-number .number .ensures) _ _ _ _ _ (at-impl-o .identical-impl-o .ensures) (c .if1 .left) in
+    (search needs, search needs, rounds-none _ _ _ _ _ begins)
 
 open-round-requires : tie.Need-open-round-requires Inv-loop μ-loop
 open-round-requires c κs =
-    let at-loop = c .before .before .before .before .before in
-    let at-impl-o = at-loop .before .before .before .before .before .before in
-    let asked = at-impl-o .before .before .before .before .before .before .before .pre in
-    (asked .0, (omega (arith, at-loop .loop .inv .0, at-impl-o .identical-impl-o .kept .1 .1 .0, asked .1 .0 .1), (at-loop .loop .inv .3, at-loop .loop .inv .2)))
+    let in-loop = c .before .before in
+    let inv = in-loop .before .loop .inv in
+    let at-impl-o = in-loop .before .before .before .before .before .before .before in
+    let asked = at-impl-o .before .before .before .before .before .before .before .before .before .before .before .pre in
+    (asked .0, (omega (arith, inv .0, at-impl-o .identical-impl-o .kept .1 .1 .0, asked .1 .0 .1), inv .2 .state (in-loop .loop-test .taken)))
+
+loop-less : tie.Need-loop-less Inv-loop μ-loop
+loop-less c =
+    let at-open-round = c .before .before .before .before in
+    left-falls _ _ _ _ _ _ _ _ _ (at-open-round .before .before .before .loop-test .taken) (at-open-round .open-round .ensures)
+
+loop-again : tie.Need-loop-again Inv-loop μ-loop
+loop-again c =
+    let at-open-round = c .before .before .before .before in
+    let in-loop = at-open-round .before .before .before in
+    let asked = in-loop .before .before .before .before .before .before .before .before .before .before .before .before .before .before .before .before .before .before .pre in
+    (search needs, search needs, rounds-more _ _ _ (library-sound (asked .0)) _ _ _ _ _ (in-loop .before .loop .inv .2 .state (in-loop .loop-test .taken)) (at-open-round .open-round .ensures))
 
 same-length-3 : tie.Need-same-length-3 Inv-loop μ-loop
 same-length-3 c = search needs
@@ -60,33 +78,7 @@ same-length-4 : tie.Need-same-length-4 Inv-loop μ-loop
 same-length-4 c = search needs
 
 returns-2 : tie.Need-returns-2 Inv-loop μ-loop
-returns-2 c =
-    let at-open-round = c .before .before .before .before .before in
-    let at-loop = at-open-round .before .before .before .before .before .before in
-    let asked = at-loop .before .before .before .before .before .before .before .before .before .before .before .before .before .pre in
-    answered _ _ _ (library-sound (asked .0)) _ _ _ (at-loop .loop .inv .3) (at-open-round .open-round .ensures .0) (c .if3 .taken)
-
-loop-less : tie.Need-loop-less Inv-loop μ-loop
-loop-less c =
-    let at-open-round = c .before .before .before .before .before in
-    (at-open-round .open-round .ensures .0 .if-2) (c .if3 .left) .0
-
-loop-again : tie.Need-loop-again Inv-loop μ-loop
-loop-again c =
-    let at-open-round = c .before .before .before .before .before in
-    (search needs, search needs, at-open-round .open-round .ensures .1, (at-open-round .open-round .ensures .0 .if-2) (c .if3 .left) .1)
-
-same-length-5 : tie.Need-same-length-5 Inv-loop μ-loop
-same-length-5 c = search needs
-
-same-length-6 : tie.Need-same-length-6 Inv-loop μ-loop
-same-length-6 c = search needs
-
-returns-3 : tie.Need-returns-3 Inv-loop μ-loop
-returns-3 c =
-    let at-loop = c .before .before .before in
-    let asked = at-loop .before .before .before .before .before .before .before .before .before .before .before .before .before .pre in
-    agreed _ _ _ (library-sound (asked .0)) _ (at-loop .loop .inv .3) ((c .before .settled .ensures) (not-false _ (c .if2 .left)))
+returns-2 c = c .before .loop .inv .2 .answer (c .loop-test .left)
 
 pub decide-by-spec : {M : Type 1} → statement M
 decide-by-spec =
@@ -94,18 +86,15 @@ decide-by-spec =
     (tie.spec
     Inv-loop
     μ-loop
+    number-requires
     identical-impl-o-requires
     same-length
     same-length-2
     returns
     loop-holds
-    settled-requires
     open-round-requires
-    same-length-3
-    same-length-4
-    returns-2
     loop-less
     loop-again
-    same-length-5
-    same-length-6
-    returns-3)
+    same-length-3
+    same-length-4
+    returns-2)

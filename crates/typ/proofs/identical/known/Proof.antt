@@ -1,8 +1,9 @@
 use borrow.Author.Needs.{needs}
-use mathlib.Core.Path.{refl, sym, _∙_}
+use mathlib.Core.Path.{refl, sym, ap, _∙_}
 use mathlib.Core.Logic.{inl, inr}
 use Rattle.objects.proofs.ListLaws.{clash}
-use Rattle.typ.specs.Classes.{OneClass}
+use Rattle.pair_marks.specs.Marks.{met}
+use Rattle.pair_marks.specs.Classes.{OneClass}
 use Rattle.typ.proofs.identical.known.Statement.{statement}
 use Rattle.typ.proofs.identical.known.Tie as tie
 
@@ -28,23 +29,16 @@ returns : tie.Need-returns
 unfolding OneClass
 returns c = (λ _. inl (c .if1 .taken), λ q. clash refl q)
 
-cast-is-met : tie.Need-cast-is-met
-cast-is-met c = search needs
-
-mul-is-met : tie.Need-mul-is-met
-mul-is-met c = search needs
-
-cast-is-met-2 : tie.Need-cast-is-met-2
-cast-is-met-2 c = search needs
-
-add-is-met : tie.Need-add-is-met
-add-is-met c = search needs
+pair-number-requires : tie.Need-pair-number-requires
+pair-number-requires c κs = search needs
 
 is-met-requires : tie.Need-is-met-requires
 is-met-requires c κs = search needs
 
 returns-2 : tie.Need-returns-2
-returns-2 c = (λ q. inr (sym (c .is-met .ensures) ∙ q), λ q. sym (c .is-met .ensures) ∙ q)
+returns-2 c =
+    let is = c .is-met .ensures ∙ ap (met _) (c .before .pair-number .ensures) in
+    (λ q. inr (sym is ∙ q), λ q. sym is ∙ q)
 
 pub known-spec : {M : Type 1} → statement M
 known-spec =
@@ -57,9 +51,6 @@ known-spec =
     mul-if1-2
     shared-slice-read-if1-2
     returns
-    cast-is-met
-    mul-is-met
-    cast-is-met-2
-    add-is-met
+    pair-number-requires
     is-met-requires
     returns-2)

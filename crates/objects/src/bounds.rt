@@ -1,0 +1,75 @@
+// The numbers that bound tables, questions and answers, once for all code; specs/Bounds.antt has the same for specs and proofs. The first are the papers'.
+// Whatever follows from them is written as an expression of them, so that a bound is changed here and there, and nowhere else.
+
+// "256 types, 64 packages, 1,024 members, 255 per type, 256 places in a way."
+pub const MAX_TYPES: usize = 256;
+
+pub const MAX_PACKAGES: usize = 64;
+
+pub const MAX_MEMBERS: usize = 1_024;
+
+pub const MAX_PER_TYPE: usize = 255;
+
+// A shortest way has no more places than there are types.
+pub const MAX_PLACES: usize = MAX_TYPES;
+
+// 2: "The table has more than 32,768 bytes"; typeask: "at most 32,768 bytes in all"
+pub const MAX_TEXT: usize = 32_768;
+
+// 11: "more than 256 bytes"
+pub const MAX_QUESTION: usize = 256;
+
+// "A type or package number of more than four digits has a wrong form"
+pub const MAX_REFERENCE: u32 = 9_999;
+
+// "`T basic k` (0 to 27, the order of `BasicType`)"
+pub const MAX_BASIC: u32 = 27;
+
+// "`T array n e` (n to 4,294,967,295)"
+pub const MAX_ARRAY: u32 = 4_294_967_295;
+
+// "Names: 1 to 64"; "`P path`: 1 to 128 bytes"; a tag "of 1 to 128 bytes"
+pub const MAX_NAME: usize = 64;
+
+pub const MAX_PATH: usize = 128;
+
+pub const MAX_TAG: usize = 128;
+
+// "minus (refusal × 65,536 + line)"
+pub const REFUSAL_UNIT: u64 = 65_536;
+
+// "It prints the answers, with a 16,384-byte answer buffer"
+pub const PROGRAM_ANSWER: usize = 16_384;
+
+// 1: "fewer words than the number the team fixes in docs/, which is at most 4,194,304"
+pub const WORK_WORDS: usize = 4_096;
+
+// ---- the rows of a loaded table: counts, packages, types, and then members from the front and elements of tuples from the back
+
+// words of a type's row and of a member's, and of a package's
+pub const ROW_WORDS: usize = 8;
+
+pub const PACKAGE_WORDS: usize = 2;
+
+pub const PACKAGES_AT: usize = 8;
+
+pub const TYPES_AT: usize = PACKAGES_AT + PACKAGE_WORDS * MAX_PACKAGES;
+
+pub const MEMBERS_AT: usize = TYPES_AT + ROW_WORDS * MAX_TYPES;
+
+// an element of a tuple takes a tab and a digit at least
+pub const MAX_ELEMENTS: usize = MAX_TEXT / 2;
+
+pub const ALL_WORDS: usize = MEMBERS_AT + ROW_WORDS * MAX_MEMBERS + MAX_ELEMENTS;
+
+// a call has an array of its own for texts of at most so many bytes, and one for all others
+pub const SMALL_TEXT: usize = 1_024;
+
+pub const MIDDLE_TEXT: usize = 6_144;
+
+// S, M and N have an array of their own for at most so many level records, two for each type, and one for all others; M also for so many members
+pub const FEW_RECORDS: usize = 64;
+
+pub const SOME_RECORDS: usize = 256;
+
+pub const SOME_MEMBERS: usize = 256;

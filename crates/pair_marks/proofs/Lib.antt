@@ -1,0 +1,4 @@
+pub mod Bits
+pub mod Zero
+pub mod PairLaws
+pub mod JoinLaws
