@@ -33,6 +33,9 @@ use objects::ObjKey;
 use objects::Stage;
 use objects::TypeKey;
 use objects::bounds::MAX_TYPES;
+use objects::kinds::IFACE;
+use objects::kinds::NAMED;
+use objects::kinds::STRUCT;
 use objects::rows::first_member;
 use objects::rows::kind_number;
 use objects::rows::member_total;
@@ -81,7 +84,7 @@ fn in_fields(text: &[u8], rows: &[u32], m: ObjKey, u: TypeKey) -> bool
     if type_count(rows) <= u.0 {
         return false;
     }
-    if kind_number(rows, u) == 8 {
+    if kind_number(rows, u) == STRUCT {
         any_same(text, rows, m, first_member(rows, u), member_total(rows, u))
     } else {
         false
@@ -128,7 +131,7 @@ fn meet_fields(text: &[u8], rows: &[u32], marks: &mut [u32], u: TypeKey)
     requires { ⌜ Laid (now rows) × (u .0 < typeCount (now rows)) × (bitWords ≤ length (now marks)) ⌝ }
     ensures { λ _. ⌜ Noted (now (marks .entry)) (fieldsNumber (u .0)) (fieldsOf (kindAt (tableOf (now (text .entry)) (now (rows .entry))) u)) (now (marks .exit)) ⌝ }
 {
-    if kind_number(rows, u) == 8 {
+    if kind_number(rows, u) == STRUCT {
         let k = fields_number(u.0);
         meet_all(
             text,
@@ -161,7 +164,7 @@ fn prepare(text: &[u8], rows: &[u32], marks: &mut [u32], done: &mut [u8], t: Typ
     requires { ⌜ Laid (now rows) × (bitWords ≤ length (now marks)) × (maxTypes ≤ length (now done)) × Ready (now text) (now rows) (now marks) (now done) ⌝ }
     ensures { λ _. ⌜ Prepared (now (text .entry)) (now (rows .entry)) t (now (marks .exit)) (now (done .exit)) ⌝ }
 {
-    if kind_number(rows, t) == 10 {
+    if kind_number(rows, t) == NAMED {
         meet_once(text, rows, marks, done, TypeKey(type_word(rows, t, 1)));
     }
 }
@@ -171,7 +174,7 @@ fn field_marked(rows: &[u32], marks: &[u32], t: TypeKey, h: u64) -> bool
     requires { ⌜ h < hashes ⌝ }
     ensures { λ r. ⌜ (r ≡ false → numberRead (now (rows .entry)) t ≡ 10 → MarkedAt (now (marks .entry)) (placeOf (fieldsNumber (typeWord (now (rows .entry)) t 1)) h) → ⊥) ⌝ }
 {
-    if kind_number(rows, t) == 10 {
+    if kind_number(rows, t) == NAMED {
         marked(marks, place(fields_number(type_word(rows, t, 1)), h))
     } else {
         false
@@ -185,7 +188,7 @@ fn line_clashes(text: &[u8], rows: &[u32], marks: &mut [u32], t: TypeKey, i: u32
     requires { ⌜ Laid (now rows) × Packaged (now text) (now rows) × (t .0 < typeCount (now rows)) × (i < linesRead (now rows) t) × Rising (now text) (now rows) t i × (bitWords ≤ length (now marks)) × Seen (now text) (now rows) (now marks) t i ⌝ }
     ensures { λ r. ⌜ Looked (now (text .entry)) (now (rows .entry)) (now (marks .entry)) t i r (now (marks .exit)) ⌝ }
 {
-    if kind_number(rows, t) == 9 {
+    if kind_number(rows, t) == IFACE {
         return member_clashes(text, rows, t, i);
     }
     let h = name_hash(text, rows, ObjKey(first_member(rows, t) + i));

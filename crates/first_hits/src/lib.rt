@@ -19,11 +19,6 @@ pub const PLACE: usize = 1;
 // 1 if the name is hidden
 pub const HIDDEN: usize = 2;
 
-// The kinds whose members stand under a type.
-const STRUCT: u32 = 8;
-
-const IFACE: u32 = 9;
-
 // Where an id stands in a sorted list, or would stand.
 pub enum Place {
     Found(usize),

@@ -26,6 +26,9 @@ use objects::bounds::MAX_PACKAGES;
 use objects::bounds::MAX_PER_TYPE;
 use objects::bounds::MAX_REFERENCE;
 use objects::bounds::MAX_TYPES;
+use objects::kinds::IFACE;
+use objects::kinds::NAMED;
+use objects::kinds::STRUCT;
 use objects::rows::kind_number;
 use objects::rows::member_count;
 use objects::rows::member_total;
@@ -71,9 +74,9 @@ fn stands(form: u32, kind: u32) -> bool
     ensures { λ r. ⌜ r ≡ standsAt form kind ⌝ }
 {
     if form < 2 {
-        return kind == 8;
+        return kind == STRUCT;
     }
-    if kind == 10 { true } else { kind == 9 }
+    if kind == NAMED { true } else { kind == IFACE }
 }
 
 // 6: "1,025th member, or 256th member of one type"

@@ -1,7 +1,8 @@
 // The keys of a type table, as goscript's objects.rs has them, the direction of a channel, what a type's row says, and what a stage of loading finds. A
 // type number, a member number and a package number are each a kind of their own, so that none is read as another.
 
-pub mod bounds; // the numbers that bound it
+pub mod bounds; // the numbers that bound a table
+pub mod kinds; // the numbers of kinds
 pub mod rows; // the readers of a loaded table
 pub mod writers; // what adds a line to it
 

@@ -14,6 +14,9 @@ use crate::bounds::PACKAGE_WORDS;
 use crate::bounds::PACKAGES_AT;
 use crate::bounds::ROW_WORDS;
 use crate::bounds::TYPES_AT;
+use crate::kinds::IFACE;
+use crate::kinds::NAMED;
+use crate::kinds::POINTER;
 
 // ---- words
 
@@ -125,19 +128,19 @@ pub fn kind_number(rows: &[u32], t: TypeKey) -> u32
     ensures { λ r. ⌜ r ≡ numberRead (now (rows .entry)) t ⌝ }
 {
     let k = type_word(rows, t, 0);
-    if k < 10 { k } else { 10 }
+    if k < NAMED { k } else { NAMED }
 }
 
 pub fn pointer_at(rows: &[u32], t: TypeKey) -> bool
     ensures { λ r. ⌜ r ≡ pointerRead (now (rows .entry)) t ⌝ }
 {
-    kind_number(rows, t) == 3
+    kind_number(rows, t) == POINTER
 }
 
 pub fn named_at(rows: &[u32], t: TypeKey) -> bool
     ensures { λ r. ⌜ r ≡ namedRead (now (rows .entry)) t ⌝ }
 {
-    kind_number(rows, t) == 10
+    kind_number(rows, t) == NAMED
 }
 
 // One pointer removed.
@@ -166,7 +169,7 @@ pub fn under(rows: &[u32], t: TypeKey) -> TypeKey
 pub fn iface_under(rows: &[u32], t: TypeKey) -> bool
     ensures { λ r. ⌜ r ≡ ifaceRead (now (rows .entry)) t ⌝ }
 {
-    kind_number(rows, under(rows, t)) == 9
+    kind_number(rows, under(rows, t)) == IFACE
 }
 
 // "a named type whose u is a pointer"

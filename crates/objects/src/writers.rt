@@ -16,6 +16,7 @@ use crate::bounds::PACKAGE_WORDS;
 use crate::bounds::PACKAGES_AT;
 use crate::bounds::ROW_WORDS;
 use crate::bounds::TYPES_AT;
+use crate::kinds::TUPLE;
 use crate::rows::element_count;
 use crate::rows::member_count;
 use crate::rows::package_count;
@@ -73,7 +74,7 @@ fn package_said(p: Package) -> u32
 fn start(rows: &[u32], kind: u32) -> u32
     ensures { λ r. ⌜ r ≡ endOf (now (rows .entry)) kind ⌝ }
 {
-    if kind == 6 {
+    if kind == TUPLE {
         element_count(rows)
     } else {
         member_count(rows)

@@ -22,6 +22,7 @@ use objects::Package;
 use objects::TypeKey;
 use objects::bounds::MAX_QUESTION;
 use objects::bounds::MAX_REFERENCE;
+use objects::kinds::IFACE;
 use objects::rows::kind_number;
 use objects::rows::package_count;
 use objects::rows::type_count;
@@ -40,8 +41,6 @@ pub enum Ask {
     V,
     Wrong,
 }
-
-const IFACE: u32 = 9;
 
 // ---- the form
 

@@ -13,6 +13,11 @@ use crate::Test;
 use crate::refs::refs_pass;
 use objects::ObjKey;
 use objects::TypeKey;
+use objects::kinds::FUNC;
+use objects::kinds::NAMED;
+use objects::kinds::POINTER;
+use objects::kinds::SLICE;
+use objects::kinds::TUPLE;
 use objects::rows::element;
 use objects::rows::first_member;
 use objects::rows::has_ptr;
@@ -42,7 +47,7 @@ fn kind_in(rows: &[u32], t: TypeKey) -> u32
 fn under_in(rows: &[u32], t: TypeKey) -> TypeKey
     ensures { λ r. ⌜ Says (now (rows .entry)) r (λ T. under T t) ⌝ }
 {
-    if kind_in(rows, t) == 10 {
+    if kind_in(rows, t) == NAMED {
         TypeKey(type_word(rows, t, 1))
     } else {
         t
@@ -53,7 +58,7 @@ fn under_in(rows: &[u32], t: TypeKey) -> TypeKey
 fn bare_in(rows: &[u32], t: TypeKey) -> TypeKey
     ensures { λ r. ⌜ Says (now (rows .entry)) r (λ T. bare T t) ⌝ }
 {
-    if kind_in(rows, t) == 3 {
+    if kind_in(rows, t) == POINTER {
         TypeKey(type_word(rows, t, 1))
     } else {
         t
@@ -78,7 +83,7 @@ pub fn may_refer(rows: &[u32], t: TypeKey, e: TypeKey) -> bool
 fn smaller_tuple(rows: &[u32], t: TypeKey, e: TypeKey) -> bool
     ensures { λ r. ⌜ Says (now (rows .entry)) r (λ T. smallerTuple T t e) ⌝ }
 {
-    both(kind_in(rows, e) == 6, e.0 < t.0)
+    both(kind_in(rows, e) == TUPLE, e.0 < t.0)
 }
 
 // "the first ends in a slice", of a tuple p
@@ -91,7 +96,7 @@ fn ends_in_slice(rows: &[u32], p: TypeKey) -> bool
     if n == 0 {
         return false;
     }
-    kind_in(rows, element(rows, first + (n - 1))) == 2
+    kind_in(rows, element(rows, first + (n - 1))) == SLICE
 }
 
 // The T line of a func.
@@ -155,7 +160,7 @@ fn may_embed(rows: &[u32], e: TypeKey) -> bool
 {
     match kind_in(rows, e) {
         3 => concrete(rows, under_in(rows, bare_in(rows, e))),
-        10 => kind_in(rows, under_in(rows, e)) != 3,
+        10 => kind_in(rows, under_in(rows, e)) != POINTER,
         _ => true,
     }
 }
@@ -180,7 +185,7 @@ pub fn member_allowed(rows: &[u32], t: TypeKey, m: ObjKey) -> bool
     let e = member_type(rows, m);
     if is_method(rows, m) {
         let ptr = has_ptr(rows, m);
-        return both(kind_in(rows, e) == 7, may_have(rows, t, ptr));
+        return both(kind_in(rows, e) == FUNC, may_have(rows, t, ptr));
     }
     if !is_embedded(rows, m) {
         return may_refer(rows, t, e);

@@ -12,6 +12,7 @@ use crate::allowed::may_refer;
 use objects::TypeKey;
 use objects::bounds::ROW_WORDS;
 use objects::bounds::TYPES_AT;
+use objects::kinds::TUPLE;
 use objects::rows::first_member;
 use objects::rows::member_total;
 use objects::rows::type_count;
@@ -63,7 +64,7 @@ fn element_allowed(rows: &[u32], t: TypeKey, e: TypeKey) -> bool
     ensures { λ r. ⌜ Says (now (rows .entry)) r (λ T. mayRefer T t e) ⌝ }
 {
     if e.0 < t.0 {
-        kind_word(rows, e) != 6
+        kind_word(rows, e) != TUPLE
     } else {
         may_refer(rows, t, e)
     }

@@ -18,6 +18,7 @@ use crate::refs::refs_pass;
 use objects::ObjKey;
 use objects::Stage;
 use objects::TypeKey;
+use objects::kinds::FUNC;
 use objects::rows::first_member;
 use objects::rows::kind_number;
 use objects::rows::member_total;
@@ -65,7 +66,7 @@ fn member_fails(rows: &[u32], test: Test, t: TypeKey, m: ObjKey) -> bool
 pub fn member_lines(rows: &[u32], t: TypeKey) -> u32
     ensures { λ r. ⌜ r ≡ linesRead (now (rows .entry)) t ⌝ }
 {
-    if 7 < kind_number(rows, t) {
+    if FUNC < kind_number(rows, t) {
         member_total(rows, t)
     } else {
         0

@@ -19,6 +19,7 @@ ghost use Rattle.typ.specs.Compared.{Entered, Well, Compared, PartsCompa
 use crate::opening::open_round;
 use objects::TypeKey;
 use objects::bounds::MAX_TYPES;
+use objects::kinds::IFACE;
 use objects::rows::first_member;
 use objects::rows::kind_number;
 use objects::rows::type_count;
@@ -35,9 +36,6 @@ use type_parts::parts::mismatch;
 use type_parts::parts::part_at;
 use type_parts::parts::part_count;
 use type_parts::parts::part_in;
-
-// The kind of an interface.
-const IFACE: u32 = 9;
 
 // So many levels may be nested before pairs of interfaces are put off. Below the last that is not lie only types whose numbers fall: 250 levels and one for
 // each type at most, for each call requires `level < deepest` (specs/Depth.antt). docs/ENTRY.md has what stack they take.

@@ -17,6 +17,10 @@ use objects::Dir;
 use objects::ObjKey;
 use objects::Type;
 use objects::TypeKey;
+use objects::kinds::FUNC;
+use objects::kinds::IFACE;
+use objects::kinds::STRUCT;
+use objects::kinds::TUPLE;
 use objects::rows::element;
 use objects::rows::first_member;
 use objects::rows::is_embedded;
@@ -46,10 +50,10 @@ fn dir_number(d: Dir) -> u32
 fn has_members(kind: u32) -> bool
     ensures { λ r. ⌜ (r ≡ true → (kind ≡ 8) ⊎ (kind ≡ 9)) ⌝ }
 {
-    if kind == 8 {
+    if kind == STRUCT {
         return true;
     }
-    kind == 9
+    kind == IFACE
 }
 
 // The number that belongs to a type beside its kind, its parts and its members, whatever the kind is.
@@ -80,7 +84,7 @@ fn own_number(rows: &[u32], t: TypeKey) -> u32
     if has_members(k) {
         return member_total(rows, t);
     }
-    if k == 6 {
+    if k == TUPLE {
         return member_total(rows, t);
     }
     own_of(rows, t)
@@ -136,10 +140,10 @@ pub fn part_at(rows: &[u32], t: TypeKey, i: u32) -> TypeKey
     if has_members(k) {
         return member_type(rows, ObjKey(first_member(rows, t) + i));
     }
-    if k == 6 {
+    if k == TUPLE {
         return element(rows, first_member(rows, t) + i);
     }
-    if k != 7 {
+    if k != FUNC {
         return part_of(rows, t, i);
     }
     if i == 0 {
@@ -157,7 +161,7 @@ pub fn part_in(rows: &[u32], t: TypeKey, k: u32, first: u32, i: u32) -> TypeKey
     if has_members(k) {
         return member_type(rows, ObjKey(first + i));
     }
-    if k == 6 {
+    if k == TUPLE {
         return element(rows, first + i);
     }
     part_at(rows, t, i)
@@ -212,7 +216,7 @@ fn called_alike(text: &[u8], rows: &[u32], x: TypeKey, y: TypeKey) -> bool
     requires { ⌜ Kin (tableOf (now text) (now rows)) x y ⌝ }
     ensures { λ r. ⌜ r ≡ alike (tableOf (now (text .entry)) (now (rows .entry))) (membersOf (kindAt (tableOf (now (text .entry)) (now (rows .entry))) x)) (membersOf (kindAt (tableOf (now (text .entry)) (now (rows .entry))) y)) ⌝ }
 {
-    if kind_number(rows, x) < 8 {
+    if kind_number(rows, x) < STRUCT {
         return true;
     }
     let n = part_count(rows, x);

@@ -20,6 +20,7 @@ use multiples::LEVEL;
 use multiples::TYP;
 use objects::ObjKey;
 use objects::TypeKey;
+use objects::kinds::STRUCT;
 use objects::rows::bare;
 use objects::rows::first_member;
 use objects::rows::is_embedded;
@@ -101,7 +102,7 @@ fn embed(
 {
     let e = record_at(walk, i as usize);
     let u = under(rows, TypeKey(e[TYP]));
-    if kind_number(rows, u) != 8 {
+    if kind_number(rows, u) != STRUCT {
         return n;
     }
     let up = Above {
