@@ -4,13 +4,13 @@ use Prim.Native.Nat.{ℕ, _+_, _*_, _-_, _/_}
 
 -- "256 types, 64 packages, 1,024 members, 255 per type, 256 places in a way."
 abbrev pub maxTypes : ℕ
-maxTypes = 256
+maxTypes = 512
 
 abbrev pub maxPackages : ℕ
 maxPackages = 64
 
 abbrev pub maxMembers : ℕ
-maxMembers = 1024
+maxMembers = 2_048
 
 abbrev pub maxPerType : ℕ
 maxPerType = 255
@@ -21,7 +21,7 @@ maxPlaces = maxTypes
 
 -- 2: "The table has more than 32,768 bytes"; typeask: "at most 32,768 bytes in all"
 abbrev pub maxText : ℕ
-maxText = 32_768
+maxText = 65_536
 
 -- What bounds a table: the bytes of its text, its types and its members. Loading is defined for any bounds, so that those of two releases can be told of in one
 -- theorem.

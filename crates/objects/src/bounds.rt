@@ -2,11 +2,11 @@
 // Whatever follows from them is written as an expression of them, so that a bound is changed here and there, and nowhere else.
 
 // "256 types, 64 packages, 1,024 members, 255 per type, 256 places in a way."
-pub const MAX_TYPES: usize = 256;
+pub const MAX_TYPES: usize = 512;
 
 pub const MAX_PACKAGES: usize = 64;
 
-pub const MAX_MEMBERS: usize = 1_024;
+pub const MAX_MEMBERS: usize = 2_048;
 
 pub const MAX_PER_TYPE: usize = 255;
 
@@ -14,7 +14,7 @@ pub const MAX_PER_TYPE: usize = 255;
 pub const MAX_PLACES: usize = MAX_TYPES;
 
 // 2: "The table has more than 32,768 bytes"; typeask: "at most 32,768 bytes in all"
-pub const MAX_TEXT: usize = 32_768;
+pub const MAX_TEXT: usize = 65_536;
 
 // 11: "more than 256 bytes"
 pub const MAX_QUESTION: usize = 256;
