@@ -5,16 +5,17 @@
     ask_sample.py VECTORS VECTORS02 RANDOM CRATES
 
 VECTORS has the base's small, mixed and damaged (.in and .out): inputs of typeask with what it prints. Of every k-th of each those are taken that document 02
-leaves as they are. VECTORS02 has the pairs 1 and 2, with points 1 to that number in force: the first cases of 2, worked out by hand, are all taken, then every
-k-th and those with two ways. The edges of document 01 are added; what is due for them is said here, with the sentence of document 01 or 02 that decides
-it, and no program is asked. RANDOM has random and damaged tables with one question each, and what goscript's answers without the two departures of a method set
-and document 01's refusals give for them, none of it `ambiguous`. CRATES/typeask_run gets all of it, each input behind its length and each print behind its
-number; CRATES/typeask gets the example of document 01 alone.
+leaves as they are; none of them is one that a bound refused. VECTORS02 has the pairs 1, 2 and 4, with points 1 to that number in force: the first cases of 4,
+worked out by hand, are all taken, then of all three every k-th and those with two ways, where points after their own leave them as they are. The edges of
+document 01 are added, at the bounds of document 02; what is due for them is said here, with the sentence of document 01 or 02 that decides it, and no program is
+asked. RANDOM has random and damaged tables with one question each, and what goscript's answers without the two departures of a method set and document 01's
+refusals give for them, none of it `ambiguous`. CRATES/typeask_run gets all of it, each input behind its length and each print behind its number; CRATES/typeask
+gets the example of document 01 alone.
 """
 import sys
 
-from bounds import MEMBERS, OF_ONE, PACKAGES, QUESTION, TEXT, TYPES, full_structs
-from vectors import cases, of_points, read, still_due
+from bounds import ANSWER, MEMBERS, OF_ONE, PACKAGES, QUESTION, TEXT, TYPES, full_structs
+from vectors import BY_HAND, base, of_points, read
 
 HEAD = b'typetable\t1\n'
 INT = b'T\tbasic\t2'
@@ -23,9 +24,9 @@ INT = b'T\tbasic\t2'
 def sample(vectors, vectors02):
     chosen = []
     for name, step in [('small', 5), ('mixed', 3), ('damaged', 12)]:
-        chosen += still_due(cases(vectors, name)[::step])
+        chosen += base(vectors, name)[::step]
     for k, case in enumerate(of_points(vectors02)):
-        if k < 40 or k % 4 == 0 or b'\nand\t' in case[1]:
+        if k < BY_HAND or k % 4 == 0 or b'\nand\t' in case[1]:
             chosen.append(case)
     # no more than a byte above the bound of an input is read
     return [(text[:TEXT + 1], print_) for text, print_ in chosen]
@@ -196,14 +197,87 @@ def set_of(count, depth, before):
 def set_edges():
     """"with a 16,384-byte answer buffer": a set that fills it is given; one that has a byte more is 13, and the questions behind it are answered."""
     rows = []
-    for length in [16383, 16384, 16385, 16386]:
+    for length in range(ANSWER - 1, ANSWER + 3):
         # 251 methods 26 structs deep and no field before: 16,354 bytes; each field before, up to 100, makes a member's number longer
         before = next(b for b in range(100) if len(set_of(251, 26, b)[2]) == length)
         text, question, due = set_of(251, 26, before)
         counts = b'ok\t0\t31\t%d\n' % (before + 251 + 26)
-        rows.append((asked(text, question, b'V', question), (due + counts + due if length <= 16384 else refused(13, 0) + counts + refused(13, 0))))
-    text, question, due = set_of(255, 30, 0)
-    return rows + [(asked(text, question, b'M\t4', question), refused(13, 0) + set_of(255, 0, 0)[2] + refused(13, 0))]
+        rows.append((asked(text, question, b'V', question), (due + counts + due if length <= ANSWER else refused(13, 0) + counts + refused(13, 0))))
+    text, question, due = set_of(OF_ONE, 30, 0)
+    return rows + [(asked(text, question, b'M\t4', question), refused(13, 0) + set_of(OF_ONE, 0, 0)[2] + refused(13, 0))]
+
+
+def chain(structs):
+    """An int and so many structs, each embedded in the next, with a field X in the first: the last has the number of structs, and the way from it to X has a
+    place for each."""
+    return table(INT, b'T\tstruct', b'F\tX\t-\t0\t0', *[b'T\tstruct\nF\tE\t-\t%d\t1' % below for below in range(1, structs)])
+
+
+def way_edges():
+    """"a way may have 512 places": a shortest one has at most one fewer than there are types, since each place is another struct's, and the member has a type."""
+    most = TYPES - 1
+    zeros = b'\t0' * most
+    rows = []
+    for structs in most - 1, most:
+        # X is member 0, and no pointer is passed; a struct less has a place less
+        due = b'entry\t0\t0' + b'\t0' * structs + b'\nentry\t0\t0' + b'\t0' * (structs - 1) + b'\nnotfound\nset\t0\nyes\n'
+        rows.append((asked(chain(structs), b'S\t%d\t0\t-\tX' % structs, b'S\t%d\t1\t-\tX' % (structs - 1), b'S\t%d\t0\t-\tY' % structs, b'M\t%d' % structs, b'C\t%d' % structs), due))
+    # the last struct embeds the one below it twice: two ways, which part at their first place
+    twice = chain(most) + b'F\tD\t-\t%d\t1\n' % (most - 1)
+    rows.append((asked(twice, b'S\t%d\t0\t-\tX' % most), b'ambiguous' + zeros + b'\nand\t1' + zeros[2:] + b'\n'))
+    # a method instead: named type 4 and the structs of set_of above it, as many as there are types for
+    text, question, due = set_of(1, TYPES - 5, 0)
+    rows.append((asked(text, question, b'V'), due + b'ok\t0\t%d\t%d\n' % (TYPES, 1 + TYPES - 5)))
+    # a type more of any of them is 6
+    rows.append((asked(chain(TYPES), b'S\t1\t0\t-\tX'), refused(6, 1 + 1 + 2 * TYPES - 1)))
+    return rows
+
+
+def number_edges():
+    """"A type number no longer fits one byte anywhere": types that differ in nothing but a number that differs by 256. Types 0 to 255 are int and 256 and 257 string, so
+    that of three types of a kind, made of 0, of 256 and of 257, the last two are identical and the first is another one."""
+    kinds = [b'array\t3\t%d', b'slice\t%d', b'pointer\t%d', b'map\t0\t%d', b'map\t%d\t0', b'chan\t0\t%d', b'tuple\t%d', b'struct\nF\tX\t-\t%d\t0']
+    ls, questions, due = [INT] * 256 + [b'T\tbasic\t17'] * 2, [b'I\t0\t255', b'I\t0\t256', b'I\t256\t257'], b'yes\nno\nyes\n'
+    for kind in kinds:
+        at = len(ls)
+        ls += [b'T\t' + kind % part for part in (0, 256, 257)]
+        questions += [b'I\t%d\t%d' % (at, at + 1), b'I\t%d\t%d' % (at + 1, at + 2)]
+        due += b'no\nyes\n'
+    return [(asked(table(*ls), *questions), due), far_members()]
+
+
+def far_members():
+    """Numbers that differ by 256: struct 300 has a field X and struct 44 a field Y; 301 is a func and 45 an int. The last type embeds a pointer to a named type of 300, whose
+    method has the func 301: so it has X and the method, and lacks Y."""
+    kinds = {44: [b'T\tstruct', b'F\tY\t-\t0\t0'], 298: [b'T\ttuple'], 300: [b'T\tstruct', b'F\tX\t-\t0\t0'], 301: [b'T\tfunc\t0\t298\t298'], 302: [b'T\tnamed\t300', b'M\tGet\t-\t301\t1'],
+             303: [b'T\tpointer\t302'], TYPES - 1: [b'T\tstruct', b'F\tE\t-\t303\t1']}
+    ls = [line for t in range(TYPES) for line in kinds.get(t, [INT])]
+    last = TYPES - 1
+    questions = [b'S\t%d\t0\t-\t%s' % (last, name) for name in (b'X', b'Y', b'Get')] + [b'M\t%d' % last, b'M\t302', b'S\t44\t0\t-\tY', b'S\t300\t0\t-\tY', b'C\t301', b'C\t45', b'V']
+    # the members in order: Y of 44, X of 300, Get of 302, E of the last
+    due = [b'entry\t1\t1\t0\t0', b'notfound', b'entry\t2\t1\t0\t0', b'set\t1', b'sel\t2\t1\t0\t0', b'set\t0', b'entry\t0\t0\t0', b'notfound', b'no', b'yes', b'ok\t0\t%d\t4' % TYPES]
+    return asked(table(*ls), *questions), lines(*due)
+
+
+# so many levels are nested before a pair of interfaces is put off
+OPEN_LEVELS = 250
+
+
+def put_off_edges():
+    """Two chains of pointers, each down to an interface of its own, which are then nested so deep that their pair is put off. They have a method each, whose func takes
+    an int, or the one an int and the other a string, or the highest pointer of its own chain: then the two are identical, for nothing tells them apart."""
+    rows = []
+    # int, string and the tuple of results stand before the pointers, which take turns; behind them interfaces, tuples and funcs
+    tops = [TYPES - 9, TYPES - 8]
+    assert (TYPES - 10) // 2 > OPEN_LEVELS
+    for parts, due in [((0, 0), b'yes\n'), ((0, 1), b'no\n'), (tops, b'yes\n')]:
+        ls = [INT, b'T\tbasic\t17', b'T\ttuple', b'T\tpointer\t%d' % (TYPES - 7), b'T\tpointer\t%d' % (TYPES - 6)]
+        ls += [b'T\tpointer\t%d' % (k - 2) for k in range(5, TYPES - 7)]
+        ls += [b'T\tiface\nM\tM\t-\t%d\t0' % func for func in (TYPES - 3, TYPES - 2)]
+        ls += [b'T\ttuple\t%d' % part for part in parts]
+        ls += [b'T\tfunc\t0\t%d\t2' % (TYPES - k) for k in (5, 4)]
+        rows.append((asked(table(*ls), b'I\t%d\t%d' % tuple(tops), b'I\t%d\t%d' % (TYPES - 7, TYPES - 6), b'C\t%d' % tops[0]), due * 2 + b'yes\n'))
+    return rows
 
 
 def refusal_edges():
@@ -292,7 +366,7 @@ def words(rows):
 
 def main():
     vectors, vectors02, stored, crates = sys.argv[1:5]
-    rows = input_edges() + bound_edges() + set_edges() + refusal_edges() + more_edges() + sample(vectors, vectors02) + random(stored)
+    rows = input_edges() + bound_edges() + set_edges() + way_edges() + number_edges() + put_off_edges() + refusal_edges() + more_edges() + sample(vectors, vectors02) + random(stored)
     with open(f'{crates}/typeask_run/stdin', 'wb') as inputs, open(f'{crates}/typeask_run/stdout', 'wb') as prints:
         for k, (text, print_) in enumerate(rows):
             inputs.write(b'%05d\n' % len(text) + text)
