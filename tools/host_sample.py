@@ -3,8 +3,8 @@
 
     host_sample.py VECTORS VECTORS02 HOST
 
-VECTORS has the base's vectors: small, mixed and damaged (.in and .out), and calls (entry.txt); VECTORS02 those of document 02, of which the pairs 1, 2 and 4 have the
-points up to their number in force. What later points leave as it is is taken, and nothing that an old bound refused. Sample by sample:
+VECTORS has the base's vectors: small, mixed and damaged (.in and .out), and calls (entry.txt); VECTORS02 those of document 02, of which the pairs 1, 2 and 4 have
+the points up to their number in force. What later points leave as it is is taken, and nothing that an old bound refused. Sample by sample:
 
 HOST/testdata/sample: some cases with each word that is printed, and with each refusal.
 HOST/testdata/entry.txt: some calls with each refusal and each word of an answer, and the questions of the first cases of 4 in buffers that have just the room

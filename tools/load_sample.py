@@ -3,10 +3,10 @@
 
     load_sample.py VECTORS VECTORS02 CRATE
 
-VECTORS has the base's small, mixed and damaged (.in and .out), and VECTORS02 the pair 4 of document 02, whose bounds these are: inputs of typeask with what it prints.
-Of the base's a sample is taken that has every refusal from 3 to 5 and from 7 to 10 and every form of line, and none that a bound refused; of the pair 4 those worked
-out by hand, and some more. The edges of document 01 are added, at the bounds of document 02. A table that loads gives `ok` and the counts of its P, T, and F and M lines; a refused one
-gives `refused`, the number and the line, as typeask prints it.
+VECTORS has the base's small, mixed and damaged (.in and .out), and VECTORS02 the pair 4 of document 02, with points 1 to 4 in force: inputs of typeask with what
+it prints. Of the base's a sample is taken that has every refusal from 3 to 10 but 6 and every form of line, and none that a bound refused; of the pair 4 the
+cases worked out by hand, and every k-th other. The edges of document 01 are added, at the bounds of document 02. A table that loads gives `ok` and the counts of
+its P, T, and F and M lines; a refused one gives `refused`, the number and the line, as typeask prints it.
 """
 import sys
 

@@ -4,8 +4,8 @@
     pairs_sample.py CRATE
 
 What is due is the answer and how many pairs of types are met. It is said here with its reason, and no program is asked. A pair is met where nothing but the
-parts of the two can tell them apart, and counts once however often it comes up. A type with itself is no pair. A pair of interfaces that is put off stays so: it is
-not met, and taken for identical.
+parts of the two can tell them apart, and counts once however often it comes up. A type with itself is no pair. A pair of interfaces that is put off stays so: it
+is not met, and taken for identical.
 """
 import sys
 
@@ -180,17 +180,17 @@ def far_below():
     for _ in range(depth):
         x, y = table.put(f'pointer {x}'), table.put(f'pointer {y}')
     rows = [no(table, depth)]
-    # At the level that puts pairs of interfaces off and as far below as there are types for, below one pair of each level. No pair of structs is put off: without the
-    # tag the two are one pair more, and their fields, an int and a pointer, tell them apart.
+    # At the level that puts pairs of interfaces off and as far below as there are types for, below one pair of each level. No pair of structs is put off: without
+    # the tag the two are one pair more, and their fields, an int and a pointer, tell them apart.
     for levels in OPEN_LEVELS, TYPES - 6:
         rows += [no(chain(levels, ' json'), levels), no(chain(levels, ''), levels + 1)]
     return rows + put_off()
 
 
 def chain(levels, tag):
-    """An int and three types more than there are levels, each made of the type before: every third is a struct of one field, with this tag in the first of them, and the
-    others are pointers. The last two types are pointers to the last of these and to the one three before. So each level below has two of them that stand three apart,
-    and the lowest level the first and the fourth."""
+    """An int and three types more than there are levels, each made of the type before: every third is a struct of one field, with this tag in the first of them,
+    and the others are pointers. The last two types are pointers to the last of these and to the one three before. So each level below has two of them that stand
+    three apart, and the lowest level the first and the fourth."""
     table = Table()
     types = [table.put('basic 2')]
     for k in range(levels + 3):
@@ -203,8 +203,8 @@ def chain(levels, tag):
 
 
 def put_off():
-    """Two interfaces of one method each, below so many pointers. At the last level that opens them their pair is met, and so are the pairs of funcs and of tuples below
-    it, whose parameters are one type, or tell them apart. A level deeper the pair is put off: it is not met, and nothing below it is looked at."""
+    """Two interfaces of one method each, below pointers. At the last level that opens them their pair is met, and so are the pairs of funcs and of tuples below it,
+    whose parameters are one type, or tell them apart. A level deeper the pair is put off: it is not met, and nothing below it is looked at."""
     opened, deeper = OPEN_LEVELS - 1, OPEN_LEVELS
     same, other = [INT, INT], [INT, STRING]
     return [

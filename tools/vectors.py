@@ -19,8 +19,8 @@ def past_bound(print_):
 
 
 def left_as_is(print_):
-    """Whether document 02 leaves as it is what the base gave: no answer `ambiguous`, which point 1 changes, no method set that lists something, and no table that a bound
-    refused, also where that bound is one that stays."""
+    """Whether document 02 leaves as it is what the base gave: no answer `ambiguous`, which point 1 changes, no method set that lists something, and no table that a
+    bound refused, also where that bound is one that stays."""
     return b'\nambiguous\t' not in b'\n' + print_ and not lists(print_) and not past_bound(print_)
 
 
