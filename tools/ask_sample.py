@@ -4,17 +4,18 @@
     host/compare/target/release/random_inputs 1 3000 > RANDOM
     ask_sample.py VECTORS VECTORS02 RANDOM CRATES
 
-VECTORS has the base's small, mixed and damaged (.in and .out): inputs of typeask with what it prints. Of every k-th of each those are taken that document 02
-leaves as they are. VECTORS02 has the pairs 1 and 2, with points 1 to that number in force: the first cases of 2, worked out by hand, are all taken, then every
-k-th and those with two ways. The edges of document 01 are added; what is due for them is said here, with the sentence of document 01 or 02 that decides
-it, and no program is asked. RANDOM has random and damaged tables with one question each, and what goscript's answers without the two departures of a method set
-and document 01's refusals give for them, none of it `ambiguous`. CRATES/typeask_run gets all of it, each input behind its length and each print behind its
-number; CRATES/typeask gets the example of document 01 alone.
+VECTORS has the base's small, mixed and damaged (.in and .out): inputs of typeask with what it prints. Every k-th is taken of those that document 02 leaves as
+they are; what a bound refused is not among them. VECTORS02 has the pairs 1, 2 and 4, with points 1 to that number in force: the first cases of 4, worked out by
+hand, are all taken, then every k-th and those with two ways of all three, where points after their own leave them as they are. The edges of document 01 are
+added, at the bounds of document 02; what is due for them is said here, with the sentence of document 01 or 02 that decides it, and no program is asked. RANDOM
+has random and damaged tables with one question each, and what goscript's answers without the two departures of a method set and document 01's refusals give for
+them, none of it `ambiguous`. CRATES/typeask_run gets all of it, each input behind its length and each print behind its number; CRATES/typeask gets the example
+of document 01 alone.
 """
 import sys
 
-from bounds import MEMBERS, OF_ONE, PACKAGES, QUESTION, TEXT, TYPES, full_structs
-from vectors import cases, of_points, read, still_due
+from bounds import ANSWER, MEMBERS, OF_ONE, PACKAGES, QUESTION, TEXT, TYPES, full_structs
+from vectors import BY_HAND, base, of_points, read
 
 HEAD = b'typetable\t1\n'
 INT = b'T\tbasic\t2'
@@ -23,9 +24,9 @@ INT = b'T\tbasic\t2'
 def sample(vectors, vectors02):
     chosen = []
     for name, step in [('small', 5), ('mixed', 3), ('damaged', 12)]:
-        chosen += still_due(cases(vectors, name)[::step])
+        chosen += base(vectors, name)[::step]
     for k, case in enumerate(of_points(vectors02)):
-        if k < 40 or k % 4 == 0 or b'\nand\t' in case[1]:
+        if k < BY_HAND or k % 4 == 0 or b'\nand\t' in case[1]:
             chosen.append(case)
     # no more than a byte above the bound of an input is read
     return [(text[:TEXT + 1], print_) for text, print_ in chosen]
@@ -55,6 +56,11 @@ def asked(text, *questions):
 def tabs(text):
     """A text of document 01: "Spaces below stand for tabs"."""
     return text.strip().replace(' ', '\t').encode() + b'\n'
+
+
+def tabbed(ls):
+    """Lines with blanks for tabs."""
+    return [l.replace(' ', '\t').encode() for l in ls]
 
 
 EXAMPLE = tabs('''
@@ -196,14 +202,100 @@ def set_of(count, depth, before):
 def set_edges():
     """"with a 16,384-byte answer buffer": a set that fills it is given; one that has a byte more is 13, and the questions behind it are answered."""
     rows = []
-    for length in [16383, 16384, 16385, 16386]:
+    for length in range(ANSWER - 1, ANSWER + 3):
         # 251 methods 26 structs deep and no field before: 16,354 bytes; each field before, up to 100, makes a member's number longer
         before = next(b for b in range(100) if len(set_of(251, 26, b)[2]) == length)
         text, question, due = set_of(251, 26, before)
         counts = b'ok\t0\t31\t%d\n' % (before + 251 + 26)
-        rows.append((asked(text, question, b'V', question), (due + counts + due if length <= 16384 else refused(13, 0) + counts + refused(13, 0))))
-    text, question, due = set_of(255, 30, 0)
-    return rows + [(asked(text, question, b'M\t4', question), refused(13, 0) + set_of(255, 0, 0)[2] + refused(13, 0))]
+        rows.append((asked(text, question, b'V', question), (due + counts + due if length <= ANSWER else refused(13, 0) + counts + refused(13, 0))))
+    text, question, due = set_of(OF_ONE, 30, 0)
+    return rows + [(asked(text, question, b'M\t4', question), refused(13, 0) + set_of(OF_ONE, 0, 0)[2] + refused(13, 0))]
+
+
+def chain(structs):
+    """An int and so many structs, each embedded in the next, with a field X in the first: the last has the number of structs, and the way from it to X has a
+    place for each."""
+    above = [b'T\tstruct\nF\tE\t-\t%d\t1' % below for below in range(1, structs)]
+    return table(INT, b'T\tstruct', b'F\tX\t-\t0\t0', *above)
+
+
+def way_edges():
+    """"a way may have 512 places": a shortest one has a place less than there are types, since each is in another struct, and X has a type too."""
+    most = TYPES - 1
+    rows = []
+    for last in most - 1, most:
+        questions = [f'S {last} 0 - X', f'S {last - 1} 1 - X', f'S {last} 0 - Y', f'M {last}', f'C {last}']
+        # X is member 0, and no pointer is passed; a struct less has a place less
+        due = ['entry 0 0' + ' 0' * last, 'entry 0 0' + ' 0' * (last - 1), 'notfound', 'set 0', 'yes']
+        rows.append((asked(chain(last), *tabbed(questions)), lines(*tabbed(due))))
+    # the last struct embeds the one below it twice: two ways, which part at their first place
+    twice = chain(most) + b'F\tD\t-\t%d\t1\n' % (most - 1)
+    rest = b'\t0' * (most - 1)
+    rows.append((asked(twice, b'S\t%d\t0\t-\tX' % most), b'ambiguous\t0' + rest + b'\nand\t1' + rest + b'\n'))
+    # a method instead: its named type is 4, below as many structs as there are types for
+    text, question, due = set_of(1, TYPES - 5, 0)
+    rows.append((asked(text, question, b'V'), due + b'ok\t0\t%d\t%d\n' % (TYPES, 1 + TYPES - 5)))
+    # a struct more is a type too many: before its T line stand the header, the int, and two lines for each other struct
+    return rows + [(asked(chain(TYPES), b'S\t1\t0\t-\tX'), refused(6, 1 + 1 + 2 * most + 1))]
+
+
+def number_edges():
+    """"A type number no longer fits one byte anywhere": types that differ in nothing but a number, by 256. Types 0 to 255 are int and 256 and 257 string: of three
+    types of a kind, made of 0, of 256 and of 257, the last two are identical, and the first is another one."""
+    ls, questions, due = ['T basic 2'] * 256 + ['T basic 17'] * 2, ['I 0 255', 'I 0 256', 'I 256 257'], ['yes', 'no', 'yes']
+    for kind in 'array 3 {}', 'slice {}', 'pointer {}', 'map 0 {}', 'map {} 0', 'chan 0 {}', 'tuple {}', 'struct\nF X - {} 0':
+        at = len(ls)
+        ls += ['T ' + kind.format(part) for part in (0, 256, 257)]
+        questions += [f'I {at} {at + 1}', f'I {at + 1} {at + 2}']
+        due += ['no', 'yes']
+    return [(asked(table(*tabbed(ls)), *tabbed(questions)), lines(*tabbed(due))), far_members()]
+
+
+def far_members():
+    """Numbers that differ by 256: struct 300 has a field X and struct 44 a field Y; 301 is a func and 45 an int. The last type embeds a pointer to a named type of
+    300, whose method has the func 301: so it has X and the method, and lacks Y."""
+    last = TYPES - 1
+    kinds = {44: ['T struct', 'F Y - 0 0'], 298: ['T tuple'], 300: ['T struct', 'F X - 0 0'], 301: ['T func 0 298 298'], 302: ['T named 300', 'M Get - 301 1'],
+             303: ['T pointer 302'], last: ['T struct', 'F E - 303 1']}
+    ls = [line for t in range(TYPES) for line in kinds.get(t, ['T basic 2'])]
+    # the members in order: Y of 44, X of 300, Get of 302, E of the last
+    rows = [
+        (f'S {last} 0 - X', 'entry 1 1 0 0'),
+        (f'S {last} 0 - Y', 'notfound'),
+        (f'S {last} 0 - Get', 'entry 2 1 0 0'),
+        (f'M {last}', 'set 1\nsel 2 1 0 0'),
+        ('M 302', 'set 0'),
+        ('S 44 0 - Y', 'entry 0 0 0'),
+        ('S 300 0 - Y', 'notfound'),
+        ('C 301', 'no'),
+        ('C 45', 'yes'),
+        ('V', f'ok 0 {TYPES} 4'),
+    ]
+    questions, due = zip(*rows)
+    return asked(table(*tabbed(ls)), *tabbed(questions)), lines(*tabbed(due))
+
+
+# so many levels are nested before a pair of interfaces is put off
+OPEN_LEVELS = 250
+
+
+def put_off_edges():
+    """Two chains of pointers, each down to an interface of its own, so deep that the pair of interfaces is put off. Each has a method, whose func takes an int; or
+    the one an int and the other a string; or the highest pointer of its own chain, so that nothing tells the two apart."""
+    # int, string and the tuple of results stand before the pointers, which take turns; behind them interfaces, tuples and funcs
+    first = TYPES - 7
+    tops = first - 2, first - 1
+    assert (first - 3) // 2 > OPEN_LEVELS
+    rows = []
+    for parts, due in [((0, 0), b'yes\n'), ((0, 1), b'no\n'), (tops, b'yes\n')]:
+        ls = ['T basic 2', 'T basic 17', 'T tuple', f'T pointer {first}', f'T pointer {first + 1}']
+        ls += [f'T pointer {k - 2}' for k in range(5, first)]
+        ls += [f'T iface\nM M - {first + 4 + k} 0' for k in (0, 1)]
+        ls += [f'T tuple {part}' for part in parts]
+        ls += [f'T func 0 {first + 2 + k} 2' for k in (0, 1)]
+        questions = [f'I {tops[0]} {tops[1]}', f'I {first} {first + 1}', f'C {tops[0]}']
+        rows.append((asked(table(*tabbed(ls)), *tabbed(questions)), due * 2 + b'yes\n'))
+    return rows
 
 
 def refusal_edges():
@@ -292,7 +384,8 @@ def words(rows):
 
 def main():
     vectors, vectors02, stored, crates = sys.argv[1:5]
-    rows = input_edges() + bound_edges() + set_edges() + refusal_edges() + more_edges() + sample(vectors, vectors02) + random(stored)
+    edges = input_edges() + bound_edges() + set_edges() + way_edges() + number_edges() + put_off_edges() + refusal_edges() + more_edges()
+    rows = edges + sample(vectors, vectors02) + random(stored)
     with open(f'{crates}/typeask_run/stdin', 'wb') as inputs, open(f'{crates}/typeask_run/stdout', 'wb') as prints:
         for k, (text, print_) in enumerate(rows):
             inputs.write(b'%05d\n' % len(text) + text)

@@ -1,12 +1,12 @@
 """The papers' bounds. The samples have them from here, and not from the code that they test."""
 
-PACKAGES, TYPES, MEMBERS = 64, 256, 1024
+PACKAGES, TYPES, MEMBERS = 64, 512, 2048
 
 # the members of one type
 OF_ONE = 255
 
-# the bytes of a table, and of all that typeask reads; those of a question
-TEXT, QUESTION = 32768, 256
+# the bytes of a table, and of all that typeask reads; those of a question, and of an answer of typeask
+TEXT, QUESTION, ANSWER = 65536, 256, 16384
 
 
 def full_structs(fields):

@@ -3,20 +3,20 @@
 
     host_sample.py VECTORS VECTORS02 HOST
 
-VECTORS has the base's vectors: small, mixed and damaged (.in and .out), and calls (entry.txt); VECTORS02 those of document 02, of which 1 has point 1 in force
-and 2 points 1 and 2. Of the base's what document 02 leaves as it is is taken. Sample by sample:
+VECTORS has the base's vectors: small, mixed and damaged (.in and .out), and calls (entry.txt); VECTORS02 those of document 02, of which the pairs 1, 2 and 4 have
+the points up to their number in force. What later points leave as it is is taken, and nothing that an old bound refused. Sample by sample:
 
 HOST/testdata/sample: some cases with each word that is printed, and with each refusal.
-HOST/testdata/entry.txt: some calls with each refusal and each word of an answer, and the questions of the first cases of 2 in buffers that have just the room
+HOST/testdata/entry.txt: some calls with each refusal and each word of an answer, and the questions of the first cases of 4 in buffers that have just the room
 for the answer, a byte less, room for its first line alone, and none.
-HOST/compare/testdata/sample: document 01's example, and every k-th case of tables that load.
+HOST/compare/testdata/sample: document 01's example, the first cases of 4 and every k-th other case, of tables that load.
 """
 import sys
 from collections import Counter
 
-from vectors import cases, lists, of_points, read, still_due, write
+from bounds import ANSWER
+from vectors import BY_HAND, base, left_as_is, of_points, past_bound, read, write
 
-ROOM = 16384
 NO_ROOM = -13 * 65536
 
 
@@ -45,13 +45,13 @@ def printed_words(case):
 
 
 def call_words(call):
-    number, answer = int(call.split(b' ')[3]), answer_of(call)
-    return {word(answer.split(b'\n')[0])} if number >= 0 else {-number // 65536}
+    return {word(printed(call).split(b'\n')[0])}
 
 
-def answer_of(call):
-    answer = call.split(b' ')[4].decode()
-    return b'' if answer == '-' else bytes.fromhex(answer)
+def printed(call):
+    """What comes back from a call, as typeask prints it."""
+    number, answer = int(call.split(b' ')[3]), call.split(b' ')[4].decode()
+    return bytes.fromhex(answer) if number >= 0 else b'refused\t%d\t%d\n' % divmod(-number, 65536)
 
 
 def answers_of(print_):
@@ -65,34 +65,51 @@ def answers_of(print_):
     return answers
 
 
+def call(table, question, room, number, answer):
+    return f'{table.hex()} {question.hex()} {room} {number} {answer.hex() or "-"}'.encode()
+
+
 def calls_of(case):
     """Calls on a case whose questions are all answered: "the answer is longer than the answer buffer" is refusal 13."""
     table, questions = case[0].split(b'Q\n')
     calls = []
     for question, answer in zip(questions.splitlines(), answers_of(case[1]), strict=True):
-        for room in ROOM, len(answer), len(answer) - 1, answer.index(b'\n') + 1, 0:
+        for room in ANSWER, len(answer), len(answer) - 1, answer.index(b'\n') + 1, 0:
             fits = len(answer) <= room
-            number, given = (len(answer), answer.hex()) if fits else (NO_ROOM, '-')
-            calls.append(f'{table.hex()} {question.hex()} {room} {number} {given}'.encode())
+            calls.append(call(table, question, room, len(answer), answer) if fits else call(table, question, room, NO_ROOM, b''))
     return calls
+
+
+def refused_call(case):
+    """A call on a case with one question, whose table is refused: "minus (refusal × 65,536 + line)"."""
+    table, question = case[0].split(b'Q\n')
+    number, line = map(int, case[1].split(b'\t')[1:])
+    return call(table, question.rstrip(b'\n'), ANSWER, -(number * 65536 + line), b'')
+
+
+def loads(case, most):
+    """Whether a table of at most so many bytes loads, and its first question is answered."""
+    return not case[1].startswith(b'refused') and len(case[0]) <= most
 
 
 def main():
     vectors, vectors02, host = sys.argv[1:4]
     points = of_points(vectors02)
-    small, mixed, damaged = (still_due(cases(vectors, name)) for name in ('small', 'mixed', 'damaged'))
+    small, mixed, damaged = (base(vectors, name) for name in ('small', 'mixed', 'damaged'))
     library = of_each(points + damaged + small + mixed, lambda case: len(case[0]), printed_words, 2000, 8)
     write(f'{host}/testdata', 'sample', library)
-    calls = [call for call in read(f'{vectors}/entry.txt').splitlines() if not answer_of(call).startswith(b'ambiguous\t') and not lists(answer_of(call))]
+    calls = [call for call in read(f'{vectors}/entry.txt').splitlines() if left_as_is(printed(call))]
     stored = of_each(calls, len, call_words, 4000, 6)
-    for case in points[:9]:
+    by_hand = points[:BY_HAND]
+    for case in by_hand[:9]:
         stored += calls_of(case)
+    stored += [refused_call(case) for case in by_hand if past_bound(case[1]) and len(case[0]) < 5000]
     with open(f'{host}/testdata/entry.txt', 'wb') as file:
         file.write(b''.join(call + b'\n' for call in stored))
     example = tuple(read(f'{host}/../crates/typeask/{name}') for name in ('stdin', 'stdout'))
-    loading = [case for case in points if not case[1].startswith(b'refused') and len(case[0]) <= 6000]
+    loading = [case for case in points[BY_HAND:] if loads(case, 6000)]
     # from these places on a set that is longer than the answer buffer is among each
-    goscript = [example] + loading[:9] + loading[9::4] + small[3::6] + mixed[1::6]
+    goscript = [example] + [case for case in by_hand if loads(case, 11000)] + loading[::4] + small[3::6] + mixed[1::6]
     write(f'{host}/compare/testdata', 'sample', goscript)
     print(len(library), 'cases for the library,', len(stored), 'calls,', len(goscript), 'cases for goscript')
 

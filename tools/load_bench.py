@@ -14,6 +14,10 @@ import sys
 import tempfile
 import time
 
+from bounds import MEMBERS, OF_ONE, TEXT, TYPES
+
+# types, members and bytes: the bounds, and before them those that document 02 moved
+SIZES = [(256, 1024, 32768), (TYPES, MEMBERS, TEXT)]
 COPIES = 100
 RUNS = 40
 HEAD = b'typetable\t1\n'
@@ -23,43 +27,58 @@ def table(*lines):
     return HEAD + b''.join(line + b'\n' for line in lines)
 
 
+INT = b'T\tbasic\t2'
+
+
 def cases():
-    ints = b'T\tbasic\t2'
-    alike = [b'F\t' + b'n' * 62 + b'%02x' % i + b'\t-\t0\t0' for i in range(255)]
-    short = [b'F\tX%d\t-\t0\t0' % i for i in range(255)]
-    full = [ints]
-    for _ in range(4):
-        full += [b'T\tstruct'] + short
-    full += [b'T\tstruct'] + short[:4]
-    down = [b'T\tarray\t1\t%d' % i for i in range(255)]
-    up = []
-    for i in range(0, 254, 2):
-        up += [b'T\tnamed\t%d' % (i + 1), b'T\tstruct', b'F\tX\t-\t%d\t0' % (i + 2)]
-    up += [b'T\tnamed\t255', ints]
-    funcs = [ints, b'T\ttuple', b'T\tfunc\t0\t1\t1', b'T\tstruct'] + [b'F\tfieldnumber%03d\t-\t0\t0' % i for i in range(255)]
-    for _ in range(252):
-        funcs += [b'T\tnamed\t3'] + [b'M\tMethod%d\t-\t2\t0' % i for i in range(3)]
-    elements = (32768 - len(HEAD) - len(ints) - 1 - len(b'T\ttuple\n')) // 2
-    return [
-        ('255 fields whose names share 62 bytes', table(ints, b'T\tstruct', *alike)),
-        ('1,024 members', table(*full)),
-        ('256 types in one chain by value, each of a smaller number', table(ints, *down)),
-        ('256 types in one chain by value, each of a greater number', table(*up)),
-        ('256 types in one chain by value, in random order', table(*shuffled())),
-        ('252 named types of one struct of 255 fields', table(*funcs)),
-        ('32,768 bytes, nearly all in one tuple line', table(ints, b'T\ttuple' + b'\t0' * elements)),
-        ('the header alone', HEAD),
-    ]
+    alike = [b'F\t' + b'n' * 62 + b'%02x' % i + b'\t-\t0\t0' for i in range(OF_ONE)]
+    rows = [(f'{OF_ONE} fields whose names share 62 bytes', table(INT, b'T\tstruct', *alike)), ('the header alone', HEAD)]
+    for types, members, text in SIZES:
+        elements = (text - len(table(INT, b'T\ttuple'))) // 2
+        rows += [
+            (f'{members:,} members', table(INT, *full(members))),
+            (f'{types} types in one chain by value, each of a smaller number', table(INT, *[b'T\tarray\t1\t%d' % i for i in range(types - 1)])),
+            (f'{types} types in one chain by value, each of a greater number', table(*rising(types))),
+            (f'{types} types in one chain by value, in random order', table(*shuffled(types))),
+            (f'{types - 4} named types of one struct of {OF_ONE} fields', table(*methods(types - 4))),
+            (f'{text:,} bytes, nearly all in one tuple line', table(INT, b'T\ttuple' + b'\t0' * elements)),
+        ]
+    return rows
 
 
-def shuffled():
-    numbers = list(range(256))
+def full(members):
+    """Structs with so many fields in all, as many in each as there may be."""
+    fields = [b'F\tX%d\t-\t0\t0' % (i % OF_ONE) for i in range(members)]
+    lines = []
+    for i in range(0, members, OF_ONE):
+        lines += [b'T\tstruct'] + fields[i:i + OF_ONE]
+    return lines
+
+
+def rising(types):
+    lines = []
+    for i in range(0, types - 2, 2):
+        lines += [b'T\tnamed\t%d' % (i + 1), b'T\tstruct', b'F\tX\t-\t%d\t0' % (i + 2)]
+    return lines + [b'T\tnamed\t%d' % (types - 1), INT]
+
+
+def shuffled(types):
+    numbers = list(range(types))
     random.Random(5).shuffle(numbers)
-    named, structs = numbers[:128], numbers[128:]
-    lines = [b''] * 256
-    for i in range(128):
+    half = types // 2
+    named, structs = numbers[:half], numbers[half:]
+    lines = [b''] * types
+    for i in range(half):
         lines[named[i]] = b'T\tnamed\t%d' % structs[i]
-        lines[structs[i]] = b'T\tstruct' + (b'\nF\tX\t-\t%d\t0' % named[i + 1] if i < 127 else b'')
+        lines[structs[i]] = b'T\tstruct' + (b'\nF\tX\t-\t%d\t0' % named[i + 1] if i < half - 1 else b'')
+    return lines
+
+
+def methods(types):
+    """So many named types of one struct, with three methods each."""
+    lines = [INT, b'T\ttuple', b'T\tfunc\t0\t1\t1', b'T\tstruct'] + [b'F\tfieldnumber%03d\t-\t0\t0' % i for i in range(OF_ONE)]
+    for _ in range(types):
+        lines += [b'T\tnamed\t3'] + [b'M\tMethod%d\t-\t2\t0' % i for i in range(3)]
     return lines
 
 

@@ -1,22 +1,17 @@
 #!/usr/bin/env python3
 """Makes the stdin and stdout of the program load_run: tables, each behind its length, and what loading gives.
 
-    load_sample.py VECTORS CRATE
+    load_sample.py VECTORS VECTORS02 CRATE
 
-VECTORS has small, mixed and damaged (.in and .out): inputs of typeask with what it prints. Of these a sample is taken that has every refusal from 3 to 10
-and every form of line; the edges of document 01 are added. A table that loads gives `ok` and the counts of its P, T, and F and M lines; a refused one
-gives `refused`, the number and the line, as typeask prints it.
+VECTORS has the base's small, mixed and damaged (.in and .out), and VECTORS02 the pair 4 of document 02, with points 1 to 4 in force: inputs of typeask with what
+it prints. Of the base's a sample is taken that has every refusal from 3 to 10 but 6 and every form of line, and none that a bound refused; of the pair 4 the
+cases worked out by hand, and every k-th other. The edges of document 01 are added, at the bounds of document 02. A table that loads gives `ok` and the counts of
+its P, T, and F and M lines; a refused one gives `refused`, the number and the line, as typeask prints it.
 """
 import sys
 
 from bounds import MEMBERS, OF_ONE, PACKAGES, TEXT, TYPES, full_structs
-
-
-def cases(path):
-    data = open(path, 'rb').read()
-    if path.endswith('.in'):
-        data = data[data.index(b'\n') + 1:]
-    return data.split(b'---\n')[:-1]
+from vectors import BY_HAND, cases, past_bound
 
 
 def table_of(text):
@@ -41,25 +36,21 @@ def counts(table):
 
 
 def loading(case, out):
-    """The table of a case and what loading it gives; nothing where the input as a whole is too long."""
+    """The table of a case and what loading it gives, where the input as a whole is not too long."""
     table = table_of(case)
-    if len(case) > TEXT:
-        return None
     first = out.split(b'\n')[0]
     if first.startswith(b'refused\t') and first.split(b'\t')[1] in [b'2', b'3', b'4', b'5', b'6', b'7', b'8', b'9', b'10']:
         return table, first + b'\n'
     return table, counts(table)
 
 
-def sample(vectors):
-    chosen = []
+def sample(vectors, vectors02):
+    fourth = cases(vectors02, '4')
+    others = fourth[BY_HAND::4]
     for name, step in [('small', 9), ('mixed', 9), ('damaged', 4)]:
-        pairs = list(zip(cases(f'{vectors}/{name}.in'), cases(f'{vectors}/{name}.out')))
-        for case, out in pairs[::step]:
-            got = loading(case, out)
-            if got and len(got[0]) < 9000:
-                chosen.append(got)
-    return chosen
+        others += [case for case in cases(vectors, name)[::step] if not past_bound(case[1])]
+    chosen = fourth[:BY_HAND] + [case for case in others if len(table_of(case[0])) < 9000]
+    return [loading(*case) for case in chosen if len(case[0]) <= TEXT]
 
 
 HEAD = b'typetable\t1\n'
@@ -112,8 +103,8 @@ def edges():
 
 
 def main():
-    vectors, crate = sys.argv[1:3]
-    rows = sample(vectors) + edges()
+    vectors, vectors02, crate = sys.argv[1:4]
+    rows = sample(vectors, vectors02) + edges()
     with open(f'{crate}/stdin', 'wb') as tables, open(f'{crate}/stdout', 'wb') as results:
         for table, result in rows:
             tables.write(b'%05d\n' % len(table) + table)

@@ -4,9 +4,12 @@
     pairs_sample.py CRATE
 
 What is due is the answer and how many pairs of types are met. It is said here with its reason, and no program is asked. A pair is met where nothing but the
-parts of the two can tell them apart, and counts once however often it comes up. A type with itself is no pair.
+parts of the two can tell them apart, and counts once however often it comes up. A type with itself is no pair. A pair of interfaces that is put off stays so: it
+is not met, and taken for identical.
 """
 import sys
+
+from bounds import TYPES
 
 
 class Table:
@@ -163,31 +166,63 @@ def ifaces(*last_names):
     return table, [table.put('iface', *lines) for lines in methods]
 
 
+# so many levels are nested before a pair of interfaces is put off
+OPEN_LEVELS = 250
+
+
 def far_below():
-    """Two structs that differ in a tag, many levels below the types that are compared, which are at level 0."""
-    # 126 pointers to each: 256 types have no room for more
+    """What tells two types apart many levels below them; they are at level 0."""
+    # two structs that differ in a tag, below as many pointers to each as there are types for
     table = Table()
     number = table.put('basic 2')
     x, y = [table.put('struct', line.format(number)) for line, in OTHER_TAG]
-    for _ in range(126):
+    depth = (TYPES - 3) // 2
+    for _ in range(depth):
         x, y = table.put(f'pointer {x}'), table.put(f'pointer {y}')
-    # At level 250, below one pair of each level. No pair of structs is put off: without the tag the two are the 251st pair, and their fields, an int and a
-    # pointer, tell them apart.
-    return [no(table, 126), no(chain(' json'), 250), no(chain(''), 251)]
+    rows = [no(table, depth)]
+    # At the level that puts pairs of interfaces off and as far below as there are types for, below one pair of each level. No pair of structs is put off: without
+    # the tag the two are one pair more, and their fields, an int and a pointer, tell them apart.
+    for levels in OPEN_LEVELS, TYPES - 6:
+        rows += [no(chain(levels, ' json'), levels), no(chain(levels, ''), levels + 1)]
+    return rows + put_off()
 
 
-def chain(tag):
-    """An int and 253 types, each made of the type before: every third is a struct of one field, with this tag in the first of them, and the others are
-    pointers. The last two types are pointers to the 250th and the 253rd of the 253. So each level below has two of them that stand three apart, and
-    level 250 the first and the fourth."""
+def chain(levels, tag):
+    """An int and three types more than there are levels, each made of the type before: every third is a struct of one field, with this tag in the first of them,
+    and the others are pointers. The last two types are pointers to the last of these and to the one three before. So each level below has two of them that stand
+    three apart, and the lowest level the first and the fourth."""
     table = Table()
     types = [table.put('basic 2')]
-    for k in range(253):
+    for k in range(levels + 3):
         struct = k % 3 == 0
         below = types[-1]
         types.append(table.put('struct', FIELD.format(below) + tag * (k == 0)) if struct else table.put(f'pointer {below}'))
-    for part in types[250], types[253]:
+    for part in types[levels], types[levels + 3]:
         table.put(f'pointer {part}')
+    return table
+
+
+def put_off():
+    """Two interfaces of one method each, below pointers. At the last level that opens them their pair is met, and so are the pairs of funcs and of tuples below it,
+    whose parameters are one type, or tell them apart. A level deeper the pair is put off: it is not met, and nothing below it is looked at."""
+    opened, deeper = OPEN_LEVELS - 1, OPEN_LEVELS
+    same, other = [INT, INT], [INT, STRING]
+    return [
+        yes(over_interfaces(opened, same), opened + 3),
+        no(over_interfaces(opened, other), opened + 3),
+        yes(over_interfaces(deeper, same), deeper),
+        yes(over_interfaces(deeper, other), deeper),
+    ]
+
+
+def over_interfaces(levels, parameters):
+    """So many pointers down to each of two interfaces, whose methods take these."""
+    table = Table()
+    for kind in ['tuple', 'basic 2', 'basic 17']:
+        table.put(kind)
+    types = [table.put('iface', f'M M - {table.put_func(parameter)} 0') for parameter in parameters]
+    for _ in range(levels):
+        types = [table.put(f'pointer {part}') for part in types]
     return table
 
 

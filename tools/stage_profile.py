@@ -14,13 +14,14 @@ import subprocess
 import sys
 import tempfile
 
-ANSWER = 16384
+from bounds import ANSWER, TEXT, TYPES
+
 WORDS = 4096
 LAST_LINES = 12
 CALL = r'''
 #include <stdio.h>
 #include "yifgrun.h"
-static uint8_t table[40000], answer[16384];
+static uint8_t table[TEXT], answer[ANSWER];
 static uint32_t work[YIFGRUN_WORK_WORDS];
 int main(int count, char **words) {
     FILE *file = fopen(words[1], "rb");
@@ -39,7 +40,7 @@ class Library:
         subprocess.run(['gcc', '-shared', '-o', shared, '-Wl,--whole-archive', archive, '-Wl,--no-whole-archive'], check=True)
         with open(source, 'w') as out:
             out.write(CALL)
-        subprocess.run(['gcc', '-O2', '-I', include, '-o', self.program, source, archive], check=True)
+        subprocess.run(['gcc', '-O2', f'-DTEXT={TEXT}', f'-DANSWER={ANSWER}', '-I', include, '-o', self.program, source, archive], check=True)
         self.ask = ctypes.CDLL(shared).yifgrun_ask
         self.ask.restype = ctypes.c_int64
         self.answer = ctypes.create_string_buffer(ANSWER)
@@ -64,7 +65,7 @@ class Library:
 def variants(table):
     """The table with one field of one of its last lines replaced by a number, or by that field of the line above."""
     lines = table.split(b'\n')[:-1]
-    numbers = [b'x', b'9999', b'9'] + [b'%d' % n for n in range(0, 256, 5)]
+    numbers = [b'x', b'9999', b'9'] + [b'%d' % n for n in range(0, TYPES, 5)]
     for at in range(len(lines) - 1, max(0, len(lines) - LAST_LINES), -1):
         fields = lines[at].split(b'\t')
         above = lines[at - 1].split(b'\t')

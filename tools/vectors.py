@@ -13,16 +13,35 @@ def lists(print_):
     return b'\nsel\t' in print_
 
 
-def still_due(cases):
-    """The base's cases that document 02 leaves as they are: none with an answer `ambiguous`, which point 1 changes, or with a method set that lists something."""
-    return [case for case in cases if b'\nambiguous\t' not in b'\n' + case[1] and not lists(case[1])]
+def past_bound(print_):
+    """Whether the table, or the input as a whole, was refused by 2 or 6: point 4 of document 02 moves these bounds."""
+    return print_.startswith((b'refused\t2\t', b'refused\t6\t'))
+
+
+def left_as_is(print_):
+    """Whether document 02 leaves as it is what the base gave: no answer `ambiguous`, which point 1 changes, no method set that lists something, and no table that a
+    bound refused, also where that bound is one that stays."""
+    return b'\nambiguous\t' not in b'\n' + print_ and not lists(print_) and not past_bound(print_)
+
+
+def base(vectors, name):
+    """The base's cases that document 02 leaves as they are."""
+    return [case for case in cases(vectors, name) if left_as_is(case[1])]
+
+
+# the first cases of the pair 4, which were worked out by hand
+BY_HAND = 33
 
 
 def of_points(vectors02):
-    """The cases of the pair 2, with points 1 and 2 in force, the first of them worked out by hand, and those of the pair 1 that point 2 leaves as they are."""
-    second = cases(vectors02, '2')
-    inputs = {text for text, _ in second}
-    return second + [case for case in cases(vectors02, '1') if not lists(case[1]) and case[0] not in inputs]
+    """The cases of the pair 4, with points 1 to 4 in force, those worked out by hand first; then those of the pairs 2 and 1 that the points after them leave as
+    they are."""
+    chosen = dict(cases(vectors02, '4'))
+    for name in '2', '1':
+        for text, print_ in cases(vectors02, name):
+            if not past_bound(print_) and (name == '2' or not lists(print_)):
+                chosen.setdefault(text, print_)
+    return list(chosen.items())
 
 
 def write(folder, name, cases):

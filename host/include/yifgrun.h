@@ -44,12 +44,12 @@ int64_t yifgrun_ask(const uint8_t *table, size_t table_len,
 
 enum yifgrun_refusal {
     YIFGRUN_WORK_TOO_SHORT = 1,      /* the work area has fewer than YIFGRUN_WORK_WORDS words */
-    YIFGRUN_TABLE_TOO_LONG = 2,      /* the table has more than 32,768 bytes */
+    YIFGRUN_TABLE_TOO_LONG = 2,      /* the table has more than 65,536 bytes */
     YIFGRUN_HEADER = 3,              /* the first line is not exactly `typetable`, tab, `1`, newline */
     YIFGRUN_FORM = 4,                /* wrong form: letter, field count, value outside its range, or no newline */
     YIFGRUN_PLACE = 5,               /* out of place: P after T, F not under a struct, M not under a named type or
                                         interface */
-    YIFGRUN_TOO_MANY = 6,            /* a 65th package, 257th type, 1,025th member, or 256th member of one type */
+    YIFGRUN_TOO_MANY = 6,            /* a 65th package, 513th type, 2,049th member, or 256th member of one type */
     YIFGRUN_LACKING = 7,             /* a package or type number that the table lacks */
     YIFGRUN_KIND = 8,                /* a kind of type that is not allowed there */
     YIFGRUN_CLASH = 9,               /* a member's identity clashes, or an interface's methods do not ascend */

@@ -50,7 +50,7 @@
 //! ```
 //!
 //! The library holds nothing between calls and allocates nothing: calls on different buffers may run at the same
-//! time. A call nests at most 506 levels (`I` on types that lie within one another), less than 450 KB of stack.
+//! time. A call nests at most 762 levels (`I` on types that lie within one another), less than 512 KB of stack.
 
 mod refusal;
 
@@ -146,8 +146,8 @@ pub struct Answers {
 /// The bytes of a buffer before the first answer that needs more.
 const FIRST_BYTES: usize = 4_096;
 
-/// No answer is longer: `set` with its count and a line of at most 1,035 bytes for each of 1,024 members.
-const MOST_BYTES: usize = 1 << 21;
+/// No answer is longer: `set` with its count and a line of at most 2,059 bytes for each of 2,048 members.
+const MOST_BYTES: usize = 1 << 23;
 
 impl Answers {
     pub fn new() -> Answers {

@@ -24,11 +24,11 @@ pub struct Refusal {
 /// Document 01's words, from refusal 1 on.
 const WORDS: [&str; 13] = [
     "the work area has fewer than 4,096 words",
-    "the table has more than 32,768 bytes",
+    "the table has more than 65,536 bytes",
     "the first line is not exactly `typetable`, tab, `1`, newline",
     "wrong form: letter, field count, value outside its range, or no newline",
     "out of place: P after T, F not under a struct, M not under a named type or interface",
-    "too many: a 65th package, 257th type, 1,025th member, or 256th member of one type",
+    "too many: a 65th package, 513th type, 2,049th member, or 256th member of one type",
     "the table lacks a package or type number referred to",
     "a kind of type is referred to that is not allowed there",
     "a member's identity clashes, or an interface's methods do not ascend",

@@ -1,5 +1,7 @@
 //! The command `yifgrun`: what it prints, what it says on standard error, and its exit status.
 
+mod bounds;
+
 use std::io::Write;
 use std::path::PathBuf;
 use std::process::{Command, Output, Stdio};
@@ -89,6 +91,19 @@ fn a_refused_table() {
         says(1, "", cycle)
     );
     assert_eq!(run(&[], &format!("{CYCLE}Q\n")), says(1, "", cycle));
+}
+
+#[test]
+fn a_table_past_a_bound() {
+    let long = "yifgrun: the table has more than 65,536 bytes (refusal 2)\n";
+    let table = "x".repeat(bounds::TEXT + 1);
+    assert_eq!(run(&[], &table), says(1, "", long));
+    let many = "too many: a 65th package, 513th type, 2,049th member, or 256th member of one type";
+    let line = 1 + bounds::TYPES + 1;
+    let many = format!("yifgrun: line {line}: {many} (refusal 6)\n");
+    let types = "T\tbasic\t2\n".repeat(bounds::TYPES + 1);
+    let table = format!("typetable\t1\n{types}");
+    assert_eq!(run(&[], &table), says(1, "", &many));
 }
 
 #[test]

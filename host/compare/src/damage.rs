@@ -6,7 +6,7 @@ use crate::table::{Kind, Table};
 use std::ops::Range;
 
 /// Numbers at the edges of what is taken.
-const NUMBERS: [&str; 18] = [
+const NUMBERS: [&str; 24] = [
     "0",
     "1",
     "2",
@@ -17,9 +17,15 @@ const NUMBERS: [&str; 18] = [
     "64",
     "255",
     "256",
+    "511",
+    "512",
     "1023",
+    "2047",
+    "2048",
     "9999",
     "10000",
+    "65535",
+    "65536",
     "00",
     "01",
     "-1",
@@ -191,7 +197,7 @@ fn multiply_line(prng: &mut Prng, text: &mut Vec<u8>) {
         bounds::PACKAGES - 2,
         bounds::TYPES - 6,
         bounds::MEMBERS - 4,
-        3_000,
+        bounds::TEXT / 11,
     ][prng.below(4)]
         + prng.below(10);
     let copies = vec![lines[at].clone(); times];

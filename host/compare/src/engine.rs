@@ -1,5 +1,7 @@
 //! What answers questions on a table: goscript's functions, and the proved library beside them.
 
+use std::{panic, thread};
+
 /// What is said where there is no goscript to compare with.
 pub const NOT_AT_HAND: &str = "goscript's files are not at hand: nothing compared";
 
@@ -17,6 +19,17 @@ pub trait Engine {
     fn keeps_tables(&self) -> bool {
         true
     }
+}
+
+/// The bytes of a stack on which goscript answers every hard table that it is asked: it nests a call for each pair of
+/// types that it meets, and does so for thousands.
+const STACK: usize = 64 << 20;
+
+/// Runs something on a thread with such a stack.
+pub fn on_large_stack(run: impl FnOnce() + Send + 'static) {
+    let thread = thread::Builder::new().stack_size(STACK).spawn(run);
+    let ended = thread.expect("a thread starts").join();
+    ended.unwrap_or_else(|panic| panic::resume_unwind(panic));
 }
 
 /// goscript's functions, if its files were at hand when this was built.

@@ -188,8 +188,8 @@ fn stored_tables() {
         );
     }
     if let Some(folder) = batches::vectors_02() {
-        stored.extend(batches::cases(&folder, "1"));
-        stored.extend(batches::cases(&folder, "2"));
+        let pairs = ["1", "2", "4"];
+        stored.extend(pairs.iter().flat_map(|name| batches::cases(&folder, name)));
     }
     stored.sort();
     stored.dedup();
@@ -208,6 +208,7 @@ fn random_tables() {
         (600, Shape::tiny()),
         (200, Shape::small()),
         (40, Shape::middle()),
+        (4, Shape::largest()),
     ] {
         for _ in 0..count {
             let table = random::table(&mut prng, &shape);

@@ -79,6 +79,10 @@ fn every_question_on_small_tables() {
 /// Every answer of goscript to the hard tables, but those that it takes seconds for, or does not come to.
 #[test]
 fn hard_tables() {
+    engine::on_large_stack(hold_hard_tables);
+}
+
+fn hold_hard_tables() {
     let (Some(mut goscript), Some(mut library)) = (engine::goscript(), engine::library()) else {
         say(engine::NOT_AT_HAND);
         return;
@@ -93,4 +97,24 @@ fn hard_tables() {
         assert_eq!(result, Ok(()), "{}", case.name);
     }
     say(&format!("hard tables: {agreed}"));
+}
+
+/// Of those that goscript does not come to, towers and nested pairs, what is due is known: nothing tells the types
+/// apart, whose only values are ints, and no field has the name that is asked for.
+#[test]
+fn hard_tables_without_goscript() {
+    let mut library = engine::library().expect("this test is built with it");
+    let hard = cases().into_iter().filter(|case| !case.for_goscript);
+    for case in hard {
+        library.load(&case.table).expect("it loads");
+        for question in case.questions {
+            let due = if question.starts_with('S') {
+                "notfound\n"
+            } else {
+                "yes\n"
+            };
+            let answer = library.ask(&question);
+            assert_eq!(answer.as_deref(), Some(due), "{}", case.name);
+        }
+    }
 }

@@ -150,27 +150,40 @@ fn calls_run_side_by_side() {
     });
 }
 
-/// A method set longer than the first buffer is answered whole.
+/// A method set that is longer than any buffer up to a mebibyte is answered whole: the methods of six interfaces, as many
+/// levels below as there are types for.
 #[test]
 fn long_answers_are_whole() {
+    const PARTS: usize = 6;
+    const METHODS: usize = bounds::MEMBERS_OF_ONE;
     let mut table = "typetable\t1\nT\ttuple\nT\tfunc\t0\t0\t0\n".to_owned();
-    for part in 0..4 {
+    for part in 0..PARTS {
         table += "T\tiface\n";
-        for n in 0..254 {
+        for n in 0..METHODS {
             table += &format!("M\tM{part}{n:03}\t-\t1\t0\n");
         }
     }
     table += "T\tstruct\n";
-    for part in 0..4 {
+    for part in 0..PARTS {
         table += &format!("F\tE{part}\t-\t{}\t1\n", part + 2);
     }
-    for below in 6..10 {
+    let (lowest, last) = (PARTS + 2, bounds::TYPES - 1);
+    for below in lowest..last {
         table += &format!("T\tstruct\nF\tE\t-\t{below}\t1\n");
     }
+    let (question, count) = (format!("M\t{last}"), PARTS * METHODS);
     let mut answers = Answers::new();
-    let answer = answers.ask(table.as_bytes(), b"M\t10").expect("an answer");
-    let lines: Vec<&[u8]> = answer.split_inclusive(|&b| b == b'\n').collect();
-    assert_eq!((lines.len(), lines[0]), (1_017, &b"set\t1016\n"[..]));
-    assert_eq!(lines[1_016], b"sel\t1015\t1\t0\t0\t0\t0\t3\t253\n");
-    assert!(answer.len() > bounds::ANSWER);
+    let answer = answers.ask(table.as_bytes(), question.as_bytes());
+    let answer = str::from_utf8(answer.expect("an answer")).expect("text");
+    let lines: Vec<&str> = answer.split_inclusive('\n').collect();
+    let down = "\t0".repeat(last - lowest);
+    let sel = |k| format!("sel\t{k}\t1{down}\t{}\t{}\n", k / METHODS, k % METHODS);
+    assert_eq!(
+        (lines.len(), lines[0]),
+        (1 + count, &*format!("set\t{count}\n"))
+    );
+    for k in 0..count {
+        assert_eq!(lines[1 + k], sel(k));
+    }
+    assert!(answer.len() > 1 << 20);
 }

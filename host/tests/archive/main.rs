@@ -3,6 +3,8 @@
 #[path = "../bounds/mod.rs"]
 mod bounds;
 mod buffers;
+#[path = "../due/mod.rs"]
+mod due;
 #[cfg(target_os = "linux")]
 mod fenced;
 mod lent;

@@ -9,17 +9,106 @@ use yifgrun::{Answers, WORK_WORDS};
 
 /// A table, a question and its answer.
 struct Deep {
-    name: &'static str,
+    name: String,
     table: String,
     question: String,
     due: String,
 }
 
+fn deep(name: &str, table: &str, question: &str, due: &str) -> Deep {
+    let [name, table, question, due] = [name, table, question, due].map(str::to_owned);
+    Deep {
+        name,
+        table,
+        question,
+        due,
+    }
+}
+
 fn all_deep() -> Vec<Deep> {
-    let mut all = vec![nested_pairs(), rings(), long_path()];
-    all.extend(towers());
+    let mut all = vec![long_path(), long_path_of_methods(), nested_pairs(), rings()];
+    // the second as high as there are types for, beside the one at the ground
+    for height in [170, (bounds::TYPES - 1) / 2] {
+        all.extend(towers(height));
+    }
     all.extend(chain());
+    all.push(arrays());
     all
+}
+
+/// So many levels are nested before pairs of interfaces are put off (`DEEP` in crates/typ/src/identical.rt).
+const OPEN_LEVELS: usize = 250;
+
+/// Pairs that nest deeper than there are types, and how many structs they are made of, which are the first types.
+struct Path {
+    table: String,
+    structs: usize,
+}
+
+/// As many structs as there is room for with two interfaces and so many other types behind them. Each has an interface
+/// and the struct below it in it, the lowest the second interface and every other the first. Structs that stand one
+/// apart are compared down to the lowest two, where the interfaces are met. Their methods take the highest struct and
+/// the one two below it: so the structs are walked down again, by pairs that stand two apart, and the last pair differs.
+fn path(behind: usize) -> Path {
+    let structs = bounds::TYPES - 6 - behind;
+    let (first, second) = (structs, structs + 1);
+    let mut table = "typetable\t1\n".to_owned();
+    for n in 0..structs {
+        let (beside, below) = match n {
+            0 => (second, first),
+            _ => (first, n - 1),
+        };
+        table += &format!("T\tstruct\nF\tY\t-\t{beside}\t0\nF\tX\t-\t{below}\t0\n");
+    }
+    for n in [0, 1] {
+        table += &format!("T\tiface\nM\tM\t-\t{}\t0\n", structs + 4 + n);
+    }
+    for n in [0, 1] {
+        table += &format!("T\ttuple\t{}\n", structs - 1 - 2 * n);
+    }
+    table += &funcs(structs + 2);
+    Path { table, structs }
+}
+
+/// Two funcs, each with one of two tuples for its parameters; the first is the results of both.
+fn funcs(tuple: usize) -> String {
+    [0, 1]
+        .map(|n| format!("T\tfunc\t0\t{}\t{tuple}\n", tuple + n))
+        .concat()
+}
+
+/// The structs that a path begins with, if so many levels are nested already: the interfaces are met at the last level
+/// that opens a pair of them.
+fn start(nested: usize) -> [usize; 2] {
+    [OPEN_LEVELS - nested, OPEN_LEVELS - 1 - nested]
+}
+
+fn long_path() -> Deep {
+    let Path { table, .. } = path(0);
+    let [x, y] = start(0);
+    let name = "a chain of structs walked twice, I";
+    deep(name, &table, &format!("I\t{x}\t{y}"), "no\n")
+}
+
+/// The same, where a method of a named type is compared with one of an interface: funcs and tuples are two levels more.
+fn long_path_of_methods() -> Deep {
+    let Path { mut table, structs } = path(6);
+    let [tuple, func, named] = [6, 8, 10].map(|n| structs + n);
+    for taken in start(2) {
+        table += &format!("T\ttuple\t{taken}\n");
+    }
+    table += &funcs(tuple);
+    table += &format!("T\tnamed\t0\nM\tM\t-\t{func}\t0\n");
+    table += &format!("T\tiface\nM\tM\t-\t{}\t0\n", func + 1);
+    // two fields of each struct and three methods stand before the one that is missing
+    let due = format!("missing\t{}\t1\n", 2 * structs + 3);
+    let question = format!("N\t{named}\t{}\t1", named + 1);
+    deep(
+        "a chain of structs walked twice, N",
+        &table,
+        &question,
+        &due,
+    )
 }
 
 /// A generator of numbers, always the same (xorshift64).
@@ -34,13 +123,13 @@ impl Numbers {
     }
 }
 
-/// 207 interfaces of two methods, whose funcs take one of 24 tuples of 250 interfaces: 38,256 pairs of interfaces are
-/// met within one another. No table is known that nests more.
+/// 423 interfaces of two methods, whose funcs take one of 44 tuples of 225 interfaces: 150,290 pairs of interfaces lie
+/// within one another, where x with y and y with x are two.
 fn nested_pairs() -> Deep {
-    const TUPLES: usize = 24;
-    const ENTRIES: usize = 250;
+    const TUPLES: usize = 44;
+    const ENTRIES: usize = 225;
     const METHODS: usize = 2;
-    let ifaces = 256 - 2 * TUPLES - 1;
+    let ifaces = bounds::TYPES - 2 * TUPLES - 1;
     let seed = TUPLES * 1_000_003 + ENTRIES * 1_009 + METHODS;
     let mut numbers = Numbers(88_172_645_463_325_252 ^ seed as u64);
     let mut table = "typetable\t1\n".to_owned();
@@ -62,17 +151,18 @@ fn nested_pairs() -> Deep {
     for n in 0..TUPLES {
         table += &format!("T\tfunc\t0\t{}\t{ifaces}\n", ifaces + 1 + n);
     }
-    Deep {
-        name: "38,256 nested pairs of interfaces, I",
-        table,
-        question: "I\t0\t1".to_owned(),
-        due: "yes\n".to_owned(),
-    }
+    deep(
+        "150,290 nested pairs of interfaces, I",
+        &table,
+        "I\t0\t1",
+        "yes\n",
+    )
 }
 
-/// Rings of 26 and 27 interfaces, whose pairs nest 2,106 levels, and chains of 47 pointers beside each of them.
+/// Rings of 52 and 53 interfaces, and as long a chain of pointers beside each of them as there are types for.
 fn rings() -> Deep {
-    const POINTERS: usize = 47;
+    const RINGS: [usize; 2] = [52, 53];
+    const POINTERS: usize = (bounds::TYPES - 2 - 3 * (RINGS[0] + RINGS[1])) / 2;
     let mut table = "typetable\t1\nT\ttuple\nT\tbasic\t2\n".to_owned();
     let chain = |base: usize, first: usize| -> String {
         let below = |n: usize| if n == 0 { base } else { first + n - 1 };
@@ -83,8 +173,9 @@ fn rings() -> Deep {
     table += &chain(1, 2);
     table += &chain(1, 2 + POINTERS);
     let mut first = 2 + 2 * POINTERS;
-    let starts = [(26, 1 + POINTERS), (27, 1 + 2 * POINTERS)].map(|(length, top)| {
-        let start = first;
+    let tops = [1 + POINTERS, 1 + 2 * POINTERS];
+    let [x, y] = [0, 1].map(|n| {
+        let (start, length, top) = (first, RINGS[n], tops[n]);
         for k in 0..length {
             let (at, next) = (start + 3 * k, start + 3 * ((k + 1) % length));
             table += &format!("T\tiface\nM\tM\t-\t{}\t0\n", at + 2);
@@ -93,99 +184,65 @@ fn rings() -> Deep {
         first += 3 * length;
         start
     });
-    assert!(first <= bounds::TYPES, "{first} types");
-    Deep {
-        name: "rings of interfaces over chains of pointers, I",
-        table,
-        question: format!("I\t{}\t{}", starts[0], starts[1]),
-        due: "yes\n".to_owned(),
-    }
+    let name = "rings of interfaces over chains of pointers, I";
+    deep(name, &table, &format!("I\t{x}\t{y}"), "yes\n")
 }
 
-/// 14 interfaces, each with a func of its own that takes all of them in some order, so that a path through their pairs
-/// is longer than the levels that may be nested, and then one of two pointers: beside the last pair of the path, these
-/// are compared down a chain of 211, at whose end they differ.
-fn long_path() -> Deep {
-    const IFACES: usize = 14;
-    const ENTRIES: usize = 120;
-    const POINTERS: usize = 254 - 3 * IFACES;
-    let mut numbers = Numbers(88_172_645_463_325_252);
-    let mut table = "typetable\t1\nT\tbasic\t2\nT\ttuple\n".to_owned();
-    for n in 0..POINTERS {
-        let below = if n == 0 { 0 } else { n + 1 };
-        table += &format!("T\tpointer\t{below}\n");
-    }
-    let (last, first) = (POINTERS + 1, POINTERS + 2);
-    for n in 0..IFACES {
-        table += &format!("T\tiface\nM\tM\t-\t{}\t0\n", first + 2 * IFACES + n);
-    }
-    for n in 0..IFACES {
-        table += "T\ttuple";
-        for _ in 0..ENTRIES {
-            table += &format!("\t{}", first + numbers.below(IFACES));
-        }
-        table += &format!("\t{}\n", last - n % 2);
-    }
-    for n in 0..IFACES {
-        table += &format!("T\tfunc\t0\t{}\t1\n", first + IFACES + n);
-    }
-    Deep {
-        name: "a path of pairs of interfaces over a chain of pointers, I",
-        table,
-        question: format!("I\t{first}\t{}", first + 1),
-        due: "no\n".to_owned(),
-    }
-}
-
-/// Two towers of 127 structs, each with two fields of the one below.
-fn towers() -> [Deep; 2] {
+/// Two towers of structs, each with two fields of the one below.
+fn towers(height: usize) -> [Deep; 2] {
     let mut table = "typetable\t1\nT\tbasic\t2\n".to_owned();
-    for n in 0..254 {
-        let below = if n % 127 == 0 { 0 } else { n };
+    for n in 0..2 * height {
+        let below = if n % height == 0 { 0 } else { n };
         table += &format!("T\tstruct\nF\tA\t-\t{below}\t0\nF\tB\t-\t{below}\t0\n");
     }
-    let deep = |name, question: &str| Deep {
-        name,
-        table: table.clone(),
-        question: question.to_owned(),
-        due: "yes\n".to_owned(),
-    };
+    let case = |name: String, question: String| deep(&name, &table, &question, "yes\n");
     [
-        deep("two towers of 127 structs, I", "I\t127\t254"),
-        deep("a tower of 127 structs, C", "C\t127"),
+        case(
+            format!("two towers of {height} structs, I"),
+            format!("I\t{height}\t{}", 2 * height),
+        ),
+        case(
+            format!("a tower of {height} structs, C"),
+            format!("C\t{height}"),
+        ),
     ]
 }
 
-/// Structs, each embedded in the next and in one table twice in the last, so that the way to the first has 253 places; or
-/// arrays, each of the one below.
-fn chain() -> [Deep; 5] {
-    let mut table = "typetable\t1\nT\tbasic\t2\nT\ttuple\nT\tfunc\t0\t1\t1\n".to_owned();
-    let mut arrays = "typetable\t1\nT\tbasic\t2\n".to_owned();
-    table += "T\tstruct\nF\tX\t-\t0\t0\n";
-    for below in 3..255 {
+/// Behind the first type, as many others as there may be.
+const LAST: usize = bounds::TYPES - 1;
+
+/// Structs, each embedded in the next and in one table twice in the last, so that the way to a field of the first has a
+/// place for each.
+fn chain() -> [Deep; 4] {
+    let mut table = "typetable\t1\nT\tbasic\t2\nT\tstruct\nF\tX\t-\t0\t0\n".to_owned();
+    for below in 1..LAST {
         table += &format!("T\tstruct\nF\tE\t-\t{below}\t1\n");
     }
-    for below in 0..255 {
-        arrays += &format!("T\tarray\t1\t{below}\n");
-    }
-    let deep = |name, table: &str, question: &str, due: &str| Deep {
-        name,
-        table: table.to_owned(),
-        question: question.to_owned(),
-        due: due.to_owned(),
-    };
-    let entry = format!("entry\t0\t0{}\n", "\t0".repeat(253));
-    let twice = format!("{table}F\tD\t-\t254\t1\n");
-    let rest = "\t0".repeat(252);
+    let entry = format!("entry\t0\t0{}\n", "\t0".repeat(LAST));
+    let twice = format!("{table}F\tD\t-\t{}\t1\n", LAST - 1);
+    let rest = "\t0".repeat(LAST - 1);
     let both = format!("ambiguous\t0{rest}\nand\t1{rest}\n");
-    let s = "S\t255\t0\t-\tX";
+    let case = |name: &str, table: &str, letter: &str, due: &str| {
+        let question = format!("{letter}\t{LAST}");
+        let question = question + if letter == "S" { "\t0\t-\tX" } else { "" };
+        deep(&format!("{name}, {letter}"), table, &question, due)
+    };
     [
-        deep("a way of 253 places, S", &table, s, &entry),
-        deep("two ways of 253 places, S", &twice, s, &both),
-        deep("254 levels, M", &table, "M\t255", "set\t0\n"),
-        deep("255 levels of structs, C", &table, "C\t255", "yes\n"),
-        deep("255 levels of arrays, C", &arrays, "C\t255", "yes\n"),
+        case(&format!("a way of {LAST} places"), &table, "S", &entry),
+        case(&format!("two ways of {LAST} places"), &twice, "S", &both),
+        case(&format!("{LAST} levels"), &table, "M", "set\t0\n"),
+        case(&format!("{LAST} levels of structs"), &table, "C", "yes\n"),
     ]
+}
+
+/// Arrays, each of the one below.
+fn arrays() -> Deep {
+    let mut table = "typetable\t1\nT\tbasic\t2\n".to_owned();
+    for below in 0..LAST {
+        table += &format!("T\tarray\t1\t{below}\n");
+    }
+    let name = format!("{LAST} levels of arrays, C");
+    deep(&name, &table, &format!("C\t{LAST}"), "yes\n")
 }
 
 impl Deep {

@@ -1,6 +1,7 @@
 //! Stored inputs of the program `typeask` with what it prints, and stored calls: the sample in `testdata`, which
 //! tools/host_sample.py makes, and the vectors where they are at hand.
 
+use crate::due;
 use std::io::{self, Write};
 use std::path::{Path, PathBuf};
 use std::{env, fs};
@@ -17,8 +18,8 @@ fn vectors() -> Option<PathBuf> {
     folder("TYPEASK_VECTORS", "../shared/vectors")
 }
 
-/// The folder of document 02's vectors, if it is at hand: `TYPEASK_VECTORS_02`, or `../shared/vectors02`. Its pair `2`
-/// has what is due with points 1 and 2 in force, `1` what is due with point 1.
+/// The folder of document 02's vectors, if it is at hand: `TYPEASK_VECTORS_02`, or `../shared/vectors02`. Each pair of
+/// files has what is due with the points up to its number in force.
 fn vectors_02() -> Option<PathBuf> {
     folder("TYPEASK_VECTORS_02", "../shared/vectors02")
 }
@@ -48,27 +49,15 @@ pub fn cases() -> Vec<Case> {
     if let Some(folder) = vectors() {
         let names = ["small", "mixed", "damaged"];
         let base = names.iter().flat_map(|name| cases_of(&folder, name));
-        cases.extend(base.filter(|case| still_due(&case.output)));
+        cases.extend(base.filter(|case| due::of_base(&case.output)));
     }
     if let Some(folder) = vectors_02() {
-        cases.extend(cases_of(&folder, "2"));
-        let of_point_1 = cases_of(&folder, "1").into_iter();
-        cases.extend(of_point_1.filter(|case| !lists(&case.output)));
+        cases.extend(cases_of(&folder, "4"));
+        let [of_1, of_2] = ["1", "2"].map(|name| cases_of(&folder, name).into_iter());
+        cases.extend(of_1.filter(|case| due::of_point_1(&case.output)));
+        cases.extend(of_2.filter(|case| due::of_point_2(&case.output)));
     }
     cases
-}
-
-/// Whether what the base gave is due: point 1 of document 02 changes every answer `ambiguous`, and point 2 may change a
-/// method set that lists something.
-pub fn still_due(output: &[u8]) -> bool {
-    let mut lines = output.split(|&b| b == b'\n');
-    !lists(output) && !lines.any(|line| line.starts_with(b"ambiguous\t"))
-}
-
-/// Whether a method set that lists something is among the answers.
-fn lists(output: &[u8]) -> bool {
-    let mut lines = output.split(|&b| b == b'\n');
-    lines.any(|line| line.starts_with(b"sel\t"))
 }
 
 /// The stored calls of the sample, a line each.

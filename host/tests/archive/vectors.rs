@@ -1,7 +1,8 @@
 //! What `typeask` prints, put together from calls, against what is stored.
 
+use crate::due;
 use crate::lent::asked;
-use crate::stored::{base_calls, calls, cases, say, still_due};
+use crate::stored::{base_calls, calls, cases, say};
 use crate::typeask;
 use std::collections::BTreeSet;
 use yifgrun::WORK_WORDS;
@@ -47,6 +48,16 @@ impl Call<'_> {
         }
     }
 
+    /// What comes back, as `typeask` prints it.
+    fn printed(&self) -> Vec<u8> {
+        match u64::try_from(-self.number) {
+            Ok(refused @ 1..) => {
+                format!("refused\t{}\t{}\n", refused / 65_536, refused % 65_536).into_bytes()
+            }
+            _ => self.answer.clone(),
+        }
+    }
+
     fn run(&self) {
         let mut answer = vec![0; self.room];
         let result = asked(
@@ -79,7 +90,7 @@ fn bytes(digits: &str) -> Vec<u8> {
 fn stored_calls_return_what_is_stored() {
     let (sample, base) = (calls(), base_calls().unwrap_or_default());
     let mut calls: Vec<Call> = base.lines().map(Call::of).collect();
-    calls.retain(|call| still_due(&call.answer));
+    calls.retain(|call| due::of_base(&call.printed()));
     calls.extend(sample.lines().map(Call::of));
     calls.iter().for_each(Call::run);
     let answered = |by: &[u8]| {

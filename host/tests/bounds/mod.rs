@@ -4,12 +4,12 @@
 #![allow(dead_code)]
 
 pub const PACKAGES: usize = 64;
-pub const TYPES: usize = 256;
-pub const MEMBERS: usize = 1_024;
+pub const TYPES: usize = 512;
+pub const MEMBERS: usize = 2_048;
 pub const MEMBERS_OF_ONE: usize = 255;
 
 /// The bytes of a table, and of all that `typeask` reads.
-pub const TEXT: usize = 32_768;
+pub const TEXT: usize = 65_536;
 
 /// The bytes of a question.
 pub const QUESTION: usize = 256;

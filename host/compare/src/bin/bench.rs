@@ -28,6 +28,11 @@ fn main() {
         write_tables(Path::new(&folder)).expect("the tables are written");
         return;
     }
+    engine::on_large_stack(time_all);
+}
+
+/// Prints a row for each case and engine.
+fn time_all() {
     if engine::goscript().is_none() {
         println!("{}", engine::NOT_AT_HAND);
     }

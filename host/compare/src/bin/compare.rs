@@ -23,22 +23,8 @@ fn main() -> ExitCode {
     let mut agreed = Agreed::default();
     for n in 0..count {
         let mut prng = Prng::new(seed ^ n.wrapping_mul(0xd134_2543_de82_ef95));
-        let shapes = [
-            Shape::tiny,
-            Shape::tiny,
-            Shape::small,
-            Shape::middle,
-            Shape::largest,
-        ];
-        let shape = shapes[prng.below(shapes.len())]();
-        let table = random::table(&mut prng, &shape);
-        let questions = if table.types.len() <= 10 {
-            random::all_questions(&table)
-        } else {
-            random::questions(&mut prng, &table, 100)
-        };
+        let (text, questions) = asked(&mut prng);
         let engines = (goscript.as_mut(), library.as_mut());
-        let text = table.to_string();
         if let Err(difference) = side_by_side::hold(engines, &text, &questions, &mut agreed) {
             println!("table {n} of seed {seed}\n{difference}");
             return ExitCode::FAILURE;
@@ -51,4 +37,23 @@ fn main() -> ExitCode {
     println!("seed {seed}: {count} tables, questions: {letters:?}");
     println!("every answer agrees with goscript's: {agreed}");
     ExitCode::SUCCESS
+}
+
+/// A random table, and the questions on it.
+fn asked(prng: &mut Prng) -> (String, Vec<String>) {
+    let shapes = [
+        Shape::tiny,
+        Shape::tiny,
+        Shape::small,
+        Shape::middle,
+        Shape::largest,
+    ];
+    let shape = shapes[prng.below(shapes.len())]();
+    let table = random::table(prng, &shape);
+    let questions = if table.types.len() <= 10 {
+        random::all_questions(&table)
+    } else {
+        random::questions(prng, &table, 100)
+    };
+    (table.to_string(), questions)
 }

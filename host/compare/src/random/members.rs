@@ -1,7 +1,6 @@
 //! The fields and methods of a random table.
 
 use super::maker::{Maker, Plan};
-use crate::bounds;
 use crate::table::{Kind, Member};
 
 /// Few names, so that they meet; exported or not, and the blank one.
@@ -155,7 +154,7 @@ impl Maker<'_> {
     }
 
     fn has_room(&self) -> bool {
-        self.members.iter().map(Vec::len).sum::<usize>() < bounds::MEMBERS
+        self.members.iter().map(Vec::len).sum::<usize>() < self.shape.all_members
     }
 
     /// Whether a type may have this member beside those it has and, if it is named, those of its struct.

@@ -17,8 +17,9 @@ pub struct Shape {
     /// The fewest types, at least three, and the most.
     pub least_types: usize,
     pub types: usize,
-    /// The most members of one type.
+    /// The most members of one type, and of all.
     pub members: usize,
+    pub all_members: usize,
     /// The most bytes of the text.
     pub bytes: usize,
     /// Whether names have up to 36 bytes, or five.
@@ -33,6 +34,7 @@ impl Shape {
             least_types: 3,
             types: 10,
             members: 4,
+            all_members: bounds::MEMBERS,
             bytes: 2_048,
             long_names: false,
         }
@@ -45,6 +47,7 @@ impl Shape {
             least_types: 3,
             types: 40,
             members: 5,
+            all_members: bounds::MEMBERS,
             bytes: 8_192,
             long_names: false,
         }
@@ -57,20 +60,33 @@ impl Shape {
             least_types: 40,
             types: 120,
             members: 6,
+            all_members: bounds::MEMBERS,
             bytes: 16_384,
             long_names: false,
         }
     }
 
-    /// A table as large as the papers allow.
-    pub fn largest() -> Shape {
+    /// A table as large as the papers allowed before point 4 of document 02.
+    pub fn large() -> Shape {
         Shape {
             packages: bounds::PACKAGES,
+            least_types: 256,
+            types: 256,
+            members: 24,
+            all_members: 1_024,
+            bytes: 32_768,
+            long_names: true,
+        }
+    }
+
+    /// A table as large as they allow.
+    pub fn largest() -> Shape {
+        Shape {
             least_types: bounds::TYPES,
             types: bounds::TYPES,
-            members: 24,
+            all_members: bounds::MEMBERS,
             bytes: bounds::TEXT,
-            long_names: true,
+            ..Shape::large()
         }
     }
 }

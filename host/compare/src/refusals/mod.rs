@@ -74,7 +74,7 @@ fn in_place(table: &Table, line: &Line) -> bool {
     }
 }
 
-/// "A 65th package, 257th type, 1,025th member, or 256th member of one type".
+/// "A 65th package, 513th type, 2,049th member, or 256th member of one type".
 fn has_room(table: &Table, line: &Line) -> bool {
     match line {
         Line::Package(_) => table.packages.len() < bounds::PACKAGES,

@@ -26,11 +26,12 @@ pub fn towers(levels: usize) -> [Case; 3] {
     ]
 }
 
-/// Two rings of interfaces, of 42 and 43, each with a method that takes the next: 1,806 pairs are met.
-pub fn rings() -> Case {
+/// Two rings of interfaces, of these lengths, each with a method that takes the next. Where the lengths have no common factor, as many pairs are met as their
+/// product says.
+pub fn rings(lengths: [usize; 2]) -> Case {
     let mut table = Table::default();
     let none = table.put(Kind::Tuple(Vec::new()), []);
-    let mut ring = |length: usize| {
+    let [one, other] = lengths.map(|length| {
         let first = table.types.len();
         for k in 0..length {
             let (iface, next) = (first + 3 * k, first + 3 * ((k + 1) % length));
@@ -39,18 +40,27 @@ pub fn rings() -> Case {
             table.put(Kind::Func(false, iface + 1, none), []);
         }
         first
-    };
-    let (one, other) = (ring(42), ring(43));
-    let question = format!("I\t{one}\t{other}");
-    Case::new("rings of 42 and 43 interfaces, I", &table, vec![question])
+    });
+    let name = format!("rings of {} and {} interfaces, I", lengths[0], lengths[1]);
+    Case::new(name, &table, vec![format!("I\t{one}\t{other}")])
 }
 
-/// 207 interfaces of two methods, whose funcs take one of 24 tuples of 250 interfaces: 38,256 pairs of interfaces are met
-/// within one another.
-pub fn nested_pairs() -> Case {
-    const TUPLES: usize = 24;
-    let ifaces = 256 - 2 * TUPLES - 1;
-    let mut state = 88_172_645_463_325_252_u64 ^ 24_252_324;
+/// The size of a table of nested pairs.
+pub struct Nest {
+    pub types: usize,
+    /// The tuples of interfaces, and the interfaces in each.
+    pub tuples: usize,
+    pub entries: usize,
+    /// How many pairs of interfaces are then met within one another, where x with y and y with x are two.
+    pub pairs: &'static str,
+}
+
+/// Interfaces of two methods, whose funcs take one of the tuples.
+pub fn nested_pairs(nest: &Nest) -> Case {
+    let (tuples, entries) = (nest.tuples, nest.entries);
+    let ifaces = nest.types - 2 * tuples - 1;
+    let seed = tuples * 1_000_003 + entries * 1_009 + 2;
+    let mut state = 88_172_645_463_325_252 ^ seed as u64;
     let mut below = |end: usize| {
         state ^= state << 13;
         state ^= state >> 7;
@@ -59,21 +69,19 @@ pub fn nested_pairs() -> Case {
     };
     let mut table = Table::default();
     for _ in 0..ifaces {
-        let funcs = ["A", "B"].map(|name| method(name, ifaces + 1 + TUPLES + below(TUPLES)));
+        let funcs = ["A", "B"].map(|name| method(name, ifaces + 1 + tuples + below(tuples)));
         table.put(Kind::Iface, funcs);
     }
     let none = table.put(Kind::Tuple(Vec::new()), []);
-    for _ in 0..TUPLES {
-        table.put(Kind::Tuple((0..250).map(|_| below(ifaces)).collect()), []);
+    for _ in 0..tuples {
+        let taken = (0..entries).map(|_| below(ifaces)).collect();
+        table.put(Kind::Tuple(taken), []);
     }
-    for tuple in 0..TUPLES {
+    for tuple in 0..tuples {
         table.put(Kind::Func(false, ifaces + 1 + tuple, none), []);
     }
-    Case::new(
-        "38,256 nested pairs of interfaces, I",
-        &table,
-        vec!["I\t0\t1".to_owned()],
-    )
+    let name = format!("{} nested pairs of interfaces, I", nest.pairs);
+    Case::new(name, &table, vec!["I\t0\t1".to_owned()])
 }
 
 /// Two structs of 255 fields, and pointers to them: the structs differ in the tag of the last field, or in nothing. The types

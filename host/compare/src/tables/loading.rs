@@ -4,7 +4,7 @@ use super::{field, Case};
 use crate::table::{Kind, Table};
 
 /// Texts that take long to load, with the question V.
-pub fn long_loads() -> [Case; 4] {
+pub fn long_loads() -> [Case; 3] {
     let counts = || vec!["V".to_owned()];
     let mut alike = Table::default();
     let int = alike.put(Kind::Basic(2), []);
@@ -23,13 +23,17 @@ pub fn long_loads() -> [Case; 4] {
     }
     rising.put(Kind::Named(255), []);
     rising.put(Kind::Basic(2), []);
-    let mut tuple = Table::default();
-    let int = tuple.put(Kind::Basic(2), []);
-    tuple.put(Kind::Tuple(vec![int; 16_368]), []);
     [
         Case::new("255 fields whose names share 61 bytes, V", &alike, counts()),
         Case::new("four structs of 255 fields, V", &many, counts()),
         Case::new("a chain by value of rising numbers, V", &rising, counts()),
-        Case::new("a tuple of 16,368 elements, V", &tuple, counts()),
     ]
+}
+
+/// One tuple of so many elements.
+pub fn long_tuple(name: &str, elements: usize) -> Case {
+    let mut table = Table::default();
+    let int = table.put(Kind::Basic(2), []);
+    table.put(Kind::Tuple(vec![int; elements]), []);
+    Case::new(name, &table, vec!["V".to_owned()])
 }

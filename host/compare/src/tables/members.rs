@@ -1,50 +1,43 @@
 //! Tables that are hard on S and M.
 
 use super::{field, method, Case};
+use crate::bounds;
 use crate::table::{Kind, Member, Table};
 
-/// 255 structs, each embedded in the next, with a field in the first.
-pub fn chain() -> [Case; 2] {
+/// So many structs, each embedded in the next, with a field in the first.
+pub fn chain(structs: usize) -> [Case; 2] {
     let mut table = Table::default();
     let int = table.put(Kind::Basic(2), []);
     let first = table.put_struct([field("X", int, false)]);
-    let last = (1..255).fold(first, |below, _| {
+    let last = (1..structs).fold(first, |below, _| {
         table.put_struct([field("E", below, true)])
     });
-    [
-        Case::new(
-            "chain of 255 structs, S",
-            &table,
-            vec![format!("S\t{last}\t0\t-\tX")],
-        ),
-        Case::new(
-            "chain of 255 structs, M",
-            &table,
-            vec![format!("M\t{last}")],
-        ),
-    ]
+    let name = format!("chain of {structs} structs");
+    select_and_list(&name, &table, last, "X")
 }
 
-/// 64 levels of two structs, each of which embeds both of the level below.
-pub fn lattice() -> [Case; 2] {
+/// So many levels of two structs, each of which embeds both of the level below.
+pub fn lattice(levels: usize) -> [Case; 2] {
     let names = [["A", "B"], ["C", "D"]];
     let mut table = Table::default();
     let int = table.put(Kind::Basic(2), []);
     let mut below =
         names.map(|[name, _]| table.put_struct([field("X", int, false), field(name, int, false)]));
-    for _ in 0..64 {
+    for _ in 0..levels {
         below = names.map(|[left, right]| {
             table.put_struct([field(left, below[0], true), field(right, below[1], true)])
         });
     }
-    let top = below[0];
+    let name = format!("lattice of {levels} levels");
+    select_and_list(&name, &table, below[0], "X")
+}
+
+/// The question S for a member of a type, and the question M.
+fn select_and_list(name: &str, table: &Table, t: usize, member: &str) -> [Case; 2] {
+    let case = |letter, question| Case::new(format!("{name}, {letter}"), table, vec![question]);
     [
-        Case::new(
-            "lattice of 64 levels, S",
-            &table,
-            vec![format!("S\t{top}\t0\t-\tX")],
-        ),
-        Case::new("lattice of 64 levels, M", &table, vec![format!("M\t{top}")]),
+        case("S", format!("S\t{t}\t0\t-\t{member}")),
+        case("M", format!("M\t{t}")),
     ]
 }
 
@@ -59,14 +52,7 @@ pub fn wide() -> [Case; 2] {
         .map(|k| field(format!("E{k}"), types[k % types.len()], true))
         .collect();
     let top = table.put_struct(fields);
-    [
-        Case::new(
-            "255 embedded fields, S",
-            &table,
-            vec![format!("S\t{top}\t0\t-\tF252")],
-        ),
-        Case::new("255 embedded fields, M", &table, vec![format!("M\t{top}")]),
-    ]
+    select_and_list("255 embedded fields", &table, top, "F252")
 }
 
 /// One struct that embeds two, each of which embeds the same 120 types: a member of the last of these is ambiguous.
@@ -112,29 +98,28 @@ pub fn one_receiver() -> Case {
     Case::new("900 S on one receiver", &table, questions)
 }
 
-/// One struct that embeds 252 named types of three methods each, all of which its set has.
-pub fn wide_methods() -> Case {
+/// A struct that embeds so many named types of three methods each, all of which its set has: itself, or through a struct
+/// for each 250 or so where one has no room for so many fields.
+pub fn wide_methods(count: usize) -> Case {
     let mut table = Table::default();
     let none = table.put(Kind::Tuple(Vec::new()), []);
     let func = table.put(Kind::Func(false, none, none), []);
     let empty = table.put_struct([]);
-    let types: Vec<usize> = (0..252)
+    let mut embedded: Vec<usize> = (0..count)
         .map(|k| {
             let methods = (0..3).map(|n| method(format!("M{}", 3 * k + n), func));
             table.put(Kind::Named(empty), methods)
         })
         .collect();
-    let fields: Vec<Member> = types
-        .iter()
-        .map(|&t| field(format!("E{t}"), t, true))
-        .collect();
-    let top = table.put_struct(fields);
-    let question = format!("M\t{top}");
-    Case::new(
-        "756 methods of 252 embedded types, M",
-        &table,
-        vec![question],
-    )
+    while embedded.len() > 1 {
+        let structs = embedded.len().div_ceil(bounds::MEMBERS_OF_ONE);
+        embedded = embedded
+            .chunks(embedded.len().div_ceil(structs))
+            .map(|types| table.put_struct(types.iter().map(|&t| field(format!("E{t}"), t, true))))
+            .collect();
+    }
+    let name = format!("{} methods of {count} embedded types, M", 3 * count);
+    Case::new(name, &table, vec![format!("M\t{}", embedded[0])])
 }
 
 /// 127 named types, each embedded in the next, with seven methods each that hide those below.

@@ -4,12 +4,11 @@ mod identity;
 mod loading;
 mod members;
 
-use crate::bounds;
 use crate::prng::Prng;
 use crate::random::{self, Shape};
 use crate::table::{Kind, Member, Table};
-use identity::{long_structs, nested_pairs, rings, towers};
-use loading::long_loads;
+use identity::{long_structs, nested_pairs, rings, towers, Nest};
+use loading::{long_loads, long_tuple};
 use members::{chain, deep_methods, lattice, one_receiver, wide, wide_diamond, wide_methods};
 
 /// A table text and questions on it.
@@ -42,30 +41,64 @@ impl Case {
 /// Every case that is timed.
 pub fn cases() -> Vec<Case> {
     let mut cases = vec![worked()];
-    for levels in [16, TOWER] {
-        cases.extend(towers(levels));
-    }
-    cases.extend(towers(85).map(Case::without_goscript));
-    cases.push(rings());
-    cases.push(nested_pairs().without_goscript());
+    cases.extend(identity_cases());
+    cases.extend(member_cases());
+    cases.extend(random_cases());
+    cases.extend(long_loads());
+    // 32,766 bytes, and as many as a text may have
+    cases.push(long_tuple("a tuple of 16,368 elements, V", 16_368));
+    cases.push(long_tuple("a tuple of 32,753 elements, V", 32_753));
+    cases
+}
+
+/// Each at the size that 256 types have room for, and at that of 512.
+fn identity_cases() -> Vec<Case> {
+    let nests = [
+        Nest {
+            types: 256,
+            tuples: 24,
+            entries: 250,
+            pairs: "38,256",
+        },
+        Nest {
+            types: 512,
+            tuples: 44,
+            entries: 225,
+            pairs: "150,290",
+        },
+    ];
+    let mut cases: Vec<Case> = [16, TOWER].into_iter().flat_map(towers).collect();
+    let high = [85, 170].into_iter().flat_map(towers);
+    cases.extend(high.map(Case::without_goscript));
+    cases.extend([[42, 43], [84, 85]].map(rings));
+    cases.extend(
+        nests
+            .iter()
+            .map(|nest| nested_pairs(nest).without_goscript()),
+    );
     cases.extend(long_structs());
-    cases.extend(chain());
-    cases.extend(lattice());
+    cases
+}
+
+/// Those of a size likewise.
+fn member_cases() -> Vec<Case> {
+    let mut cases = Vec::new();
+    cases.extend([255, 511].into_iter().flat_map(chain));
+    cases.extend([64, 128].into_iter().flat_map(lattice));
     cases.extend(wide());
     cases.push(wide_diamond());
     cases.push(one_receiver());
-    cases.push(wide_methods());
+    cases.extend([252, 500].map(wide_methods));
     cases.push(deep_methods());
-    cases.push(random_text(
-        "random table of 40 to 120 types",
-        &Shape::middle(),
-    ));
-    cases.push(random_text(
-        &format!("random table of {} types", bounds::TYPES),
-        &Shape::largest(),
-    ));
-    cases.extend(long_loads());
     cases
+}
+
+fn random_cases() -> [Case; 3] {
+    [
+        random_text("random table of 40 to 120 types", &Shape::middle()),
+        random_text("random table of 256 types", &Shape::large()),
+        random_text("random table of 512 types", &Shape::largest()),
+    ]
 }
 
 /// The most levels of a tower that goscript climbs within seconds.

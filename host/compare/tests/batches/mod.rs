@@ -10,8 +10,8 @@ pub fn vectors() -> Option<PathBuf> {
     folder("TYPEASK_VECTORS", "../shared/vectors")
 }
 
-/// The folder of document 02's vectors, if it is at hand: `TYPEASK_VECTORS_02`, or `../shared/vectors02`. Its pair `2`
-/// has what is due with points 1 and 2 in force, `1` what is due with point 1.
+/// The folder of document 02's vectors, if it is at hand: `TYPEASK_VECTORS_02`, or `../shared/vectors02`. Each pair of
+/// files has what is due with the points up to its number in force.
 pub fn vectors_02() -> Option<PathBuf> {
     folder("TYPEASK_VECTORS_02", "../shared/vectors02")
 }
