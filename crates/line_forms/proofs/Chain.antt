@@ -3,8 +3,9 @@ use mathlib.Core.Path.{_≡_, refl, sym, ap, _∙_}
 use mathlib.Core.Bool.{Bool, true, false, not}
 use mathlib.Core.List.{List, [], _∷_}
 use mathlib.Core.Option.{Option, none, some}
-use Prim.Native.Nat.{ℕ, _≤_}
+use Prim.Native.Nat.{ℕ, suc, _+_, _≤_}
 use native.Mathlib.Omega.{arith}
+use lib.ListN.{length}
 use Rattle.objects.specs.declared.TypeKey.{TypeKey}
 use Rattle.objects.specs.declared.PackageKey.{PackageKey}
 use Rattle.objects.specs.declared.«Package».{«Package»}
@@ -112,9 +113,9 @@ module _ (s : Bytes) {A : Type 0} (w : Bytes) (fs : List Bytes) (on : List Bytes
       go [] h = refl
       go (b ∷ l) h = cases (sameBytes b w) (λ e. none-some (sym (rw e at h))) (λ e. rw e)
 
--- what stands behind it weighs less
-pub word-less : (s w : Bytes) (fs : List Bytes) {r : Past} → pastRead s r ≡ exactly w fs → {c : Cursor} → r ≡ Past.To c → weight (fieldsLeft s c) ≤ weight fs
-word-less s w fs {r} p {c} q = let e = ap weight (exactly-some w fs (past-on s r p q)) in omega arith
+-- what stands behind it weighs less by the word
+pub word-takes : (s w : Bytes) (fs : List Bytes) {r : Past} → pastRead s r ≡ exactly w fs → {c : Cursor} → r ≡ Past.To c → suc (length w) + weight (fieldsLeft s c) ≤ weight fs
+word-takes s w fs {r} p {c} q = let e = ap weight (exactly-some w fs (past-on s r p q)) in omega arith
 
 -- ---- a form
 

@@ -1,7 +1,7 @@
 -- What the answers of the code mean: names, paths and tags are a place and a length in the text, keys and kinds are numbers of a row.
 use mathlib.Core.List.{List, []}
 use mathlib.Core.Option.{Option, none, some}
-use Prim.Native.Nat.{ℕ}
+use Prim.Native.Nat.{ℕ, _+_}
 use Rattle.objects.specs.declared.TypeKey.{TypeKey}
 use Rattle.objects.specs.declared.PackageKey.{PackageKey}
 use Rattle.objects.specs.Lists.{Bytes, mapped}
@@ -43,11 +43,11 @@ module _ (text : Bytes) where
       some (memberLine (bytesAt text name count) (packageMeant pkg) (typeKey t) (entityOf form (bytesAt text tag width)))
   formMeant Form.Wrong = none
 
-  -- the weight of the fields that a tuple's elements are still to be read from
+  -- the weight of a tuple's letter and word, and of the fields that its elements are still to be read from
   unfoldable pub unread : Form → ℕ
   unread (Form.«Package» at count) = 0
   unread (Form.«Type» kind a b c) = 0
-  unread (Form.Tuple c) = weight (fieldsLeft text c)
+  unread (Form.Tuple c) = 8 + weight (fieldsLeft text c)
   unread (Form.Member name count pkg t form tag width) = 0
   unread Form.Wrong = 0
 

@@ -1,4 +1,4 @@
--- How long a line is and how much it brings: its bytes bound its members and elements (proofs/Weights.antt).
+-- How long a line is and how much it brings: its bytes bound its types, members and elements (proofs/Weights.antt).
 use mathlib.Core.List.{List, [], _∷_}
 use mathlib.Core.Option.{Option, none, some}
 use Prim.Native.Nat.{ℕ, suc, _+_}
@@ -12,7 +12,7 @@ abbrev pub weight : List Bytes → ℕ
 weight [] = 0
 weight (b ∷ fs) = suc (length b) + weight fs
 
--- ---- members, and elements of tuples
+-- ---- types, members, and elements of tuples
 
 unfoldable pub tupleSize : Kind → ℕ
 tupleSize (Basic k) = 0
@@ -27,7 +27,16 @@ tupleSize (Struct ms) = 0
 tupleSize (Iface ms) = 0
 tupleSize (Named u ms) = 0
 
--- how many members and elements a line brings
+-- how many types, members and elements a line brings
+unfoldable pub lineTypes : Line → ℕ
+lineTypes (packageLine path) = 0
+lineTypes (typeLine k) = 1
+lineTypes (memberLine name pkg type e) = 0
+
+unfoldable pub typesIn : Option Line → ℕ
+typesIn none = 0
+typesIn (some l) = lineTypes l
+
 unfoldable pub lineMembers : Line → ℕ
 lineMembers (packageLine path) = 0
 lineMembers (typeLine k) = 0

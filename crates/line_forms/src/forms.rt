@@ -1,6 +1,6 @@
 // The form of a line (4), letter by letter and kind by kind. A tuple's elements are still to be read: `unread` bounds them by the bytes of the line.
 ghost use mathlib.Core.Path.{_≡_};
-ghost use Prim.Native.Nat.{_≤_};
+ghost use Prim.Native.Nat.{_+_, _≤_};
 ghost use lib.ListN.{length};
 ghost use Rattle.objects.specs.Bounds.{maxText};
 ghost use Rattle.text.specs.Cursors.{fieldsLeft};
@@ -106,7 +106,7 @@ fn last_kinds(s: &[u8], c: Cursor) -> Form
 
 fn next_kinds(s: &[u8], c: Cursor) -> Form
     ensures { λ r. ⌜ formRead (now (s .entry)) r ≡ nextKinds (fieldsLeft (now (s .entry)) c) ⌝ }
-    ensures { λ r. ⌜ unread (now (s .entry)) r ≤ weight (fieldsLeft (now (s .entry)) c) ⌝ }
+    ensures { λ r. ⌜ unread (now (s .entry)) r ≤ 2 + weight (fieldsLeft (now (s .entry)) c) ⌝ }
 {
     if let Past::To(d) = c.word(s, b"map") {
         return two(s, d, 4, MAX_REFERENCE);
@@ -125,7 +125,7 @@ fn next_kinds(s: &[u8], c: Cursor) -> Form
 
 fn type_line(s: &[u8], c: Cursor) -> Form
     ensures { λ r. ⌜ formRead (now (s .entry)) r ≡ typeRest (fieldsLeft (now (s .entry)) c) ⌝ }
-    ensures { λ r. ⌜ unread (now (s .entry)) r ≤ weight (fieldsLeft (now (s .entry)) c) ⌝ }
+    ensures { λ r. ⌜ unread (now (s .entry)) r ≤ 2 + weight (fieldsLeft (now (s .entry)) c) ⌝ }
 {
     if let Past::To(d) = c.word(s, b"basic") {
         return one(s, d, 0, MAX_BASIC);

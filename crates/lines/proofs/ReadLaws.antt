@@ -9,13 +9,14 @@ use native.Mathlib.Omega.{arith}
 use lib.Dec.{eqb}
 use lib.ListN.{length, getD, take, drop, replicate, getD-replicate, length-take, length-drop, length-append, take-append-drop}
 use borrow.Author.Tests.{eq-eqb, ne-eqb, eqb-true, lt-ltb, le-ltb}
-use Rattle.objects.specs.Bounds.{maxText, membersAt, bounds}
+use Rattle.objects.specs.Bounds.{maxText, typesAt, bounds}
 use Rattle.objects.specs.Lists.{Bytes, empty, any}
-use Rattle.objects.specs.Table.{Table, memberCount}
-use Rattle.objects.specs.Rows.{Words, wordAt, memberCountOf, elementCount, tableOf}
+use Rattle.objects.specs.Table.{Table, size, memberCount, objKey, withMember}
+use Rattle.objects.specs.Rows.{Words, wordAt, typeCount, memberCountOf, elementCount, tableOf}
 use Rattle.objects.specs.Laid.{Laid}
 use Rattle.objects.proofs.ListLaws.{cases, clash, or-l, or-r}
-use Rattle.objects.proofs.RowLaws.{member-count-read}
+use Rattle.objects.proofs.PartLaws.{onLast-length}
+use Rattle.objects.proofs.RowLaws.{size-read, member-count-read}
 use Rattle.objects.proofs.Writing.{zeros-hold}
 use Rattle.text.specs.declared.Cursor.{Cursor}
 use Rattle.text.specs.Bytes.{ascii, sameBytes}
@@ -26,7 +27,7 @@ use Rattle.text.proofs.LineLaws.{Free, split-at, split-first}
 use Rattle.text.proofs.LineEnds.{pieces-at, line-within}
 use Rattle.rules.specs.Forms.{Line, packageLine, typeLine, memberLine, lineOf}
 use Rattle.rules.specs.Load.{Loaded, refused, loaded, added, inPlace, hasRoom, lineAdded, linesFrom, thenChecked, noTable, headed, loadWithin, load}
-use Rattle.line_forms.specs.Weights.{weight, lineMembers, membersIn}
+use Rattle.line_forms.specs.Weights.{weight, lineTypes, typesIn, lineMembers, membersIn}
 use Rattle.line_forms.proofs.Weights.{fields-weight, brought}
 use Rattle.lines.specs.declared.Verdict.{Verdict}
 use Rattle.lines.specs.Adding.{verdictMeant, bytesTaken, Grown}
@@ -96,32 +97,44 @@ module _ (text : Bytes) where
 
 -- ---- what a line brings
 
--- the members of a table that was loaded
-abbrev membersLoaded : Loaded → ℕ
-membersLoaded (refused n line) = 0
-membersLoaded (loaded T) = memberCount T
+-- what is counted in a table grows by what the line brings of it
+module _ (count : Table → ℕ) (brings : Option Line → ℕ) (more : (T : Table) (line : ℕ) (l : Line) → count (added T line l) ≡ count T + brings (some l)) where
+  counted : Loaded → ℕ
+  counted (refused n line) = 0
+  counted (loaded T) = count T
 
-members-added : (T : Table) (line : ℕ) (l : Line) → memberCount (added T line l) ≡ memberCount T + lineMembers l
-unfolding added lineMembers
+  count-few : (T : Table) (line : ℕ) (o : Option Line) → counted (lineAdded bounds T line o) ≤ count T + brings o
+  unfolding counted
+  count-few T line none = omega arith
+  count-few T line (some l) =
+      let m = more T line l in
+      cases (inPlace T l) (λ e. cases (hasRoom bounds T l) (λ h. rw (e, h) (omega arith)) (λ h. rw (e, h) (omega arith))) (λ e. rw e (omega arith))
+
+  count-grown : (text : Bytes) (rows after : Words) (line : ℕ) (o : Option Line) → Grown text rows line o after Verdict.Added → count (tableOf text after) ≤ count (tableOf text rows) + brings o
+  unfolding verdictMeant counted
+  count-grown text rows after line o g =
+      let w = count-few (tableOf text rows) line o in
+      let e = ap counted (g .meant) in
+      omega arith
+
+members-added : (T : Table) (line : ℕ) (l : Line) → memberCount (added T line l) ≡ memberCount T + membersIn (some l)
+unfolding added membersIn lineMembers
 members-added T line (packageLine path) = omega arith
 members-added T line (typeLine k) = omega arith
 members-added T line (memberLine name pkg type e) = length-append (T .memberLines) (line ∷ [])
 
-members-few : (T : Table) (line : ℕ) (o : Option Line) → membersLoaded (lineAdded bounds T line o) ≤ memberCount T + membersIn o
-unfolding membersIn
-members-few T line none = omega arith
-members-few T line (some l) =
-    let m = members-added T line l in
-    cases (inPlace T l) (λ e. cases (hasRoom bounds T l) (λ h. rw (e, h) (omega arith)) (λ h. rw (e, h) (omega arith))) (λ e. rw e (omega arith))
+types-added : (T : Table) (line : ℕ) (l : Line) → size (added T line l) ≡ size T + typesIn (some l)
+unfolding added typesIn lineTypes
+types-added T line (packageLine path) = omega arith
+types-added T line (typeLine k) = length-append (T .types) (k ∷ [])
+types-added T line (memberLine name pkg type e) = let l = onLast-length (withMember (record { key = objKey (memberCount T); name = name; pkg = pkg; type = type; entity = e })) (T .types) in omega arith
 
-members-grown : (text : Bytes) (rows after : Words) (line : ℕ) (o : Option Line) → Grown text rows line o after Verdict.Added → memberCountOf after ≤ memberCountOf rows + membersIn o
-unfolding verdictMeant
-members-grown text rows after line o g =
-    let w = members-few (tableOf text rows) line o in
-    let e = ap membersLoaded (g .meant) in
-    let a = member-count-read text after in
-    let b = member-count-read text rows in
-    omega arith
+module _ (text : Bytes) (rows after : Words) (line : ℕ) (o : Option Line) (g : Grown text rows line o after Verdict.Added) where
+  members-grown : memberCountOf after ≤ memberCountOf rows + membersIn o
+  members-grown = let h = count-grown memberCount membersIn members-added text rows after line o g in let a = member-count-read text after in let b = member-count-read text rows in omega arith
+
+  types-grown : typeCount after ≤ typeCount rows + typesIn o
+  types-grown = let h = count-grown size typesIn types-added text rows after line o g in let a = size-read text after in let b = size-read text rows in omega arith
 
 -- ---- what is left
 
@@ -197,6 +210,7 @@ module _ (text : Bytes) (at line : ℕ) (T : Table) (within : at ≤ length text
         let w = brought (fieldsLeft text c) in
         let few = g .few in
         let m = members-grown text rows after line (lineOf (fieldsLeft text c)) g in
+        let t = types-grown text rows after line (lineOf (fieldsLeft text c)) g in
         let f = fields-weight (part text at end) in
         let e : weight (fieldsLeft text c) ≡ weight (fields (part text at end)) = ap weight line-left in
         let l = part-length in
@@ -232,12 +246,12 @@ module _ (text : Bytes) (at line : ℕ) (T : Table) (within : at ≤ length text
 
 -- ---- before the first line
 
-pub none-held : (text : Bytes) (rows : Words) → rows ≡ replicate (length rows) 0 → membersAt ≤ length rows → Laid rows × (tableOf text rows ≡ noTable)
+pub none-held : (text : Bytes) (rows : Words) → rows ≡ replicate (length rows) 0 → typesAt ≤ length rows → Laid rows × (tableOf text rows ≡ noTable)
 none-held text rows z h = let k = zeros-hold (length rows) h in (subst Laid (sym z) (k .laid), ap (tableOf text) z ∙ k .held text)
 
-pub none-taken : (rows : Words) → rows ≡ replicate (length rows) 0 → membersAt ≤ length rows → bytesTaken rows ≡ 0
-unfolding memberCountOf elementCount wordAt
-none-taken rows z h = let m = zero-at 2 (omega arith) in let e = zero-at 3 (omega arith) in omega arith
+pub none-taken : (rows : Words) → rows ≡ replicate (length rows) 0 → typesAt ≤ length rows → bytesTaken rows ≡ 0
+unfolding typeCount memberCountOf elementCount wordAt
+none-taken rows z h = let t = zero-at 1 (omega arith) in let m = zero-at 2 (omega arith) in let e = zero-at 3 (omega arith) in omega arith
   where
     zero-at : (i : ℕ) → i < 4 → getD rows i 0 ≡ 0
     zero-at i l = ap (λ r. getD r i 0) z ∙ getD-replicate (length rows) i 0 0 (omega arith)

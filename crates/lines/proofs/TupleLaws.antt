@@ -3,7 +3,7 @@ use mathlib.Core.Path.{_≡_, refl, sym, ap, subst, _∙_}
 use mathlib.Core.Bool.{Bool, true, false, not}
 use mathlib.Core.List.{List, [], _∷_, _++_, append-nil, append-assoc}
 use mathlib.Core.Option.{Option, none, some}
-use Prim.Native.Nat.{ℕ, suc, _+_, _≤_, _<_}
+use Prim.Native.Nat.{ℕ, suc, _+_, _*_, _≤_, _<_}
 use native.Mathlib.Omega.{arith}
 use lib.ListN.{length}
 use Rattle.objects.specs.declared.TypeKey.{TypeKey}
@@ -13,6 +13,7 @@ use Rattle.objects.specs.Lists.{Bytes, empty, lastOr, onLast, when, mapped}
 use Rattle.objects.specs.Table.{Table, Kind, Basic, Array, Slice, Pointer, Map, Chan, Tuple, Func, Struct, Iface, Named, typeKey, kindNumber, Numbered}
 use Rattle.objects.specs.Rows.{Words, typeCount, memberCountOf, elementCount, typeWord, packageMeant, kindOf, elementsFrom, tableOf}
 use Rattle.objects.specs.Laid.{used, Laid, Holds, lastType, elementAdded, plusType, plusElement}
+use Rattle.objects.proofs.RoomLaws.{types-room, members-room}
 use Rattle.objects.proofs.ListLaws.{cases, clash}
 use Rattle.objects.proofs.Numbers.{onLast-at}
 use Rattle.text.specs.declared.Cursor.{Cursor}
@@ -26,11 +27,11 @@ use Rattle.rules.specs.Load.{refused, lastKind, lineAdded}
 use Rattle.line_forms.specs.declared.Small.{Small}
 use Rattle.line_forms.specs.declared.Form.{Form}
 use Rattle.line_forms.specs.Steps.{numbered, allRead, elementsRead, tupleOf}
-use Rattle.line_forms.specs.Weights.{weight, tupleSize, lineMembers, membersIn, lineElements, elementsOf}
+use Rattle.line_forms.specs.Weights.{weight, tupleSize, lineTypes, typesIn, lineMembers, membersIn, lineElements, elementsOf}
 use Rattle.line_forms.specs.Forms.{smallRead, formMeant, unread}
 use Rattle.line_forms.proofs.Weights.{elements-few, brought}
 use Rattle.lines.specs.declared.Verdict.{Verdict}
-use Rattle.lines.specs.Adding.{bytesTaken, withElements, Grown}
+use Rattle.lines.specs.Adding.{bytesTaken, TypeSpace, withElements, Grown}
 use Rattle.lines.proofs.AboveLaws.{lastOr-snoc, tuple-last}
 use Rattle.lines.proofs.AddLaws.{refusing, members-kept, type-full, kind-added}
 
@@ -214,13 +215,27 @@ module _ (s : Bytes) (rows : Words) (fs : List Bytes) (r : Form) (laid : Laid ro
       let one : 1 ≡ membersIn (lineOf fs) = ap membersIn (sym (ap (formMeant s) q) ∙ p) in
       let w = brought fs in
       let m = laid .members in
+      let k = members-room (length rows) (length s) (rowWords * memberCountOf rows + elementCount rows + rowWords) room (omega arith) (omega arith) in
       omega arith
 
+  -- a type's line has 8 bytes
+  space-for-type : 8 ≤ weight fs → TypeSpace rows
+  space-for-type eight few = let k = types-room (length rows) (length s) (rowWords * typeCount rows + rowWords) room (omega arith) (omega arith) in omega arith
+
+  pub type-space : formMeant s r ≡ lineOf fs → {kind a b c : ℕ} → r ≡ Form.«Type» kind a b c → TypeSpace rows
+  unfolding formMeant typesIn lineTypes
+  type-space p q =
+      let one : 1 ≡ typesIn (lineOf fs) = ap typesIn (sym (ap (formMeant s) q) ∙ p) in
+      let w = brought fs in
+      space-for-type (omega arith)
+
   pub tuple-space : unread s r ≤ weight fs → {d : Cursor} → r ≡ Form.Tuple d
-      → (elementCount rows + length (elementsRead (fieldsLeft s d)) ≤ maxElements) × (used rows + length (elementsRead (fieldsLeft s d)) ≤ length rows)
+      → (elementCount rows + length (elementsRead (fieldsLeft s d)) ≤ maxElements) × (used rows + length (elementsRead (fieldsLeft s d)) ≤ length rows) × TypeSpace rows
   unfolding unread
   tuple-space p {d} q =
       let few = elements-few (fieldsLeft s d) in
-      let e : unread s r ≡ weight (fieldsLeft s d) = ap (unread s) q in
+      let e : unread s r ≡ 8 + weight (fieldsLeft s d) = ap (unread s) q in
       let m = laid .members in
-      (omega arith, omega arith)
+      let n = length (elementsRead (fieldsLeft s d)) in
+      let k = members-room (length rows) (length s) (rowWords * memberCountOf rows + elementCount rows + n) room (omega arith) (omega arith) in
+      (omega arith, omega arith, space-for-type (omega arith))

@@ -3,15 +3,16 @@ use mathlib.Core.Path.{_≡_}
 use mathlib.Core.Bool.{Bool, cond, _&&_, _||_}
 use mathlib.Core.List.{List, [], _∷_}
 use mathlib.Core.Option.{Option}
-use Prim.Native.Nat.{ℕ, _+_, _*_, _≤_}
+use Prim.Native.Nat.{ℕ, _+_, _*_, _≤_, _<_}
 use lib.Dec.{eqb, ltb}
+use lib.ListN.{length}
 use Rattle.objects.specs.declared.TypeKey.{TypeKey}
-use Rattle.objects.specs.Bounds.{maxMembers, maxPerType, bounds}
+use Rattle.objects.specs.Bounds.{maxTypes, maxMembers, maxPerType, bounds, rowWords, membersAt}
 use Rattle.objects.specs.Lists.{Bytes}
 use Rattle.objects.specs.Table.{Table}
-use Rattle.objects.specs.Rows.{Words, memberCountOf, elementCount, tableOf}
+use Rattle.objects.specs.Rows.{Words, typeCount, memberCountOf, elementCount, tableOf}
 use Rattle.objects.specs.Types.{totalRead}
-use Rattle.objects.specs.Laid.{Laid, lastType, plusElement}
+use Rattle.objects.specs.Laid.{Laid, typesUsed, lastType, plusElement}
 use Rattle.rules.specs.Forms.{Line}
 use Rattle.rules.specs.Load.{Loaded, refused, loaded, lineAdded}
 use Rattle.line_forms.specs.Weights.{elementsOf}
@@ -21,11 +22,15 @@ unfoldable pub verdictMeant : Bytes → Words → ℕ → Verdict → Loaded
 verdictMeant text rows line Verdict.Added = loaded (tableOf text rows)
 verdictMeant text rows line (Verdict.Refused n) = refused n line
 
--- ---- members, and elements of tuples
+-- ---- types, members, and elements of tuples
 
--- the bytes that the lines of all members and elements have at least: a member's more than 8, an element a tab and a digit
+-- the bytes that the lines of all types, members and elements have at least: a type's 8, a member's more, an element a tab and a digit
 abbrev pub bytesTaken : Words → ℕ
-bytesTaken rows = 8 * memberCountOf rows + 2 * elementCount rows
+bytesTaken rows = 8 * typeCount rows + 8 * memberCountOf rows + 2 * elementCount rows
+
+-- one type more has its words, unless there are as many as there may be
+abbrev pub TypeSpace : Words → Type 0
+TypeSpace rows = typeCount rows < maxTypes → typesUsed rows + rowWords ≤ membersAt (length rows)
 
 -- the table with more elements of its last type, a tuple
 unfoldable pub withElements : Table → List TypeKey → Table

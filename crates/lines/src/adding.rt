@@ -13,7 +13,7 @@ ghost use Rattle.rules.specs.Forms.{packageLine, typeLine, memberLine, lineOf};
 ghost use Rattle.rules.specs.Load.{lastKind};
 ghost use Rattle.line_forms.specs.Steps.{bareKind, allRead, elementsRead, tupleOf};
 ghost use Rattle.line_forms.specs.Weights.{weight};
-ghost use Rattle.lines.specs.Adding.{Grown, bytesTaken, withElements, standsAt, memberRoom};
+ghost use Rattle.lines.specs.Adding.{Grown, TypeSpace, bytesTaken, withElements, standsAt, memberRoom};
 use crate::Verdict;
 use line_forms::Form;
 use line_forms::Small;
@@ -79,7 +79,7 @@ fn stands(form: u32, kind: u32) -> bool
     if kind == NAMED { true } else { kind == IFACE }
 }
 
-// 6: "1,025th member, or 256th member of one type"
+// 6: a member more than the bound, "or 256th member of one type"
 fn member_room(rows: &[u32]) -> bool
     ensures { λ r. ⌜ r ≡ memberRoom (now (rows .entry)) ⌝ }
 {
@@ -107,7 +107,7 @@ fn add_package(rows: &mut [u32], at: u32, count: u32, line: u32) -> Verdict
 }
 
 fn add_type(rows: &mut [u32], kind: u32, a: u32, b: u32, c: u32, line: u32) -> Verdict
-    requires { ⌜ Laid (now rows) ⌝ }
+    requires { ⌜ Laid (now rows) × TypeSpace (now rows) ⌝ }
     ensures { λ r. ⌜ ((text : Bytes) → Grown text (now (rows .entry)) line (some (typeLine (bareKind kind a b c))) (now (rows .exit)) r) ⌝ }
 {
     if type_count(rows) < TYPES {
@@ -185,7 +185,7 @@ fn put_elements(s: &[u8], rows: &mut [u32], c: Cursor) -> bool
 
 fn add_tuple(s: &[u8], rows: &mut [u32], c: Cursor, line: u32) -> Verdict
     requires { ⌜ Laid (now rows) × (elementCount (now rows) + length (elementsRead (fieldsLeft (now s) c)) ≤ maxElements)
-        × (used (now rows) + length (elementsRead (fieldsLeft (now s) c)) ≤ length (now rows)) ⌝ }
+        × (used (now rows) + length (elementsRead (fieldsLeft (now s) c)) ≤ length (now rows)) × TypeSpace (now rows) ⌝ }
     ensures { λ r. ⌜ Grown (now (s .entry)) (now (rows .entry)) line (tupleOf (fieldsLeft (now (s .entry)) c)) (now (rows .exit)) r ⌝ }
 {
     if type_count(rows) < TYPES {

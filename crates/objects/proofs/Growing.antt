@@ -2,17 +2,17 @@
 use mathlib.Core.Path.{_≡_, refl, sym, ap, ap₂, _∙_}
 use mathlib.Core.List.{[], _∷_, _++_, map}
 use mathlib.Core.Logic.{_≢_}
-use Prim.Native.Nat.{ℕ, suc, _+_, _<_, _≤_}
+use Prim.Native.Nat.{ℕ, suc, _+_, _*_, _<_, _≤_}
 use native.Mathlib.Nat.{le-refl}
 use native.Mathlib.Omega.{arith}
 use lib.ListN.{length, getD}
 use borrow.Author.Tests.{ne-eqb}
 use Rattle.objects.specs.declared.TypeKey.{TypeKey}
-use Rattle.objects.specs.Bounds.{maxTypes, maxPackages, maxMembers, maxElements, rowWords}
+use Rattle.objects.specs.Bounds.{maxTypes, maxPackages, maxMembers, maxElements, rowWords, membersAt}
 use Rattle.objects.specs.Lists.{Bytes, upTo, onLast}
 use Rattle.objects.specs.Table.{Member, Kind, Struct, Iface, Named, Tuple, typeKey, objKey, packageKey, withMember}
 use Rattle.objects.specs.Rows.{Words, packageCount, typeCount, memberCountOf, elementCount, typeWord, memberWord, packageWord, elementAt, bytesAt, pkgOf, memberAt, membersFrom, elementsFrom, kindOf, kindRead, pathRead, tableOf}
-use Rattle.objects.specs.Laid.{endOf, used, Laid, Holds, memberOf, elementAdded, plusPackage, plusType, plusMember, plusElement}
+use Rattle.objects.specs.Laid.{endOf, typesUsed, used, Laid, Holds, memberOf, elementAdded, plusPackage, plusType, plusMember, plusElement}
 use Rattle.objects.proofs.Numbers.{each-more, each-grown, each-onLast}
 use Rattle.objects.proofs.RowLaws.{by-kind, named-kind, members-more, elements-more}
 use Rattle.objects.proofs.Stores.{Kept}
@@ -45,7 +45,8 @@ module _ (rows after : Words) (place len : ℕ) (laid : Laid rows) (room : packa
     (word : (j : ℕ) → j < 2 → packageWord after (packageKey (packageCount rows)) j ≡ getD (place ∷ len ∷ []) j 0) where
   package-laid : Laid after
   package-laid = record {
-    long = let l = k .long in let u = laid .long in omega arith;
+    short = rw (k .long, t-is) (laid .short);
+    long = rw (k .long, m-is, e-is) (laid .long);
     packages = rw p-is room;
     types = rw t-is (laid .types);
     members = rw m-is (laid .members);
@@ -70,7 +71,7 @@ module _ (rows after : Words) (place len : ℕ) (laid : Laid rows) (room : packa
 
 -- ---- T
 
-module _ (rows after : Words) (kind a b c line : ℕ) (laid : Laid rows) (room : typeCount rows < maxTypes) (k : Kept (typeCount rows) rows after)
+module _ (rows after : Words) (kind a b c line : ℕ) (laid : Laid rows) (room : typeCount rows < maxTypes) (space : typesUsed rows + rowWords ≤ membersAt (length rows)) (k : Kept (typeCount rows) rows after)
     (p-is : packageCount after ≡ packageCount rows)
     (t-is : typeCount after ≡ suc (typeCount rows))
     (m-is : memberCountOf after ≡ memberCountOf rows)
@@ -80,7 +81,7 @@ module _ (rows after : Words) (kind a b c line : ℕ) (laid : Laid rows) (room :
   type-laid =
       laid-last k laid (le-refl _) (omega arith) (omega arith) t-is
       (rw (word 0 (omega arith), word 4 (omega arith), word 5 (omega arith)) (let e = ends-same rows after kind m-is e-is in omega arith))
-      (let l = k .long in let u = laid .long in omega arith) (rw p-is (laid .packages)) (rw t-is room) (rw m-is (laid .members)) (rw e-is (laid .elements))
+      (rw (k .long, t-is) (omega arith)) (rw (k .long, m-is, e-is) (laid .long)) (rw p-is (laid .packages)) (rw t-is room) (rw m-is (laid .members)) (rw e-is (laid .elements))
 
   type-new : (text : Bytes) → kindRead text after (typeKey (typeCount rows)) ≡ kindOf text rows kind a b c 0 0
   unfolding kindRead kindOf membersFrom elementsFrom
@@ -142,13 +143,13 @@ module _ (rows after : Words) (n : ℕ) (laid : Laid rows) (n-is : typeCount row
         count-is,
       )
 
-  last-laid : used after ≤ length rows → memberCountOf rows ≤ memberCountOf after → elementCount rows ≤ elementCount after → memberCountOf after ≤ maxMembers → elementCount after ≤ maxElements
+  last-laid : membersAt (length rows) + rowWords * memberCountOf after + elementCount after ≤ length rows → memberCountOf rows ≤ memberCountOf after → elementCount rows ≤ elementCount after → memberCountOf after ≤ maxMembers → elementCount after ≤ maxElements
       → suc (endOf rows (typeWord rows (typeKey n) 0)) ≡ endOf after (typeWord rows (typeKey n) 0) → Laid after
   last-laid long m e m-room e-room ends =
       let was = laid .last (typeKey n) (sym n-is) in
       laid-last k laid (omega arith) m e (t-is ∙ n-is)
       (rw (word 0 (omega arith) (omega arith), word 4 (omega arith) (omega arith), count-is) (omega arith))
-      (let l = k .long in omega arith) (rw p-is (laid .packages)) (rw t-is (laid .types)) m-room e-room
+      (rw (k .long, t-is) (laid .short)) (rw (k .long) long) (rw p-is (laid .packages)) (rw t-is (laid .types)) m-room e-room
 
   -- ---- F and M
 

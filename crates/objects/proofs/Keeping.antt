@@ -10,11 +10,11 @@ use borrow.Author.Tests.{eqb-true}
 use Rattle.objects.specs.declared.TypeKey.{TypeKey}
 use Rattle.objects.specs.declared.ObjKey.{ObjKey}
 use Rattle.objects.specs.declared.PackageKey.{PackageKey}
-use Rattle.objects.specs.Bounds.{maxTypes, maxPackages, maxMembers, maxElements}
+use Rattle.objects.specs.Bounds.{maxTypes, maxPackages, maxMembers, maxElements, membersAt}
 use Rattle.objects.specs.Lists.{Bytes, upTo}
 use Rattle.objects.specs.Table.{Table, Kind, Tuple, typeKey, objKey, packageKey}
 use Rattle.objects.specs.Rows.{Words, packageCount, typeCount, memberCountOf, elementCount, typeWord, memberWord, packageWord, elementAt, memberAt, membersFrom, elementsFrom, kindOf, kindRead, pathRead}
-use Rattle.objects.specs.Laid.{endOf, used, Laid}
+use Rattle.objects.specs.Laid.{endOf, typesUsed, used, Laid}
 use Rattle.objects.proofs.ListLaws.{cases, either}
 use Rattle.objects.proofs.Numbers.{each-same, run-same}
 use Rattle.objects.proofs.Stores.{Kept}
@@ -32,7 +32,7 @@ module _ {bound : ℕ} {rows after : Words} (k : Kept bound rows after) where
 
   pub kept-member : (m : ObjKey) (j : ℕ) → m .0 < memberCountOf rows → j < 8 → memberWord after m j ≡ memberWord rows m j
   unfolding memberWord
-  kept-member m j h g = k .members _ (omega arith) (omega arith)
+  kept-member m j h g = rw (k .long) (k .members _ (omega arith) (omega arith))
 
   pub kept-package : (p : PackageKey) (j : ℕ) → p .0 < packageCount rows → j < 2 → packageWord after p j ≡ packageWord rows p j
   unfolding packageWord
@@ -116,9 +116,10 @@ module _ {bound : ℕ} {rows after : Words} (k : Kept bound rows after) (laid : 
   -- with one type behind those that are kept, whose members end where all end
   pub laid-last : typeCount after ≡ suc bound
       → typeWord after (typeKey bound) 4 + typeWord after (typeKey bound) 5 ≡ endOf after (typeWord after (typeKey bound) 0)
-      → used after ≤ length after → packageCount after ≤ maxPackages → typeCount after ≤ maxTypes → memberCountOf after ≤ maxMembers → elementCount after ≤ maxElements
+      → typesUsed after ≤ membersAt (length after) → used after ≤ length after → packageCount after ≤ maxPackages → typeCount after ≤ maxTypes → memberCountOf after ≤ maxMembers → elementCount after ≤ maxElements
       → Laid after
-  laid-last n-is ends long packages types members elements = record {
+  laid-last n-is ends short long packages types members elements = record {
+    short = short;
     long = long;
     packages = packages;
     types = types;

@@ -8,6 +8,7 @@ pub mod PartLaws
 pub mod KindLaws
 pub mod Reading
 pub mod Numbers
+pub mod RoomLaws
 pub mod RowLaws
 pub mod Stores
 pub mod Keeping

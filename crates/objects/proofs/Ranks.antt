@@ -51,6 +51,7 @@ module _ (rows : Words) (t : TypeKey) (rank : ℕ) (laid : Laid rows) (here : t 
   unfolding packageCount typeCount memberCountOf elementCount
   ordered =
       record {
+        short = rw (length-set rows (rankAt t) rank, count 1 (omega arith)) (laid .short);
         long = rw (length-set rows (rankAt t) rank, count 2 (omega arith), count 3 (omega arith)) (laid .long);
         packages = rw (count 0 (omega arith)) (laid .packages);
         types = rw (count 1 (omega arith)) (laid .types);

@@ -28,18 +28,6 @@ module _ (rows : Words) (at v : ℕ) where
   unfolding typeWord
   type-kept t j ne = word-kept _ ne
 
-  pub member-kept : (m : ObjKey) (j : ℕ) → membersAt + rowWords * (m .0) + j ≢ at → memberWord (set rows at v) m j ≡ memberWord rows m j
-  unfolding memberWord
-  member-kept m j ne = word-kept _ ne
-
-  pub package-kept : (p : PackageKey) (j : ℕ) → packagesAt + 2 * (p .0) + j ≢ at → packageWord (set rows at v) p j ≡ packageWord rows p j
-  unfolding packageWord
-  package-kept p j ne = word-kept _ ne
-
-  pub element-kept : (i : ℕ) → length rows - 1 - i ≢ at → elementAt (set rows at v) i ≡ elementAt rows i
-  unfolding elementAt
-  element-kept i ne = rw (length-set rows at v) (ap typeKey (word-kept _ ne))
-
 -- ---- a run of words
 
 pub run-kept : (vs : List ℕ) (rows : Words) (at i : ℕ) → ((j : ℕ) → j < length vs → i ≢ at + j) → wordAt (sets rows at vs) i ≡ wordAt rows i
@@ -63,14 +51,14 @@ run-put (v ∷ vs) rows at (suc j) h l =
 pub record Kept (bound : ℕ) (rows after : Words) : Type 0 where
   pub long : length after ≡ length rows
   pub types : (i : ℕ) → typesAt ≤ i → i < typesAt + rowWords * bound → wordAt after i ≡ wordAt rows i
-  pub members : (i : ℕ) → membersAt ≤ i → i < membersAt + rowWords * memberCountOf rows → wordAt after i ≡ wordAt rows i
+  pub members : (i : ℕ) → membersAt (length rows) ≤ i → i < membersAt (length rows) + rowWords * memberCountOf rows → wordAt after i ≡ wordAt rows i
   pub packages : (i : ℕ) → packagesAt ≤ i → i < packagesAt + 2 * packageCount rows → wordAt after i ≡ wordAt rows i
   pub elements : (i : ℕ) → length rows ≤ i + elementCount rows → wordAt after i ≡ wordAt rows i
 
 -- a place that is none of theirs
 pub record Free (bound : ℕ) (rows : Words) (at : ℕ) : Type 0 where
   pub types : typesAt ≤ at → at < typesAt + rowWords * bound → ⊥
-  pub members : membersAt ≤ at → at < membersAt + rowWords * memberCountOf rows → ⊥
+  pub members : membersAt (length rows) ≤ at → at < membersAt (length rows) + rowWords * memberCountOf rows → ⊥
   pub packages : packagesAt ≤ at → at < packagesAt + 2 * packageCount rows → ⊥
   pub elements : at + elementCount rows < length rows
 

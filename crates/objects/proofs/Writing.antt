@@ -13,8 +13,9 @@ use Rattle.objects.specs.declared.«Package».{«Package»}
 use Rattle.objects.specs.Bounds.{maxTypes, maxPackages, maxMembers, maxElements, rowWords, typesAt, membersAt, packagesAt}
 use Rattle.objects.specs.Table.{Table, typeKey}
 use Rattle.objects.specs.Rows.{Words, wordAt, packageCount, typeCount, memberCountOf, elementCount, typeWord, memberWord, packageWord, elementAt, bytesAt, packageMeant, packageFrom, pkgOf, kindOf, tableOf}
-use Rattle.objects.specs.Laid.{endOf, lastType, used, Laid, Holds, raised, memberOf, plusPackage, plusType, plusMember, plusElement}
+use Rattle.objects.specs.Laid.{endOf, lastType, typesUsed, used, Laid, Holds, raised, memberOf, plusPackage, plusType, plusMember, plusElement}
 use Rattle.objects.proofs.ListLaws.{cases}
+use Rattle.objects.proofs.RoomLaws.{types-behind, members-within}
 use Rattle.objects.proofs.Stores.{word-put, word-kept, run-put, run-kept, Kept, Free, kept-none, kept-set, kept-sets}
 use Rattle.objects.proofs.Growing.{package-grown, type-grown, member-grown, element-grown}
 
@@ -23,7 +24,7 @@ use Rattle.objects.proofs.Growing.{package-grown, type-grown, member-gr
 abbrev pub emptyTable : Table
 emptyTable = record { packages = []; types = []; typeLines = []; memberLines = [] }
 
-pub empty-holds : (rows : Words) → membersAt ≤ length rows → ((i : ℕ) → i < 4 → wordAt rows i ≡ 0) → Holds rows (λ text. emptyTable)
+pub empty-holds : (rows : Words) → typesAt ≤ length rows → ((i : ℕ) → i < 4 → wordAt rows i ≡ 0) → Holds rows (λ text. emptyTable)
 unfolding packageCount typeCount memberCountOf elementCount tableOf
 empty-holds rows long zero =
     let p : wordAt rows 0 ≡ 0 = zero 0 (omega arith) in
@@ -32,7 +33,8 @@ empty-holds rows long zero =
     let e : wordAt rows 3 ≡ 0 = zero 3 (omega arith) in
     record {
       laid = record {
-        long = omega arith;
+        short = let behind = types-behind (length rows) long in omega arith;
+        long = let within = members-within (length rows) long in omega arith;
         packages = omega arith;
         types = omega arith;
         members = omega arith;
@@ -44,7 +46,7 @@ empty-holds rows long zero =
     }
 
 -- as a local array of the code begins
-pub zeros-hold : (n : ℕ) → membersAt ≤ n → Holds (replicate n 0) (λ text. emptyTable)
+pub zeros-hold : (n : ℕ) → typesAt ≤ n → Holds (replicate n 0) (λ text. emptyTable)
 unfolding wordAt
 zeros-hold n h = empty-holds (replicate n 0) (rw (length-replicate {A = ℕ} n 0) h) (λ i l. getD-replicate n i 0 0 (omega arith))
 
@@ -93,7 +95,7 @@ package-holds rows place len laid room p-is r-is = rw (r-is, p-is) (package-stor
 abbrev typeRow : (kind a b c first line : ℕ) → List ℕ
 typeRow kind a b c first line = kind ∷ a ∷ b ∷ c ∷ first ∷ 0 ∷ line ∷ 0 ∷ []
 
-module _ (rows : Words) (laid : Laid rows) (kind a b c line : ℕ) (room : typeCount rows < maxTypes) where
+module _ (rows : Words) (laid : Laid rows) (kind a b c line : ℕ) (room : typeCount rows < maxTypes) (space : typesUsed rows + rowWords ≤ membersAt (length rows)) where
   type-stored : Holds (set (sets rows (typesAt + rowWords * typeCount rows) (typeRow kind a b c (endOf rows kind) line)) 1 (typeCount rows + 1))
       (λ text. plusType (tableOf text rows) line (kindOf text rows kind a b c 0 0))
   unfolding packageCount typeCount memberCountOf elementCount typeWord
@@ -103,7 +105,7 @@ module _ (rows : Words) (laid : Laid rows) (kind a b c line : ℕ) (room : typeC
       let v = typeCount rows + 1 in
       let kept : (i : ℕ) → i < 4 → i ≢ 1 → wordAt (set (sets rows at vs) 1 v) i ≡ wordAt rows i
       = λ i h. stored-below rows at vs 1 v (omega arith) (omega arith) i (omega arith) in
-      type-grown rows (set (sets rows at vs) 1 v) kind a b c line laid room
+      type-grown rows (set (sets rows at vs) 1 v) kind a b c line laid room space
       (kept-set 1 v (kept-sets at vs kept-none (λ i lo hi. omega arith)) (omega arith))
       (kept 0 (omega arith) (omega arith))
       (stored-count rows at vs 1 v (omega arith) (omega arith) (let w = laid .long in omega arith) ∙ add-one _)
@@ -111,10 +113,10 @@ module _ (rows : Words) (laid : Laid rows) (kind a b c line : ℕ) (room : typeC
       (kept 3 (omega arith) (omega arith))
       (stored-word rows at vs 1 v (omega arith) (omega arith) (omega arith))
 
-pub type-holds : (rows : Words) (kind a b c line : ℕ) {n first : ℕ} {r : Words} → Laid rows → typeCount rows < maxTypes
+pub type-holds : (rows : Words) (kind a b c line : ℕ) {n first : ℕ} {r : Words} → Laid rows → typeCount rows < maxTypes → typesUsed rows + rowWords ≤ membersAt (length rows)
     → n ≡ typeCount rows → first ≡ endOf rows kind → r ≡ sets rows (typesAt + rowWords * n) (typeRow kind a b c first line)
     → Holds (set r 1 (n + 1)) (λ text. plusType (tableOf text rows) line (kindOf text rows kind a b c 0 0))
-type-holds rows kind a b c line laid room n-is first-is r-is = rw (r-is, n-is, first-is) (type-stored rows laid kind a b c line room)
+type-holds rows kind a b c line laid room space n-is first-is r-is = rw (r-is, n-is, first-is) (type-stored rows laid kind a b c line room space)
 
 -- ---- what stands under the last type: its count raised, a run of words behind all types, then a count
 
@@ -135,7 +137,7 @@ raised-long : (rows : Words) → length (raised rows) ≡ length rows
 unfolding raised
 raised-long rows = length-set rows _ _
 
-module _ (rows : Words) (laid : Laid rows) (some : 0 < typeCount rows) (at : ℕ) (vs : List ℕ) (c v : ℕ) (behind : membersAt ≤ at) (small : c < 4) where
+module _ (rows : Words) (laid : Laid rows) (some : 0 < typeCount rows) (at : ℕ) (vs : List ℕ) (c v : ℕ) (behind : membersAt (length rows) ≤ at) (small : c < 4) where
   under-count : wordAt (set (sets (raised rows) at vs) c v) c ≡ v
   unfolding raised
   under-count = stored-count (raised rows) at vs c v (omega arith) small (rw (length-set rows (typesAt + rowWords * (typeCount rows - 1) + 5) (typeWord rows (lastType rows) 5 + 1)) (let w = laid .long in omega arith))
@@ -171,18 +173,19 @@ memberRow name len pkg type form tag width line = name ∷ len ∷ pkg ∷ type 
 
 module _ (rows : Words) (laid : Laid rows) (name len pkg type form tag width line : ℕ)
     (room : memberCountOf rows < maxMembers) (some : 0 < typeCount rows) (kind : typeWord rows (lastType rows) 0 ≢ 6) (space : used rows + rowWords ≤ length rows) where
-  member-stored : Holds (set (sets (raised rows) (membersAt + rowWords * memberCountOf rows) (memberRow name len pkg type form tag width line)) 2 (memberCountOf rows + 1))
+  member-stored : Holds (set (sets (raised rows) (membersAt (length rows) + rowWords * memberCountOf rows) (memberRow name len pkg type form tag width line)) 2 (memberCountOf rows + 1))
       (λ text. plusMember (tableOf text rows) line (memberOf text (memberCountOf rows) name len (pkgOf pkg) type form tag width))
   unfolding packageCount typeCount memberCountOf elementCount memberWord
   member-stored =
-      let at = membersAt + rowWords * memberCountOf rows in
+      let at = membersAt (length rows) + rowWords * memberCountOf rows in
       let vs = memberRow name len pkg type form tag width line in
       let v = memberCountOf rows + 1 in
-      let l : membersAt ≤ at = omega arith in
+      let l : membersAt (length rows) ≤ at = omega arith in
       let s : 2 < 4 = omega arith in
       let kept = under-other rows laid some at vs 2 v l s in
+      let others = under-kept rows laid some at vs 2 v l s (λ i lo hi. omega arith) in
       member-grown rows (set (sets (raised rows) at vs) 2 v) (typeCount rows - 1) laid (omega arith)
-      (under-kept rows laid some at vs 2 v l s (λ i lo hi. omega arith))
+      others
       (kept 0 (omega arith) (omega arith))
       (kept 1 (omega arith) (omega arith))
       (under-word rows laid some at vs 2 v l s)
@@ -190,15 +193,15 @@ module _ (rows : Words) (laid : Laid rows) (name len pkg type form tag width lin
       name len pkg type form tag width line room kind space
       (under-count rows laid some at vs 2 v l s ∙ add-one _)
       (kept 3 (omega arith) (omega arith))
-      (under-new rows laid some at vs 2 v l s (omega arith))
+      (λ j h. rw (others .long) (under-new rows laid some at vs 2 v l s (omega arith) j h))
 
-pub member-holds : (rows : Words) (name len pkg type form tag width line : ℕ) {p : «Package»} {m : ℕ} {r r' : Words} → packageFrom pkg ≡ p → Laid rows → memberCountOf rows < maxMembers → 0 < typeCount rows
-    → typeWord rows (lastType rows) 0 ≢ 6 → used rows + rowWords ≤ length rows → m ≡ memberCountOf rows → r ≡ raised rows
-    → r' ≡ sets r (membersAt + rowWords * m) (memberRow name len pkg type form tag width line)
+pub member-holds : (rows : Words) (name len pkg type form tag width line : ℕ) {p : «Package»} {m start : ℕ} {r r' : Words} → packageFrom pkg ≡ p → Laid rows → memberCountOf rows < maxMembers → 0 < typeCount rows
+    → typeWord rows (lastType rows) 0 ≢ 6 → used rows + rowWords ≤ length rows → m ≡ memberCountOf rows → start ≡ membersAt (length rows) → r ≡ raised rows
+    → r' ≡ sets r (start + rowWords * m) (memberRow name len pkg type form tag width line)
     → Holds (set r' 2 (m + 1)) (λ text. plusMember (tableOf text rows) line (memberOf text (memberCountOf rows) name len (packageMeant p) type form tag width))
 unfolding pkgOf
-member-holds rows name len pkg type form tag width line pkg-is laid room some kind space m-is r-is r'-is =
-    rw (← pkg-is, r'-is, r-is, m-is) (member-stored rows laid name len pkg type form tag width line room some kind space)
+member-holds rows name len pkg type form tag width line pkg-is laid room some kind space m-is start-is r-is r'-is =
+    rw (← pkg-is, r'-is, r-is, m-is, start-is) (member-stored rows laid name len pkg type form tag width line room some kind space)
 
 -- ---- an element of a tuple
 
@@ -210,7 +213,7 @@ module _ (rows : Words) (laid : Laid rows) (t : TypeKey) (room : elementCount ro
       let at = length rows - 1 - elementCount rows in
       let vs : List ℕ = t .0 ∷ [] in
       let v = elementCount rows + 1 in
-      let l : membersAt ≤ at = omega arith in
+      let l : membersAt (length rows) ≤ at = omega arith in
       let s : 3 < 4 = omega arith in
       let kept = under-other rows laid some at vs 3 v l s in
       let e : at + 0 ≡ at = omega arith in
@@ -249,10 +252,11 @@ pub type-elements : (rows : Words) (kind a b c line : ℕ) {n first : ℕ} {r : 
     → r ≡ sets rows (typesAt + rowWords * n) (typeRow kind a b c first line) → elementCount (set r 1 (n + 1)) ≡ elementCount rows
 type-elements rows kind a b c line {n} {first} n-is first-is r-is = rw r-is (elements-kept rows (typesAt + rowWords * n) (typeRow kind a b c first line) 1 (n + 1) (omega arith) (omega arith))
 
-pub member-elements : (rows : Words) (name len pkg type form tag width line : ℕ) {m : ℕ} {r r' : Words} → m ≡ memberCountOf rows → r ≡ raised rows
-    → r' ≡ sets r (membersAt + rowWords * m) (memberRow name len pkg type form tag width line) → elementCount (set r' 2 (m + 1)) ≡ elementCount rows
-member-elements rows name len pkg type form tag width line {m} m-is r-is r'-is =
-    rw (r'-is, r-is) (elements-kept (raised rows) (membersAt + rowWords * m) (memberRow name len pkg type form tag width line) 2 (m + 1) (omega arith) (omega arith) ∙ raised-elements rows)
+pub member-elements : (rows : Words) (name len pkg type form tag width line : ℕ) {m start : ℕ} {r r' : Words} → Laid rows → m ≡ memberCountOf rows → start ≡ membersAt (length rows) → r ≡ raised rows
+    → r' ≡ sets r (start + rowWords * m) (memberRow name len pkg type form tag width line) → elementCount (set r' 2 (m + 1)) ≡ elementCount rows
+member-elements rows name len pkg type form tag width line {m} {start} laid m-is start-is r-is r'-is =
+    let s = laid .short in
+    rw (r'-is, r-is) (elements-kept (raised rows) (start + rowWords * m) (memberRow name len pkg type form tag width line) 2 (m + 1) (omega arith) (omega arith) ∙ raised-elements rows)
 
 pub element-elements : (rows : Words) (t : ℕ) {n : ℕ} {r : Words} → Laid rows → n ≡ elementCount rows → r ≡ raised rows
     → elementCount (set (set r (length r - 1 - n) t) 3 (n + 1)) ≡ elementCount rows + 1

@@ -2,7 +2,8 @@
 -- follows from them is an expression of them: a bound is changed here and there, and nowhere else.
 use Prim.Native.Nat.{ℕ, _+_, _*_, _-_, _/_}
 
--- "256 types, 64 packages, 1,024 members, 255 per type, 256 places in a way."
+-- Document 01: "256 types, 64 packages, 1,024 members, 255 per type, 256 places in a way." Document 02, point 4: "Type numbers run to 511, members to 2,047, and a
+-- way may have 512 places".
 abbrev pub maxTypes : ℕ
 maxTypes = 512
 
@@ -19,7 +20,8 @@ maxPerType = 255
 abbrev pub maxPlaces : ℕ
 maxPlaces = maxTypes
 
--- 2: "The table has more than 32,768 bytes"; typeask: "at most 32,768 bytes in all"
+-- Document 01, 2: "The table has more than 32,768 bytes"; typeask: "at most 32,768 bytes in all". Document 02, point 4: "the table text may have 65,536 bytes and
+-- `typeask` reads that much".
 abbrev pub maxText : ℕ
 maxText = 65_536
 
@@ -32,6 +34,10 @@ pub record Bounds : Type 0 where
 
 abbrev pub bounds : Bounds
 bounds = record { bytes = maxText; types = maxTypes; members = maxMembers }
+
+-- Document 01's, in force before document 02's point 4: "An old table loads as before, and its answers agree."
+abbrev pub formerBounds : Bounds
+formerBounds = record { bytes = 32_768; types = 256; members = 1_024 }
 
 -- 11: "more than 256 bytes"
 abbrev pub maxQuestion : ℕ
@@ -100,8 +106,13 @@ packagesAt = 8
 abbrev pub typesAt : ℕ
 typesAt = packagesAt + packageWords * maxPackages
 
-abbrev pub membersAt : ℕ
-membersAt = typesAt + rowWords * maxTypes
+-- where as many types end as there may be
+abbrev pub typesEnd : ℕ
+typesEnd = typesAt + rowWords * maxTypes
+
+-- Where the members begin in rows of n words: the types have half of the words behind the packages, and no more than they may need.
+unfoldable pub membersAt : ℕ → ℕ
+membersAt n = typesEnd - (typesEnd - (n + typesAt) / 2)
 
 -- an element of a tuple takes a tab and a digit at least
 abbrev pub maxElements : ℕ
@@ -112,19 +123,25 @@ abbrev pub sharedWords : ℕ
 sharedWords = rowWords * maxMembers + maxElements
 
 abbrev pub allWords : ℕ
-allWords = membersAt + sharedWords
+allWords = typesEnd + sharedWords
 
--- The words that a text of n bytes asks for. A member takes 8 words and at least 10 bytes, an element a word and at least 2 bytes: behind the types a word
--- for each byte is enough, and never more than all are used.
+-- The words that a text of n bytes asks for. A type and a member take 8 words and at least as many bytes, an element a word and at least 2 bytes: a word for each
+-- byte is enough for the types, and another behind them for the rest, and never more than all are used.
 abbrev pub roomFor : ℕ → ℕ
-roomFor n = allWords - (sharedWords - n)
+roomFor n = (typesEnd - (rowWords * maxTypes - n)) + (sharedWords - (sharedWords - n))
 
 -- a call has an array of its own for texts of at most so many bytes, and one for all others
 abbrev pub smallText : ℕ
 smallText = 1_024
 
+abbrev pub medianText : ℕ
+medianText = 3_072
+
 abbrev pub middleText : ℕ
 middleText = 6_144
+
+abbrev pub longText : ℕ
+longText = 16_384
 
 -- S, M and N have an array of their own for at most so many level records, two for each type, and one for all others; M also for so many members
 abbrev pub fewRecords : ℕ

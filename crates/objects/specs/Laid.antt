@@ -25,12 +25,17 @@ endOf rows kind = cond (eqb kind 6) (elementCount rows) (memberCountOf rows)
 abbrev pub lastType : Words → TypeKey
 lastType rows = typeKey (typeCount rows - 1)
 
--- the words up to the last type's, and those of all members and elements
-abbrev pub used : Words → ℕ
-used rows = membersAt + rowWords * memberCountOf rows + elementCount rows
+-- the words up to the last type's
+abbrev pub typesUsed : Words → ℕ
+typesUsed rows = typesAt + rowWords * typeCount rows
 
--- All counts are within bounds, members and elements do not meet, and no type has members or elements that are not there yet.
+-- the words up to the first member's, and those of all members and elements
+abbrev pub used : Words → ℕ
+used rows = membersAt (length rows) + rowWords * memberCountOf rows + elementCount rows
+
+-- All counts are within bounds, types, members and elements do not meet, and no type has members or elements that are not there yet.
 pub record Laid (rows : Words) : Type 0 where
+  pub short : typesUsed rows ≤ membersAt (length rows)
   pub long : used rows ≤ length rows
   pub packages : packageCount rows ≤ maxPackages
   pub types : typeCount rows ≤ maxTypes

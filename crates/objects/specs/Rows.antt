@@ -42,7 +42,7 @@ typeWord rows t j = wordAt rows (typesAt + rowWords * (t .0) + j)
 
 -- word j of a member's row: 0 and 1 its name; 2 its package's number and one, 0 for none; 3 its type; 4 its form; 5 and 6 its tag; 7 its line
 unfoldable pub memberWord : Words → ObjKey → ℕ → ℕ
-memberWord rows m j = wordAt rows (membersAt + rowWords * (m .0) + j)
+memberWord rows m j = wordAt rows (membersAt (length rows) + rowWords * (m .0) + j)
 
 -- word j of a package's row: 0 and 1 its path
 unfoldable pub packageWord : Words → PackageKey → ℕ → ℕ

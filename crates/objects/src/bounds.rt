@@ -1,7 +1,8 @@
 // The numbers that bound tables, questions and answers, once for all code; specs/Bounds.antt has the same for specs and proofs. The first are the papers'.
 // Whatever follows from them is written as an expression of them, so that a bound is changed here and there, and nowhere else.
 
-// "256 types, 64 packages, 1,024 members, 255 per type, 256 places in a way."
+// Document 01: "256 types, 64 packages, 1,024 members, 255 per type, 256 places in a way." Document 02, point 4: "Type numbers run to 511, members to 2,047, and a
+// way may have 512 places".
 pub const MAX_TYPES: usize = 512;
 
 pub const MAX_PACKAGES: usize = 64;
@@ -13,7 +14,8 @@ pub const MAX_PER_TYPE: usize = 255;
 // A shortest way has no more places than there are types.
 pub const MAX_PLACES: usize = MAX_TYPES;
 
-// 2: "The table has more than 32,768 bytes"; typeask: "at most 32,768 bytes in all"
+// Document 01, 2: "The table has more than 32,768 bytes"; typeask: "at most 32,768 bytes in all". Document 02, point 4: "the table text may have 65,536 bytes and
+// `typeask` reads that much".
 pub const MAX_TEXT: usize = 65_536;
 
 // 11: "more than 256 bytes"
@@ -55,17 +57,31 @@ pub const PACKAGES_AT: usize = 8;
 
 pub const TYPES_AT: usize = PACKAGES_AT + PACKAGE_WORDS * MAX_PACKAGES;
 
-pub const MEMBERS_AT: usize = TYPES_AT + ROW_WORDS * MAX_TYPES;
+// where as many types end as there may be
+pub const TYPES_END: usize = TYPES_AT + ROW_WORDS * MAX_TYPES;
 
 // an element of a tuple takes a tab and a digit at least
 pub const MAX_ELEMENTS: usize = MAX_TEXT / 2;
 
-pub const ALL_WORDS: usize = MEMBERS_AT + ROW_WORDS * MAX_MEMBERS + MAX_ELEMENTS;
+pub const ALL_WORDS: usize = TYPES_END + ROW_WORDS * MAX_MEMBERS + MAX_ELEMENTS;
 
 // a call has an array of its own for texts of at most so many bytes, and one for all others
 pub const SMALL_TEXT: usize = 1_024;
 
+pub const MEDIAN_TEXT: usize = 3_072;
+
 pub const MIDDLE_TEXT: usize = 6_144;
+
+pub const LONG_TEXT: usize = 16_384;
+
+// the words of each, enough for every text that it is for; that for all others has ALL_WORDS
+pub const SMALL_WORDS: usize = TYPES_AT + 2 * SMALL_TEXT;
+
+pub const MEDIAN_WORDS: usize = TYPES_AT + 2 * MEDIAN_TEXT;
+
+pub const MIDDLE_WORDS: usize = TYPES_END + MIDDLE_TEXT;
+
+pub const LONG_WORDS: usize = TYPES_END + LONG_TEXT;
 
 // S, M and N have an array of their own for at most so many level records, two for each type, and one for all others; M also for so many members
 pub const FEW_RECORDS: usize = 64;

@@ -1,6 +1,9 @@
 // The readers of a loaded table: each gives what the words of its rows say (specs/Rows.antt, specs/Types.antt). A word that is not there reads as 0, so
 // that every reader is total.
 ghost use mathlib.Core.Path.{_≡_};
+ghost use Prim.Native.Nat.{_≤_};
+ghost use lib.ListN.{length};
+ghost use Rattle.objects.specs.Bounds.{typesEnd, membersAt};
 ghost use Rattle.objects.specs.Rows.{wordAt, packageCount, typeCount, memberCountOf, elementCount, typeWord, memberWord, packageWord, elementAt, dirAt};
 ghost use Rattle.objects.specs.Types.{typeRead, numberRead, pointerRead, namedRead, bareRead, underRead, ifaceRead, namedPointerRead, firstRead, totalRead, memberTypeRead, packageRead, embeddedRead, methodRead, ptrRead};
 use crate::Dir;
@@ -9,11 +12,11 @@ use crate::Package;
 use crate::PackageKey;
 use crate::Type;
 use crate::TypeKey;
-use crate::bounds::MEMBERS_AT;
 use crate::bounds::PACKAGE_WORDS;
 use crate::bounds::PACKAGES_AT;
 use crate::bounds::ROW_WORDS;
 use crate::bounds::TYPES_AT;
+use crate::bounds::TYPES_END;
 use crate::kinds::IFACE;
 use crate::kinds::NAMED;
 use crate::kinds::POINTER;
@@ -50,6 +53,15 @@ pub fn element_count(rows: &[u32]) -> u32
     word(rows, 3)
 }
 
+// Where the members begin: the types have half of the words behind the packages, and no more than they may need.
+pub fn members_at(rows: &[u32]) -> usize
+    ensures { λ r. ⌜ r ≡ membersAt (length (now (rows .entry))) ⌝ }
+    ensures { λ r. ⌜ r ≤ typesEnd ⌝ }
+{
+    let half = (rows.len() + TYPES_AT) / 2;
+    if half < TYPES_END { half } else { TYPES_END }
+}
+
 // Word j of a row.
 pub fn type_word(rows: &[u32], t: TypeKey, j: u32) -> u32
     ensures { λ r. ⌜ r ≡ typeWord (now (rows .entry)) t j ⌝ }
@@ -60,7 +72,10 @@ pub fn type_word(rows: &[u32], t: TypeKey, j: u32) -> u32
 pub fn member_word(rows: &[u32], m: ObjKey, j: u32) -> u32
     ensures { λ r. ⌜ r ≡ memberWord (now (rows .entry)) m j ⌝ }
 {
-    word(rows, MEMBERS_AT + ROW_WORDS * (m.0 as usize) + j as usize)
+    word(
+        rows,
+        members_at(rows) + ROW_WORDS * (m.0 as usize) + j as usize,
+    )
 }
 
 pub fn package_word(rows: &[u32], p: PackageKey, j: u32) -> u32

@@ -5,13 +5,12 @@ ghost use mathlib.Core.Logic.{_≢_};
 ghost use Prim.Native.Nat.{_+_, _<_, _≤_};
 ghost use lib.ListN.{length};
 ghost use lib.Seq.{sets};
-ghost use Rattle.objects.specs.Bounds.{maxPackages, maxTypes, maxMembers, maxElements, rowWords};
+ghost use Rattle.objects.specs.Bounds.{maxPackages, maxTypes, maxMembers, maxElements, rowWords, membersAt};
 ghost use Rattle.objects.specs.Table.{Numbered};
 ghost use Rattle.objects.specs.Rows.{packageFrom, packageMeant, packageCount, typeCount, memberCountOf, elementCount, typeWord, bytesAt, kindOf, tableOf};
-ghost use Rattle.objects.specs.Laid.{used, Laid, Holds, RankPut, endOf, lastType, raised, memberOf, plusPackage, plusType, plusMember, plusElement};
+ghost use Rattle.objects.specs.Laid.{typesUsed, used, Laid, Holds, RankPut, endOf, lastType, raised, memberOf, plusPackage, plusType, plusMember, plusElement};
 use crate::Package;
 use crate::TypeKey;
-use crate::bounds::MEMBERS_AT;
 use crate::bounds::PACKAGE_WORDS;
 use crate::bounds::PACKAGES_AT;
 use crate::bounds::ROW_WORDS;
@@ -19,6 +18,7 @@ use crate::bounds::TYPES_AT;
 use crate::kinds::TUPLE;
 use crate::rows::element_count;
 use crate::rows::member_count;
+use crate::rows::members_at;
 use crate::rows::package_count;
 use crate::rows::type_count;
 use crate::rows::word;
@@ -107,7 +107,7 @@ pub fn put_package(rows: &mut [u32], place: u32, len: u32)
 
 // A T line, as yet without members and elements.
 pub fn put_type(rows: &mut [u32], kind: u32, a: u32, b: u32, c: u32, line: u32)
-    requires { ⌜ Laid (now rows) × (typeCount (now rows) < maxTypes) ⌝ }
+    requires { ⌜ Laid (now rows) × (typeCount (now rows) < maxTypes) × (typesUsed (now rows) + rowWords ≤ membersAt (length (now rows))) ⌝ }
     ensures { λ _. ⌜ Holds (now (rows .exit)) (λ text. plusType (tableOf text (now (rows .entry))) line (kindOf text (now (rows .entry)) kind a b c 0 0)) ⌝ }
     ensures { λ _. ⌜ elementCount (now (rows .exit)) ≡ elementCount (now (rows .entry)) ⌝ }
 {
@@ -145,11 +145,12 @@ pub fn put_member(
     ensures { λ _. ⌜ elementCount (now (rows .exit)) ≡ elementCount (now (rows .entry)) ⌝ }
 {
     let m = member_count(rows);
+    let at = members_at(rows);
     let said = package_said(pkg);
     raise(rows);
     put_row(
         rows,
-        MEMBERS_AT + ROW_WORDS * (m as usize),
+        at + ROW_WORDS * (m as usize),
         name,
         len,
         said,

@@ -2,16 +2,21 @@
 ghost use mathlib.Core.Path.{_≡_};
 ghost use Prim.Native.Nat.{_≤_};
 ghost use lib.ListN.{length, replicate};
-ghost use Rattle.objects.specs.Bounds.{roomFor, smallText, middleText};
+ghost use Rattle.objects.specs.Bounds.{roomFor, smallText, medianText, middleText, longText};
 ghost use Rattle.rules.specs.Asked.{outcome, asked};
 ghost use Rattle.reply.specs.Done.{Does};
 ghost use Rattle.yifgrun.specs.Gives.{Cleared, Gives, numberRead, Fits};
 use answer::answered;
 use objects::bounds::ALL_WORDS;
-use objects::bounds::MEMBERS_AT;
+use objects::bounds::LONG_TEXT;
+use objects::bounds::LONG_WORDS;
+use objects::bounds::MEDIAN_TEXT;
+use objects::bounds::MEDIAN_WORDS;
 use objects::bounds::MIDDLE_TEXT;
+use objects::bounds::MIDDLE_WORDS;
 use objects::bounds::REFUSAL_UNIT;
 use objects::bounds::SMALL_TEXT;
+use objects::bounds::SMALL_WORDS;
 use objects::bounds::WORK_WORDS;
 use pair_marks::marks::clear;
 use reply::Done;
@@ -43,7 +48,16 @@ fn decide_small(table: &[u8], question: &[u8], answer: &mut [u8], work: &mut [u3
     ensures { λ r. ⌜ Does (outcome (now (table .entry)) (now (question .entry)) (length (now (answer .entry)))) r (now (answer .entry)) (now (answer .exit)) ⌝ }
     ensures { λ _. ⌜ now (work .exit) ≡ now (work .entry) ⌝ }
 {
-    let mut rows = [0u32; MEMBERS_AT + SMALL_TEXT];
+    let mut rows = [0u32; SMALL_WORDS];
+    decide_in(table, &mut rows, question, answer, work)
+}
+
+fn decide_median(table: &[u8], question: &[u8], answer: &mut [u8], work: &mut [u32]) -> Done
+    requires { ⌜ Cleared (now work) × (length (now table) ≤ medianText) ⌝ }
+    ensures { λ r. ⌜ Does (outcome (now (table .entry)) (now (question .entry)) (length (now (answer .entry)))) r (now (answer .entry)) (now (answer .exit)) ⌝ }
+    ensures { λ _. ⌜ now (work .exit) ≡ now (work .entry) ⌝ }
+{
+    let mut rows = [0u32; MEDIAN_WORDS];
     decide_in(table, &mut rows, question, answer, work)
 }
 
@@ -52,7 +66,16 @@ fn decide_middle(table: &[u8], question: &[u8], answer: &mut [u8], work: &mut [u
     ensures { λ r. ⌜ Does (outcome (now (table .entry)) (now (question .entry)) (length (now (answer .entry)))) r (now (answer .entry)) (now (answer .exit)) ⌝ }
     ensures { λ _. ⌜ now (work .exit) ≡ now (work .entry) ⌝ }
 {
-    let mut rows = [0u32; MEMBERS_AT + MIDDLE_TEXT];
+    let mut rows = [0u32; MIDDLE_WORDS];
+    decide_in(table, &mut rows, question, answer, work)
+}
+
+fn decide_long(table: &[u8], question: &[u8], answer: &mut [u8], work: &mut [u32]) -> Done
+    requires { ⌜ Cleared (now work) × (length (now table) ≤ longText) ⌝ }
+    ensures { λ r. ⌜ Does (outcome (now (table .entry)) (now (question .entry)) (length (now (answer .entry)))) r (now (answer .entry)) (now (answer .exit)) ⌝ }
+    ensures { λ _. ⌜ now (work .exit) ≡ now (work .entry) ⌝ }
+{
+    let mut rows = [0u32; LONG_WORDS];
     decide_in(table, &mut rows, question, answer, work)
 }
 
@@ -63,20 +86,6 @@ fn decide_large(table: &[u8], question: &[u8], answer: &mut [u8], work: &mut [u3
 {
     let mut rows = [0u32; ALL_WORDS];
     decide_in(table, &mut rows, question, answer, work)
-}
-
-fn decide(table: &[u8], question: &[u8], answer: &mut [u8], work: &mut [u32]) -> Done
-    requires { ⌜ Cleared (now work) ⌝ }
-    ensures { λ r. ⌜ Does (outcome (now (table .entry)) (now (question .entry)) (length (now (answer .entry)))) r (now (answer .entry)) (now (answer .exit)) ⌝ }
-    ensures { λ _. ⌜ now (work .exit) ≡ now (work .entry) ⌝ }
-{
-    if table.len() <= SMALL_TEXT {
-        return decide_small(table, question, answer, work);
-    }
-    if table.len() <= MIDDLE_TEXT {
-        return decide_middle(table, question, answer, work);
-    }
-    decide_large(table, question, answer, work)
 }
 
 // "the answer's length, or minus (refusal × 65,536 + line)"
@@ -90,6 +99,8 @@ fn number(d: Done) -> i64
     }
 }
 
+// The words behind those that a call needs are cleared, and the call is made again on the others. They are of no use to it; and a compiler keeps the
+// frames of what a function that calls itself calls apart, so that a small table touches no stack but that of its own rows.
 #[no_mangle]
 pub extern "C" fn yifgrun_ask(
     table: &[u8],
@@ -102,7 +113,22 @@ pub extern "C" fn yifgrun_ask(
     if work.len() < WORK_WORDS {
         return number(Done::Refused(1, 0));
     }
+    if work.len() > WORK_WORDS {
+        clear(&mut work[WORK_WORDS..]);
+        return yifgrun_ask(table, question, answer, &mut work[..WORK_WORDS]);
+    }
     clear(work);
-    let d = decide(table, question, answer, work);
-    number(d)
+    if table.len() <= SMALL_TEXT {
+        return number(decide_small(table, question, answer, work));
+    }
+    if table.len() <= MEDIAN_TEXT {
+        return number(decide_median(table, question, answer, work));
+    }
+    if table.len() <= MIDDLE_TEXT {
+        return number(decide_middle(table, question, answer, work));
+    }
+    if table.len() <= LONG_TEXT {
+        return number(decide_long(table, question, answer, work));
+    }
+    number(decide_large(table, question, answer, work))
 }

@@ -1,7 +1,7 @@
 -- `line_forms::forms::next_kinds` meets its contract.
 use mathlib.Core.Path.{sym, _∙_}
 use native.Mathlib.Omega.{arith}
-use Rattle.line_forms.proofs.Chain.{word-less, tried-on, tried-out}
+use Rattle.line_forms.proofs.Chain.{word-takes, tried-on, tried-out}
 use Rattle.line_forms.specs.Forms.{formRead, formMeant, unread}
 use Rattle.line_forms.specs.Steps.{nextKinds, tupleRest}
 use borrow.Author.Needs.{needs}
@@ -57,7 +57,7 @@ enum-known-d-3 c = search needs
 
 returns-3 : tie.Need-returns-3
 unfolding nextKinds tupleRest formRead formMeant unread
-returns-3 c = (sym (tried-out _ _ _ _ _ (c .before .before .before .before .before .before .before .before .before .before .before .word .ensures) (c .before .before .before .before .before .before .before .before .before .enum-told .given .1) ∙ tried-out _ _ _ _ _ (c .before .before .before .before .before .before .before .word2 .ensures) (c .before .before .before .before .before .enum-told2 .given .1) ∙ tried-on _ _ _ _ _ (c .before .before .before .word3 .ensures) (c .before .d3 .given .1)), word-less _ _ _ (c .before .before .before .word3 .ensures) (c .before .d3 .given .1))
+returns-3 c = (sym (tried-out _ _ _ _ _ (c .before .before .before .before .before .before .before .before .before .before .before .word .ensures) (c .before .before .before .before .before .before .before .before .before .enum-told .given .1) ∙ tried-out _ _ _ _ _ (c .before .before .before .before .before .before .before .word2 .ensures) (c .before .before .before .before .before .enum-told2 .given .1) ∙ tried-on _ _ _ _ _ (c .before .before .before .word3 .ensures) (c .before .d3 .given .1)), omega (arith, word-takes _ _ _ (c .before .before .before .word3 .ensures) (c .before .d3 .given .1)))
 
 enum-told-3 : tie.Need-enum-told-3
 enum-told-3 c = search needs

@@ -3,7 +3,7 @@ use mathlib.Core.Path.{sym, _∙_}
 use Prim.Native.Nat.{zero-le}
 use native.Mathlib.Omega.{arith}
 use Rattle.line_forms.specs.Forms.{unread}
-use Rattle.line_forms.proofs.Chain.{word-less, tried-on, tried-out}
+use Rattle.line_forms.proofs.Chain.{word-takes, tried-on, tried-out}
 use Rattle.line_forms.proofs.StepLaws.{parsed, no-form}
 use Rattle.line_forms.specs.Steps.{lineRest}
 use borrow.Author.Needs.{needs}
@@ -43,7 +43,7 @@ type-line-requires c κs = search needs
 
 returns-2 : tie.Need-returns-2
 unfolding lineRest
-returns-2 c = (parsed _ _ _ ((c .type-line .ensures .0) ∙ sym (tried-out _ _ _ _ _ (c .before .before .before .before .before .before .before .before .word .ensures) (c .before .before .before .before .before .before .enum-told .given .1) ∙ tried-on _ _ _ _ _ (c .before .before .before .before .word2 .ensures) (c .before .before .d2 .given .1))), omega (arith, word-less _ _ _ (c .before .before .before .before .word2 .ensures) (c .before .before .d2 .given .1), (c .type-line .ensures .1)))
+returns-2 c = (parsed _ _ _ ((c .type-line .ensures .0) ∙ sym (tried-out _ _ _ _ _ (c .before .before .before .before .before .before .before .before .word .ensures) (c .before .before .before .before .before .before .enum-told .given .1) ∙ tried-on _ _ _ _ _ (c .before .before .before .before .word2 .ensures) (c .before .before .d2 .given .1))), omega (arith, word-takes _ _ _ (c .before .before .before .before .word2 .ensures) (c .before .before .d2 .given .1), (c .type-line .ensures .1)))
 
 enum-told-2 : tie.Need-enum-told-2
 enum-told-2 c = search needs

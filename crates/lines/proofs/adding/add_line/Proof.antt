@@ -1,7 +1,7 @@
 -- `lines::adding::add_line` meets its contract.
 use mathlib.Core.Path.{refl}
 use mathlib.Core.Option.{none}
-use Rattle.lines.proofs.TupleLaws.{grown-form, tuple-space, member-space, member-numbered}
+use Rattle.lines.proofs.TupleLaws.{grown-form, type-space, tuple-space, member-space, member-numbered}
 use Rattle.lines.proofs.AddLaws.{refusing}
 use Rattle.text.specs.Cursors.{fieldsLeft}
 use Rattle.line_forms.specs.Forms.{formMeant}
@@ -22,7 +22,10 @@ enum-known-kind : tie.Need-enum-known-kind
 enum-known-kind c = search needs
 
 add-type-requires : tie.Need-add-type-requires
-add-type-requires c κs = (c .before .before .before .before .before .before .before .pre .1)
+add-type-requires c κs = let at-parse = c .before .before .before .before in
+    let at-entry = at-parse .before .before .before in
+    let s = at-entry .args .s .now in
+    (at-entry .pre .1, type-space s (at-entry .args .rows .now) (fieldsLeft s (at-entry .args .c)) _ (at-entry .pre .1) (at-entry .pre .0) (at-entry .pre .2) (at-entry .pre .3) (at-parse .parse .ensures .0) (c .before .before .kind .given .1))
 
 enum-known-d : tie.Need-enum-known-d
 enum-known-d c = search needs
@@ -32,7 +35,7 @@ add-tuple-requires c κs = let at-parse = c .before .before .before .before in
     let at-entry = at-parse .before .before .before in
     let s = at-entry .args .s .now in
     let space = tuple-space s (at-entry .args .rows .now) (fieldsLeft s (at-entry .args .c)) _ (at-entry .pre .1) (at-entry .pre .0) (at-entry .pre .2) (at-entry .pre .3) (at-parse .parse .ensures .1) (c .before .before .d .given .1) in
-    (at-entry .pre .1, space .0, space .1)
+    (at-entry .pre .1, space .0, space .1, space .2)
 
 enum-known-name : tie.Need-enum-known-name
 enum-known-name c = search needs

@@ -1,6 +1,10 @@
 -- `lines::adding::add_tuple` meets its contract.
 use Rattle.lines.proofs.TupleLaws.{tuple-members, new-tuple, tuple-wrong, tuple-full, tuple-added}
+use mathlib.Core.Path.{ap}
+use Prim.Native.Nat.{_<_}
 use native.Mathlib.Omega.{arith}
+use Rattle.objects.specs.Bounds.{maxTypes, membersAt}
+use Rattle.objects.specs.Rows.{typeCount}
 use borrow.Author.Needs.{needs}
 use Rattle.lines.proofs.adding.add_tuple.Statement.{statement}
 use Rattle.lines.proofs.adding.add_tuple.Tie as tie
@@ -9,10 +13,21 @@ type-count-requires : tie.Need-type-count-requires
 type-count-requires c κs = search needs
 
 put-type-requires : tie.Need-put-type-requires
-put-type-requires c κs = ((c .before .before .before .before .before .before .pre .0), omega (arith, (c .before .before .type-count .ensures), (c .before .if1 .taken)))
+put-type-requires c κs = let at-entry = c .before .before .before .before .before .before in
+    let few : typeCount (at-entry .args .rows .now) < maxTypes = omega (arith, (c .before .before .type-count .ensures), (c .before .if1 .taken)) in
+    (at-entry .pre .0, few, at-entry .pre .3 few)
 
 put-elements-requires : tie.Need-put-elements-requires
-put-elements-requires c κs = ((c .before .before .before .put-type .ensures .0 .laid), new-tuple _ _ _ _ (c .before .before .before .put-type .ensures .0), omega (arith, (c .before .before .before .put-type .ensures .1), (c .before .before .before .before .before .before .before .before .before .before .pre .1)), omega (arith, tuple-members (c .before .before .before .before .before .before .before .before .before .before .args .s .now) _ _ _ (c .before .before .before .put-type .ensures .0), (c .before .before .before .put-type .ensures .1), (c .before .before .before .put-type .kept .0), (c .before .before .before .before .before .before .before .before .before .before .pre .2)))
+put-elements-requires c κs = let at-put = c .before .before .before in
+    let at-entry = at-put .before .before .before .before .before .before .before in
+    let put = at-put .put-type .ensures .0 in
+    let same-elements = at-put .put-type .ensures .1 in
+    let kept = at-put .put-type .kept .0 in (
+      put .laid,
+      new-tuple _ _ _ _ put,
+      omega (arith, same-elements, at-entry .pre .1),
+      omega (arith, tuple-members (at-entry .args .s .now) _ _ _ put, same-elements, kept, ap membersAt kept, at-entry .pre .2),
+    )
 
 same-length : tie.Need-same-length
 same-length c = search needs

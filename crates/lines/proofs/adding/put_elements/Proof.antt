@@ -3,6 +3,7 @@ use mathlib.Core.Path.{_≡_, refl, sym, ap, _∙_}
 use Prim.Native.Nat.{_+_, _≤_}
 use lib.ListN.{length}
 use native.Mathlib.Omega.{arith}
+use Rattle.objects.specs.Bounds.{membersAt}
 use Rattle.objects.specs.Table.{kindNumber}
 use Rattle.objects.specs.Rows.{elementCount, tableOf}
 use Rattle.objects.specs.Laid.{used, Laid}
@@ -51,7 +52,26 @@ loop-less : tie.Need-loop-less Inv-loop μ-loop
 loop-less c = omega (arith, ap length (elements-more (c .before .before .before .before .before .before .before .before .before .before .before .before .before .args .s .now) (c .before .before .before .before .before .before .before .before .before .before .loop .d) _ (c .before .before .before .before .before .before .before .small .ensures) (c .before .before .before .before .before .v .given .1)))
 
 loop-again : tie.Need-loop-again Inv-loop μ-loop
-loop-again c = ((c .before .before .put-element .ensures .0 .laid), still-tuple _ _ _ _ (c .before .before .put-element .ensures .0) (c .before .before .before .before .before .before .before .before .before .before .loop .inv .1), (c .before .before .before .before .before .before .before .before .before .before .loop .inv .2) ∙ turn _ _ _ _ (c .before .before .put-element .ensures .0) _ (elements-more (c .before .before .before .before .before .before .before .before .before .before .before .before .before .args .s .now) (c .before .before .before .before .before .before .before .before .before .before .loop .d) _ (c .before .before .before .before .before .before .before .small .ensures) (c .before .before .before .before .before .v .given .1)), omega (arith, ap length (elements-more (c .before .before .before .before .before .before .before .before .before .before .before .before .before .args .s .now) (c .before .before .before .before .before .before .before .before .before .before .loop .d) _ (c .before .before .before .before .before .before .before .small .ensures) (c .before .before .before .before .before .v .given .1)), (c .before .before .put-element .ensures .1), (c .before .before .before .before .before .before .before .before .before .before .loop .inv .3)), (c .before .before .put-element .kept .0) ∙ (c .before .before .before .before .before .before .before .before .before .before .loop .inv .4), omega (arith, ap length (elements-more (c .before .before .before .before .before .before .before .before .before .before .before .before .before .args .s .now) (c .before .before .before .before .before .before .before .before .before .before .loop .d) _ (c .before .before .before .before .before .before .before .small .ensures) (c .before .before .before .before .before .v .given .1)), element-members (c .before .before .before .before .before .before .before .before .before .before .before .before .before .args .s .now) _ _ _ (c .before .before .put-element .ensures .0), (c .before .before .put-element .ensures .1), (c .before .before .put-element .kept .0), (c .before .before .before .before .before .before .before .before .before .before .loop .inv .5)), (c .before .before .before .before .before .before .before .before .before .before .loop .inv .6) ∙ all-more _ _ _ (c .before .before .before .before .before .before .before .small .ensures) (c .before .before .before .before .before .v .given .1))
+loop-again c = let at-put = c .before .before in
+    let at-v = at-put .before .before .before in
+    let at-small = at-v .before .before in
+    let at-loop = at-small .before .before .before in
+    let s = at-loop .before .before .before .args .s .now in
+    let read = at-small .small .ensures in
+    let is-number = at-v .v .given .1 in
+    let more = elements-more s (at-loop .loop .d) _ read is-number in
+    let shorter = ap length more in
+    let put = at-put .put-element .ensures .0 in
+    let one-more = at-put .put-element .ensures .1 in
+    let kept = at-put .put-element .kept .0 in (
+      put .laid,
+      still-tuple _ _ _ _ put (at-loop .loop .inv .1),
+      at-loop .loop .inv .2 ∙ turn _ _ _ _ put _ more,
+      omega (arith, shorter, one-more, at-loop .loop .inv .3),
+      kept ∙ at-loop .loop .inv .4,
+      omega (arith, shorter, element-members s _ _ _ put, one-more, kept, ap membersAt kept, at-loop .loop .inv .5),
+      at-loop .loop .inv .6 ∙ all-more _ _ _ read is-number,
+    )
 
 enum-told : tie.Need-enum-told Inv-loop μ-loop
 enum-told c = search needs

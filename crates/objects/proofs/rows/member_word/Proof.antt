@@ -3,6 +3,9 @@ use borrow.Author.Needs.{needs}
 use Rattle.objects.proofs.rows.member_word.Statement.{statement}
 use Rattle.objects.proofs.rows.member_word.Tie as tie
 
+members-at-requires : tie.Need-members-at-requires
+members-at-requires c κs = search needs
+
 cast-word : tie.Need-cast-word
 cast-word c = search needs
 
@@ -20,12 +23,13 @@ word-requires c κs = search needs
 
 returns : tie.Need-returns
 unfolding memberWord
-returns c = c .word .ensures
+returns c = rw (← c .before .before .members-at .ensures .0) (c .word .ensures)
 
 pub member-word-spec : {M : Type 1} → statement M
 member-word-spec =
     tie.close
     (tie.spec
+    members-at-requires
     cast-word
     mul-word
     add-word

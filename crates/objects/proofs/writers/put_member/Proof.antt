@@ -8,8 +8,11 @@ use Rattle.objects.proofs.writers.put_member.Tie as tie
 member-count-requires : tie.Need-member-count-requires
 member-count-requires c κs = search needs
 
+members-at-requires : tie.Need-members-at-requires
+members-at-requires c κs = search needs
+
 package-said-requires : tie.Need-package-said-requires
-package-said-requires c κs = let at-entry = c .before .before .before in
+package-said-requires c κs = let at-entry = c .before .before .before .before .before in
     (at-entry .pre .5)
 
 raise-requires : tie.Need-raise-requires
@@ -40,15 +43,17 @@ same-length c = let at-raise = c .before .before .before .before .before .before
 returns : tie.Need-returns
 returns c = let at-raise = c .before .before .before .before .before .before in
     let at-package-said = at-raise .before .before in
-    let at-member-count = at-package-said .before in
+    let at-members-at = at-package-said .before in
+    let at-member-count = at-members-at .before .before in
     let at-entry = at-member-count .before .before .before in
-    (member-holds _ _ _ _ _ _ _ _ _ (at-package-said .package-said .ensures) (at-entry .pre .0) (at-entry .pre .1) (at-entry .pre .2) (at-entry .pre .3) (at-entry .pre .4) (at-member-count .member-count .ensures) (at-raise .raise .ensures) (c .before .before .put-row .ensures), member-elements _ _ _ _ _ _ _ _ _ (at-member-count .member-count .ensures) (at-raise .raise .ensures) (c .before .before .put-row .ensures))
+    (member-holds _ _ _ _ _ _ _ _ _ (at-package-said .package-said .ensures) (at-entry .pre .0) (at-entry .pre .1) (at-entry .pre .2) (at-entry .pre .3) (at-entry .pre .4) (at-member-count .member-count .ensures) (at-members-at .members-at .ensures .0) (at-raise .raise .ensures) (c .before .before .put-row .ensures), member-elements _ _ _ _ _ _ _ _ _ (at-entry .pre .0) (at-member-count .member-count .ensures) (at-members-at .members-at .ensures .0) (at-raise .raise .ensures) (c .before .before .put-row .ensures))
 
 pub put-member-spec : {M : Type 1} → statement M
 put-member-spec =
     tie.close
     (tie.spec
     member-count-requires
+    members-at-requires
     package-said-requires
     raise-requires
     cast-put-row

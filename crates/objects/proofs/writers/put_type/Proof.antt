@@ -31,7 +31,7 @@ same-length : tie.Need-same-length
 same-length c = search needs
 
 returns : tie.Need-returns
-returns c = (type-holds _ _ _ _ _ _ (c .before .before .before .before .before .before .before .before .before .pre .0) (c .before .before .before .before .before .before .before .before .before .pre .1) (c .before .before .before .before .before .before .type-count .ensures) (c .before .before .before .before .start .ensures) (c .before .before .put-row .ensures), type-elements _ _ _ _ _ _ (c .before .before .before .before .before .before .type-count .ensures) (c .before .before .before .before .start .ensures) (c .before .before .put-row .ensures))
+returns c = (type-holds _ _ _ _ _ _ (c .before .before .before .before .before .before .before .before .before .pre .0) (c .before .before .before .before .before .before .before .before .before .pre .1) (c .before .before .before .before .before .before .before .before .before .pre .2) (c .before .before .before .before .before .before .type-count .ensures) (c .before .before .before .before .start .ensures) (c .before .before .put-row .ensures), type-elements _ _ _ _ _ _ (c .before .before .before .before .before .before .type-count .ensures) (c .before .before .before .before .start .ensures) (c .before .before .put-row .ensures))
 
 pub put-type-spec : {M : Type 1} → statement M
 put-type-spec =
