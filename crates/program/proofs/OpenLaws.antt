@@ -37,7 +37,7 @@ unfolding loadingMeant
 loads-refused text rows l q = sym (l .says) ∙ ap (loadingMeant text rows) q
 
 module _ (s : Bytes) where
-  -- "at most 32,768 bytes in all, otherwise it prints refusal 2"
+  -- "at most 32,768 bytes in all" (65,536 by document 02, point 4), "otherwise it prints refusal 2"
   pub opens-long : (rows : Words) → maxText < length s → Opens s (Opening.Refused 2 0) rows
   unfolding openingMeant typeaskWithin
   opens-long rows h = record { says = rw (lt-ltb maxText (length s) h); holds = tt }

@@ -9,7 +9,7 @@ use Prim.Native.Nat.{ℕ, _<_}
 use native.Mathlib.Omega.{arith}
 use lib.ListN.{length}
 use borrow.Author.Tests.{ltb-true, lt-ltb, le-ltb, not-false}
-use Rattle.objects.specs.Bounds.{workWords, Bounds}
+use Rattle.objects.specs.Bounds.{workWords, Bounds, bounds, formerBounds}
 use Rattle.objects.specs.Lists.{Bytes}
 use Rattle.objects.specs.declared.TypeKey.{TypeKey}
 use Rattle.objects.specs.declared.PackageKey.{PackageKey}
@@ -191,13 +191,13 @@ kept-sets text T h t in0 = walks.set-kept text T h t in0
 pub names-before-types : (T : Table) (x y : TypeKey) (fs gs : List Member) → kindAt T x ≡ Struct fs → kindAt T y ≡ Struct gs → FieldsDiffer T fs gs ↔ (mismatch T (record { left = x; right = y }) ≡ true)
 names-before-types = structs-told-apart
 
--- ---- document 02, point 4: larger bounds
+-- ---- document 02, point 4: 512 types
 
 -- a text that loads within bounds has no more bytes, types and members than they say, whichever they are
 pub within-bounds : (b : Bounds) (text : Bytes) (T : Table) → loadWithin b text ≡ loaded T → Within b text T
 within-bounds = loads-within
 
--- "An old table loads as before, and its answers agree", for any two bounds of which the second are no smaller
+-- larger bounds change nothing for what loads, whichever two they are
 pub wider-bounds : (b b′ : Bounds) → Wider b b′ → SameWithin b b′
 wider-bounds b b′ w = record {
   loads = load-wider b b′ w;
@@ -206,3 +206,11 @@ wider-bounds b b′ w = record {
   gives = λ text T h c. asked-wider b b′ w text T h (c .line) (c .buffer) (c .work);
   prints = typeask-wider b b′ w;
 }
+
+-- "An old table loads as before, and its answers agree": within document 01's bounds and within those in force
+pub old-tables : SameWithin formerBounds bounds
+old-tables = wider-bounds formerBounds bounds (record { bytes = omega arith; types = omega arith; members = omega arith })
+
+-- of the call: what the call gave before point 4, by its contract then, it gives now
+pub old-calls : (text : Bytes) (T : Table) → loadWithin formerBounds text ≡ loaded T → (c : Lent) → called text c ≡ askedWithin formerBounds text (c .line) (c .buffer) (c .work)
+old-calls = old-tables .gives

@@ -8,9 +8,10 @@ use Prim.Native.Nat.{suc}
 use Rattle.objects.specs.Bounds.{maxText, workWords}
 use Rattle.objects.specs.Rows.{dirAt}
 use Rattle.text.specs.Bytes.{ascii}
-use Rattle.rules.specs.Rows.{called, owed, allPrint, spaced, _⏎_, buffer, calling}
+use Rattle.rules.specs.Load.{refused}
+use Rattle.rules.specs.Rows.{called, owed, allPrint, spaced, _⏎_, buffer, loading, calling}
 use Rattle.rules.specs.Worked.{office, worked}
-use Rattle.rules.specs.Refusals.{refusals, programs}
+use Rattle.rules.specs.Refusals.{refusals, fewMembers, pairsOfFields, programs}
 use Rattle.rules.specs.Traps.{traps, readings, others}
 
 -- THE ELEVEN WORKED ANSWERS: number, buffer and work area of each call
@@ -21,6 +22,10 @@ worked-answers = refl
 pub refusals-right : allPrint refusals ≡ true
 unfolding allPrint
 refusals-right = refl
+
+pub members-refused : loading fewMembers pairsOfFields ≡ refused 6 7
+unfolding loading
+members-refused = refl
 
 pub programs-right : allPrint programs ≡ true
 unfolding allPrint

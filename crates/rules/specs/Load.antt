@@ -45,7 +45,7 @@ inPlace T (memberLine name pkg type entity) = stands entity (lastKind T)
 
 -- For any bounds; those of packages and of the members of one type are no part of them.
 module _ (b : Bounds) where
-  -- 6: "A 65th package, 257th type, 1,025th member, or 256th member of one type"
+  -- 6: "A 65th package, 257th type, 1,025th member, or 256th member of one type"; document 02, point 4: 513th type, 2,049th member
   abbrev pub hasRoom : Table → Line → Bool
   hasRoom T (packageLine path) = ltb (length (T .packages)) maxPackages
   hasRoom T (typeLine k) = ltb (size T) (b .types)
@@ -106,7 +106,7 @@ module _ (b : Bounds) where
       (thenChecked (linesFrom b 2 noTable (next ∷ rest)))
       (refused 3 1)
 
-  -- 2: "The table has more than 32,768 bytes."
+  -- 2: "The table has more than 32,768 bytes."; document 02, point 4: 65,536
   unfoldable pub loadWithin : Bytes → Loaded
   loadWithin text = cond (ltb (b .bytes) (length text)) (refused 2 0) (headed (pieces text))
 

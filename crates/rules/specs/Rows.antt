@@ -7,7 +7,7 @@ use Prim.Native.String.{String, [] as []ˢ, _∷_ as _∷ˢ_}
 use lib.Dec.{eqb}
 use lib.IntN.{pos}
 use lib.ListN.{length, replicate}
-use Rattle.objects.specs.Bounds.{workWords}
+use Rattle.objects.specs.Bounds.{workWords, Bounds}
 use Rattle.objects.specs.Lists.{Bytes, every}
 use Rattle.text.specs.Bytes.{ascii, sameBytes, isName, isBlank, isPath, isTag, exported, valueFrom, isNumeral, number, digitsOn, decimal}
 use Rattle.text.specs.Lines.{split, pieces, fields}
@@ -17,7 +17,7 @@ use Rattle.rules.specs.Forms.{kindForm, lineForm, lineOf}
 use Rattle.rules.specs.Chains.{leads}
 use Rattle.rules.specs.Identity.{realType, ownNumber, parts, mismatch, pairParts, identical}
 use Rattle.rules.specs.Checks.{itemsFrom, lineOfItem, lacking, forbidden, clashing, containing}
-use Rattle.rules.specs.Load.{added, linesFrom, unless, checked, loadWithin}
+use Rattle.rules.specs.Load.{Loaded, added, linesFrom, unless, checked, loadWithin}
 use Rattle.rules.specs.Comparable.{comparableKind, comparableIn, comparable}
 use Rattle.rules.specs.Ways.{owned, onward, walks, ways, shortestFrom, shortest, searched, select}
 use Rattle.rules.specs.MethodSet.{methodFlag, callable, onlyMethod, methodNames, methodSet}
@@ -62,6 +62,11 @@ case table question due = record { table = table; question = spaced question; du
 -- a buffer of 32 dots, and a work area that is not clear
 abbrev pub buffer : Bytes
 buffer = replicate 32 46
+
+-- loading within any bounds
+unfoldable pub loading : Bounds → Bytes → Loaded
+unfolding opened
+loading b text = loadWithin b text
 
 -- the call, with all that it takes
 unfoldable pub calling : Bytes → Bytes → Bytes → List ℕ → Asked

@@ -51,7 +51,7 @@ printedAll (loaded T) questions = flat (λ q. printed (outcomeOf (loaded T) q pr
 abbrev pub answeredAll : Bounds → Input → Bytes
 answeredAll b i = printedAll (loadWithin b (i .table)) (i .questions)
 
--- "at most 32,768 bytes in all, otherwise it prints refusal 2"
+-- "at most 32,768 bytes in all" (65,536 by document 02, point 4), "otherwise it prints refusal 2"
 unfoldable pub typeaskWithin : Bounds → Bytes → Bytes
 typeaskWithin b input = cond (ltb (b .bytes) (length input)) (refusedBytes 2 0) (answeredAll b (inputOf (pieces input)))
 
