@@ -332,3 +332,18 @@ fn deep_calls_take_less_than_a_mebibyte_of_stack() {
         assert!(bytes < 1 << 20, "{}", deep.name);
     }
 }
+
+/// Rows for longer texts have frames of their own, and a call on a small table enters none of them. Which functions share
+/// a frame is the compiler's choice, and no proof speaks of it.
+#[test]
+fn a_small_table_takes_little_stack() {
+    let small = deep(
+        "a small table, C",
+        "typetable\t1\nT\tbasic\t2\n",
+        "C\t0",
+        "yes\n",
+    );
+    let bytes = stack_of(&small);
+    say(&format!("{}: {bytes} bytes of stack", small.name));
+    assert!(bytes < 100 << 10);
+}
