@@ -11,13 +11,13 @@ use lib.ListN.{length}
 use Rattle.objects.specs.declared.TypeKey.{TypeKey}
 use Rattle.objects.specs.declared.PackageKey.{PackageKey}
 use Rattle.objects.specs.Bounds.{maxReference}
-use Rattle.objects.specs.Lists.{Bytes, when, mapped}
-use Rattle.objects.specs.Table.{Tuple, typeKey, packageKey}
+use Rattle.objects.specs.Lists.{Bytes, mapped}
+use Rattle.objects.specs.Table.{typeKey, packageKey}
 use Rattle.objects.specs.Rows.{kindOf}
 use Rattle.objects.proofs.ListLaws.{cases}
 use Rattle.text.specs.Bytes.{sameBytes, isName, isNumeral, number}
 use Rattle.text.specs.Lines.{before, split, fields}
-use Rattle.text.specs.Readers.{field, done}
+use Rattle.text.specs.Readers.{field}
 use Rattle.text.proofs.ByteLaws.{same-true}
 use Rattle.text.proofs.AnswerLaws.{none-some}
 use Rattle.text.proofs.Gives.{Holds}

@@ -9,12 +9,12 @@ use lib.ListN.{length}
 use Rattle.objects.specs.declared.TypeKey.{TypeKey}
 use Rattle.objects.specs.declared.«Package».{«Package»}
 use Rattle.objects.specs.Bounds.{maxReference, maxText, maxTypes, maxElements, rowWords, roomFor}
-use Rattle.objects.specs.Lists.{Bytes, empty, lastOr, onLast, when, mapped}
+use Rattle.objects.specs.Lists.{Bytes, empty, lastOr, onLast, mapped}
 use Rattle.objects.specs.Table.{Table, Kind, Basic, Array, Slice, Pointer, Map, Chan, Tuple, Func, Struct, Iface, Named, typeKey, kindNumber, Numbered}
 use Rattle.objects.specs.Rows.{Words, typeCount, memberCountOf, elementCount, typeWord, packageMeant, kindOf, elementsFrom, tableOf}
 use Rattle.objects.specs.Laid.{used, Laid, Holds, lastType, elementAdded, plusType, plusElement}
 use Rattle.objects.proofs.RoomLaws.{types-room, members-room}
-use Rattle.objects.proofs.ListLaws.{cases, clash}
+use Rattle.objects.proofs.ListLaws.{clash}
 use Rattle.objects.proofs.Numbers.{onLast-at}
 use Rattle.text.specs.declared.Cursor.{Cursor}
 use Rattle.text.specs.Bytes.{number}
@@ -23,7 +23,7 @@ use Rattle.text.proofs.FieldLaws.{done-left}
 use Rattle.text.proofs.AnswerLaws.{none-some, field-some}
 use Rattle.rules.specs.Forms.{Line, typeLine, lineOf}
 use Rattle.rules.proofs.FormLaws.{line-formed}
-use Rattle.rules.specs.Load.{refused, lastKind, lineAdded}
+use Rattle.rules.specs.Load.{lastKind}
 use Rattle.line_forms.specs.declared.Small.{Small}
 use Rattle.line_forms.specs.declared.Form.{Form}
 use Rattle.line_forms.specs.Steps.{numbered, allRead, elementsRead, tupleOf}

@@ -1,17 +1,14 @@
 -- Words stored into rows: which words stay as they were, and what is read where they were stored.
-use mathlib.Core.Path.{_≡_, refl, ap, _∙_}
+use mathlib.Core.Path.{_≡_, refl, _∙_}
 use mathlib.Core.List.{List, [], _∷_}
 use mathlib.Core.Logic.{_≢_}
-use Prim.Native.Nat.{ℕ, zero, suc, _+_, _*_, _-_, _<_, _≤_}
+use Prim.Native.Nat.{ℕ, zero, suc, _+_, _*_, _<_, _≤_}
 use native.Mathlib.Omega.{arith}
 use lib.ListN.{length, getD, set, length-set}
 use lib.Seq.{getD-set-same, getD-set-other, sets}
 use Rattle.objects.specs.declared.TypeKey.{TypeKey}
-use Rattle.objects.specs.declared.ObjKey.{ObjKey}
-use Rattle.objects.specs.declared.PackageKey.{PackageKey}
 use Rattle.objects.specs.Bounds.{rowWords, typesAt, membersAt, packagesAt}
-use Rattle.objects.specs.Table.{typeKey}
-use Rattle.objects.specs.Rows.{Words, wordAt, packageCount, memberCountOf, elementCount, typeWord, memberWord, packageWord, elementAt}
+use Rattle.objects.specs.Rows.{Words, wordAt, packageCount, memberCountOf, elementCount, typeWord}
 
 -- ---- one word
 

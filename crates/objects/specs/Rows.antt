@@ -1,6 +1,6 @@
 -- A table as rows of 32-bit words, and the table that is read off them. Names, paths and tags are a place and a length in the text. A word that is not
 -- there reads as 0, so that every reader is total.
-use mathlib.Core.Bool.{Bool, true, false, cond}
+use mathlib.Core.Bool.{true, false, cond}
 use mathlib.Core.List.{List, map}
 use mathlib.Core.Option.{Option, none, some}
 use Prim.Native.Nat.{ℕ, _+_, _*_, _-_}

@@ -1,5 +1,5 @@
 -- `yifgrun_ask` meets its contract. It calls itself on fewer words: their number falls.
-use mathlib.Core.Path.{_≡_, sym, _∙_}
+use mathlib.Core.Path.{_≡_, _∙_}
 use Prim.Native.Nat.{ℕ, _<_}
 use native.Mathlib.Omega.{arith}
 use lib.ListN.{length, length-take}
@@ -7,7 +7,6 @@ use lib.IntN.{ℤ}
 use borrow.Author.Needs.{needs}
 use borrow.Fn.Kinds.{In}
 use borrow.Fn.PlainCycle.{Measures, is, falls, and}
-use Rattle.objects.specs.Bounds.{workWords}
 use Rattle.objects.specs.Lists.{Bytes}
 use Rattle.objects.specs.Rows.{Words}
 use Rattle.rules.specs.Asked.{outcome, asked}
