@@ -1,5 +1,5 @@
--- A line has 8 bytes at least for a type or member that it brings, and 2 for each element: a kind's word takes a tab and 5 bytes, what else a field gives a tab and a
--- byte.
+-- A line has 8 bytes at least for a type or member that it brings, and 2 for each element: a kind's word has 5 bytes, or fewer and a number behind it; what a field
+-- gives takes a tab and a byte.
 use mathlib.Core.Path.{_≡_, refl, sym, ap, _∙_}
 use mathlib.Core.Bool.{Bool, true, false}
 use mathlib.Core.List.{List, [], _∷_}

@@ -11,7 +11,7 @@ use Rattle.text.specs.Bytes.{ascii}
 use Rattle.rules.specs.Load.{refused}
 use Rattle.rules.specs.Rows.{called, owed, allPrint, spaced, _⏎_, buffer, loading, calling}
 use Rattle.rules.specs.Worked.{office, worked}
-use Rattle.rules.specs.Refusals.{refusals, fewMembers, pairsOfFields, programs}
+use Rattle.rules.specs.Refusals.{refusals, threeMembers, pairsOfFields, programs}
 use Rattle.rules.specs.Traps.{traps, readings, others}
 
 -- THE ELEVEN WORKED ANSWERS: number, buffer and work area of each call
@@ -23,7 +23,7 @@ pub refusals-right : allPrint refusals ≡ true
 unfolding allPrint
 refusals-right = refl
 
-pub members-refused : loading fewMembers pairsOfFields ≡ refused 6 7
+pub members-refused : loading threeMembers pairsOfFields ≡ refused 6 7
 unfolding loading
 members-refused = refl
 

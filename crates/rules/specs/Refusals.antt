@@ -65,8 +65,8 @@ refusals =
 
 -- 6: a member more than there may be in all, which fills a type that has room. Within a bound of 3, since as many as the bound in force would take as long to compute as all
 -- other rows together; those are run (`load_run`, `typeask_run`).
-abbrev pub fewMembers : Bounds
-fewMembers = record { bytes = maxText; types = maxTypes; members = 3 }
+abbrev pub threeMembers : Bounds
+threeMembers = record { bytes = maxText; types = maxTypes; members = 3 }
 
 abbrev pub pairsOfFields : Bytes
 pairsOfFields = table ("T struct" ⏎ times 2 "F _ - 0 0" ("T struct" ⏎ times 2 "F _ - 0 0" []))
