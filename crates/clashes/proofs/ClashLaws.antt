@@ -22,10 +22,10 @@ use Rattle.objects.proofs.PartLaws.{parted}
 use Rattle.objects.proofs.RowLaws.{size-read, number-read, fields-read, kind-beyond, members-have, members-more}
 use Rattle.text.specs.Bytes.{isBlank}
 use Rattle.rules.specs.Members.{sameMember}
-use Rattle.rules.specs.Checks.{Item, memberItem, items, lacking, ascends, equalsField, clashing}
-use Rattle.rules.specs.Stages.{firstLine, linesUnder, linesOf}
+use Rattle.rules.specs.Checks.{Item, memberItem, items, lineOfItem, lacking, ascends, equalsField, clashing}
+use Rattle.rules.specs.Stages.{firstItem, linesUnder, linesOf}
 use Rattle.rules.specs.Sound.{Lower}
-use Rattle.rules.proofs.StageLaws.{first-here, first-later}
+use Rattle.rules.proofs.StageLaws.{none-fails}
 use Rattle.rules.proofs.CheckLaws.{member-item}
 use Rattle.rules.proofs.ItemLaws.{lines-on, membersLeft, members-on, members-stop}
 use Rattle.references.specs.Lines.{linesRead}
@@ -137,12 +137,12 @@ module _ (text : Bytes) (rows : Words) (t : TypeKey) (h : t .0 < typeCount rows)
     counted : i < length (membersOf (kindAt (tableOf text rows) t))
     counted = rw (members-count text rows t h) l
 
-    pub clash-on : b ≡ false → firstLine (tableOf text rows) (clashing (tableOf text rows)) (membersLeft t (kindAt (tableOf text rows) t) i)
-        ≡ firstLine (tableOf text rows) (clashing (tableOf text rows)) (membersLeft t (kindAt (tableOf text rows) t) (i + 1))
+    pub clash-on : b ≡ false → firstItem (tableOf text rows) (clashing (tableOf text rows)) (membersLeft t (kindAt (tableOf text rows) t) i)
+        ≡ firstItem (tableOf text rows) (clashing (tableOf text rows)) (membersLeft t (kindAt (tableOf text rows) t) (i + 1))
     clash-on e = members-on (tableOf text rows) (clashing (tableOf text rows)) t _ i (memberAt text rows (objKey (firstRead rows t + i))) counted (members-get text rows t h i _ l) (sym pb ∙ e)
 
     pub clash-stop : Laid rows → b ≡ true → {first : ℕ} → first ≡ firstRead rows t → {at : ℕ} → at ≡ memberWord rows (objKey (first + i)) 7
-        → firstLine (tableOf text rows) (clashing (tableOf text rows)) (membersLeft t (kindAt (tableOf text rows) t) i) ≡ found (Stage.Bad at)
+        → firstItem (tableOf text rows) (clashing (tableOf text rows)) (membersLeft t (kindAt (tableOf text rows) t) i) ≡ found (Stage.Bad at)
     unfolding found
     clash-stop laid e pf p =
         members-stop (tableOf text rows) (clashing (tableOf text rows)) t _ i (memberAt text rows (objKey (firstRead rows t + i))) counted (members-get text rows t h i _ l) (sym pb ∙ e)
@@ -162,7 +162,7 @@ unfolding membersFrom
 rising-start text rows t e = tt
 
 -- a T line does not clash
-pub lines-clash : (T : Table) (t : TypeKey) (k : Kind) {r : Option ℕ} → r ≡ firstLine T (clashing T) (linesUnder t k) → r ≡ firstLine T (clashing T) (linesOf t k)
+pub lines-clash : (T : Table) (t : TypeKey) (k : Kind) {r : Option ℕ} → r ≡ firstItem T (clashing T) (linesUnder t k) → r ≡ firstItem T (clashing T) (linesOf t k)
 unfolding clashing
 lines-clash T t k p = p ∙ sym (lines-on T (clashing T) t k refl)
 
@@ -187,18 +187,12 @@ module _ (text : Bytes) (rows : Words) (u : TypeKey) (p : Member → Bool) where
 
 -- ---- 7 passed
 
-pub first-none : (T : Table) (bad : Item → Bool) (is : List Item) → firstLine T bad is ≡ none → (i : Item) → In i is → bad i ≡ false
-first-none T bad (j ∷ is) h i k =
-    cases (bad j)
-    (λ b. let z : _≡_ {A = Option ℕ} (some _) none = sym (first-here T bad j is b) ∙ h in let y : _≡_ {A = Bool} true false = cc in clash refl y)
-    (λ b. either k (λ e. rw e b) (λ l. first-none T bad is (sym (first-later T bad j is b) ∙ h) i l))
-
 -- a line that 7 passes has its package in the table
 lacking-none : (T : Table) (t : TypeKey) (k : Kind) (before : List Member) (m : Member) → lacking T (memberItem t k before m) ≡ false → hasPackage T (m .pkg) ≡ true
 unfolding lacking
 lacking-none T t k before m z = and-r (hasType T (m .type)) (hasPackage T (m .pkg)) (not-false (hasType T (m .type) && hasPackage T (m .pkg)) z)
 
-pub packaged-of : (text : Bytes) (rows : Words) → firstLine (tableOf text rows) (lacking (tableOf text rows)) (items (tableOf text rows)) ≡ none → Packaged text rows
+pub packaged-of : (text : Bytes) (rows : Words) → firstItem (tableOf text rows) (lacking (tableOf text rows)) (items (tableOf text rows)) ≡ none → Packaged text rows
 packaged-of text rows e = record { under = here }
   where
     here : (t : TypeKey) → t .0 < typeCount rows → PackagedFrom text rows (firstRead rows t) (linesRead rows t)
@@ -208,4 +202,4 @@ packaged-of text rows e = record { under = here }
         let j : In m (membersOf (kindAt T t)) = rw (members-row text rows t h) (members-have text rows (firstRead rows t) (linesRead rows t) i l) in
         let r = parted (membersOf (kindAt T t)) m j in
         let s : t .0 < size T = rw (size-read text rows) h in
-        lacking-none T t (kindAt T t) (r .0) m (first-none T (lacking T) (items T) e _ (member-item T t (r .0) m (r .1) s (r .2)))
+        lacking-none T t (kindAt T t) (r .0) m (none-fails (lineOfItem T) (lacking T) (items T) e _ (member-item T t (r .0) m (r .1) s (r .2)))

@@ -15,7 +15,7 @@ ghost use Rattle.objects.specs.Laid.{Laid};
 ghost use Rattle.text.specs.Bytes.{isBlank};
 ghost use Rattle.rules.specs.Members.{sameMember};
 ghost use Rattle.rules.specs.Checks.{memberItem, items, lacking, ascends, clashing};
-ghost use Rattle.rules.specs.Stages.{firstLine, linesUnder};
+ghost use Rattle.rules.specs.Stages.{firstItem, linesUnder};
 ghost use Rattle.references.specs.Lines.{linesRead};
 ghost use Rattle.clashes.specs.Known.{PackagedFrom, Packaged, Rising};
 ghost use Rattle.clashes.specs.Marks.{hashes, bitWords, placeOf, fieldsNumber, MarkedAt, Grows, Noted, Ready, Readied, Prepared, Seen, Looked};
@@ -204,7 +204,7 @@ fn line_clashes(text: &[u8], rows: &[u32], marks: &mut [u32], t: TypeKey, i: u32
 
 fn first_line(text: &[u8], rows: &[u32], marks: &mut [u32], t: TypeKey) -> Stage
     requires { ⌜ Laid (now rows) × Packaged (now text) (now rows) × (t .0 < typeCount (now rows)) × (bitWords ≤ length (now marks)) × Seen (now text) (now rows) (now marks) t 0 ⌝ }
-    ensures { λ r. ⌜ found r ≡ firstLine (tableOf (now (text .entry)) (now (rows .entry))) (clashing (tableOf (now (text .entry)) (now (rows .entry)))) (linesUnder t (kindAt (tableOf (now (text .entry)) (now (rows .entry))) t)) ⌝ }
+    ensures { λ r. ⌜ found r ≡ firstItem (tableOf (now (text .entry)) (now (rows .entry))) (clashing (tableOf (now (text .entry)) (now (rows .entry)))) (linesUnder t (kindAt (tableOf (now (text .entry)) (now (rows .entry))) t)) ⌝ }
     ensures { λ _. ⌜ Grows (now (marks .entry)) (now (marks .exit)) ⌝ }
 {
     let first = first_member(rows, t);
@@ -221,7 +221,7 @@ fn first_line(text: &[u8], rows: &[u32], marks: &mut [u32], t: TypeKey) -> Stage
 
 fn first_clash(text: &[u8], rows: &[u32], marks: &mut [u32], done: &mut [u8], t: TypeKey) -> Stage
     requires { ⌜ Laid (now rows) × Packaged (now text) (now rows) × (t .0 < typeCount (now rows)) × (bitWords ≤ length (now marks)) × (maxTypes ≤ length (now done)) × Ready (now text) (now rows) (now marks) (now done) ⌝ }
-    ensures { λ r. ⌜ found r ≡ firstLine (tableOf (now (text .entry)) (now (rows .entry))) (clashing (tableOf (now (text .entry)) (now (rows .entry)))) (linesUnder t (kindAt (tableOf (now (text .entry)) (now (rows .entry))) t)) ⌝ }
+    ensures { λ r. ⌜ found r ≡ firstItem (tableOf (now (text .entry)) (now (rows .entry))) (clashing (tableOf (now (text .entry)) (now (rows .entry)))) (linesUnder t (kindAt (tableOf (now (text .entry)) (now (rows .entry))) t)) ⌝ }
     ensures { λ _. ⌜ Ready (now (text .entry)) (now (rows .entry)) (now (marks .exit)) (now (done .exit)) ⌝ }
 {
     let n = member_lines(rows, t);
@@ -236,7 +236,7 @@ fn first_clash(text: &[u8], rows: &[u32], marks: &mut [u32], done: &mut [u8], t:
 
 fn first_of(text: &[u8], rows: &[u32], marks: &mut [u32], done: &mut [u8]) -> Stage
     requires { ⌜ Laid (now rows) × Packaged (now text) (now rows) × (bitWords ≤ length (now marks)) × (maxTypes ≤ length (now done)) × Ready (now text) (now rows) (now marks) (now done) ⌝ }
-    ensures { λ r. ⌜ found r ≡ firstLine (tableOf (now (text .entry)) (now (rows .entry))) (clashing (tableOf (now (text .entry)) (now (rows .entry)))) (items (tableOf (now (text .entry)) (now (rows .entry)))) ⌝ }
+    ensures { λ r. ⌜ found r ≡ firstItem (tableOf (now (text .entry)) (now (rows .entry))) (clashing (tableOf (now (text .entry)) (now (rows .entry)))) (items (tableOf (now (text .entry)) (now (rows .entry)))) ⌝ }
 {
     let n = type_count(rows);
     let mut t = 0;
@@ -255,8 +255,8 @@ fn first_of(text: &[u8], rows: &[u32], marks: &mut [u32], done: &mut [u8]) -> St
 
 // 9, of a table that passed 7
 pub fn clashing(text: &[u8], rows: &[u32]) -> Stage
-    requires { ⌜ Laid (now rows) × (firstLine (tableOf (now text) (now rows)) (lacking (tableOf (now text) (now rows))) (items (tableOf (now text) (now rows))) ≡ none) ⌝ }
-    ensures { λ r. ⌜ found r ≡ firstLine (tableOf (now (text .entry)) (now (rows .entry))) (clashing (tableOf (now (text .entry)) (now (rows .entry)))) (items (tableOf (now (text .entry)) (now (rows .entry)))) ⌝ }
+    requires { ⌜ Laid (now rows) × (firstItem (tableOf (now text) (now rows)) (lacking (tableOf (now text) (now rows))) (items (tableOf (now text) (now rows))) ≡ none) ⌝ }
+    ensures { λ r. ⌜ found r ≡ firstItem (tableOf (now (text .entry)) (now (rows .entry))) (clashing (tableOf (now (text .entry)) (now (rows .entry)))) (items (tableOf (now (text .entry)) (now (rows .entry)))) ⌝ }
 {
     let mut marks = [0u32; BIT_WORDS];
     let mut done = [0u8; MAX_TYPES];

@@ -20,7 +20,7 @@ use Rattle.objects.proofs.BoolLaws.{false-of}
 use Rattle.objects.proofs.KeyLaws.{key-eq}
 use Rattle.objects.proofs.RowLaws.{size-read, type-line-read}
 use Rattle.rules.specs.Checks.{Item, typeItem, memberItems, itemsFrom, items, lineOfItem, contents, containing}
-use Rattle.rules.specs.Stages.{firstLine, orElse}
+use Rattle.rules.specs.Stages.{firstLine, firstItem, orElse}
 use Rattle.rules.proofs.ChainLaws.{ChainFrom, leads-iff, types-few}
 use Rattle.rules.proofs.StageLaws.{first-here, first-later, first-append, none-fails}
 use Rattle.rules.proofs.Lacks.{content-in}
@@ -34,13 +34,13 @@ pub refers-within : (rows : Words) → Refers rows → Within rows
 refers-within rows r t e i =
     let T = tableOf (r .0) rows in
     rw (← size-read (r .0) rows)
-    (content-in (tableOf (r .0) rows) (none-fails (tableOf (r .0) rows) _ (items (tableOf (r .0) rows)) (r .1)) t e (subst (λ es. In e es) (sym (inside-any (r .0) rows t)) i))
+    (content-in T (none-fails (lineOfItem T) _ (items T) (r .1)) t e (subst (λ es. In e es) (sym (inside-any (r .0) rows t)) i))
 
 -- ---- the first of a table's lines
 
 module _ (T : Table) where
   abbrev finds : List Item → Option ℕ
-  finds is = firstLine T (containing T) is
+  finds is = firstItem T (containing T) is
 
   members-pass : (t : TypeKey) (k : Kind) (before ms : List Member) → finds (memberItems t k before ms) ≡ none
   unfolding firstLine containing
@@ -51,8 +51,8 @@ module _ (T : Table) where
   type-passes : (n : ℕ) (k : Kind) (ks : List Kind) → containing T (typeItem (typeKey n) k) ≡ false → finds (itemsFrom n (k ∷ ks)) ≡ finds (itemsFrom (suc n) ks)
   unfolding itemsFrom orElse
   type-passes n k ks e =
-      first-later T (containing T) (typeItem (typeKey n) k) _ e
-      ∙ first-append T (containing T) (memberItems (typeKey n) k [] (membersOf k)) (itemsFrom (suc n) ks)
+      first-later (lineOfItem T) (containing T) (typeItem (typeKey n) k) _ e
+      ∙ first-append (lineOfItem T) (containing T) (memberItems (typeKey n) k [] (membersOf k)) (itemsFrom (suc n) ks)
       ∙ rw (members-pass (typeKey n) k [] (membersOf k))
 
   none-from : (n : ℕ) (ks : List Kind) → ((i : ℕ) (k : Kind) → n ≤ i → i < n + length ks → containing T (typeItem (typeKey i) k) ≡ false) → finds (itemsFrom n ks) ≡ none
@@ -66,7 +66,7 @@ module _ (T : Table) where
   some-from n [] t l m h g = absurd (omega arith)
   some-from n (k ∷ ks) t l m h g =
       cases (eqb n t)
-      (λ e. let q = eqb-true n t e in first-here T (containing T) (typeItem (typeKey n) k) _ (rw q (g k)) ∙ rw q)
+      (λ e. let q = eqb-true n t e in first-here (lineOfItem T) (containing T) (typeItem (typeKey n) k) _ (rw q (g k)) ∙ rw q)
       (λ e. let ne = eqb-false n t e in type-passes n k ks (h n k (omega arith) (omega arith)) ∙ some-from (suc n) ks t (omega arith) (omega arith) (λ i c a b. h i c (omega arith) b) g)
 
 -- ---- the test of a type is a chain over the rows

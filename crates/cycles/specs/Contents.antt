@@ -12,7 +12,7 @@ use Rattle.objects.specs.Rows.{Words, typeCount, typeWord, tableOf}
 use Rattle.objects.specs.Types.{numberRead, firstRead, totalRead, memberTypeRead}
 use Rattle.rules.specs.Chains.{Chain}
 use Rattle.rules.specs.Checks.{contents, items, lacking}
-use Rattle.rules.specs.Stages.{firstLine}
+use Rattle.rules.specs.Stages.{firstItem}
 
 -- how many there are: an array's e, a struct's fields, a named type's u
 unfoldable pub contentTotal : Words → TypeKey → ℕ
@@ -34,7 +34,7 @@ Within rows = (t e : TypeKey) → In e (inside rows t) → e .0 < typeCount rows
 
 -- 7 passed, with some text
 abbrev pub Refers : Words → Type 0
-Refers rows = (text : Bytes) × (firstLine (tableOf text rows) (lacking (tableOf text rows)) (items (tableOf text rows)) ≡ none)
+Refers rows = (text : Bytes) × (firstItem (tableOf text rows) (lacking (tableOf text rows)) (items (tableOf text rows)) ≡ none)
 
 -- "A type contains itself by value": a chain leads from what it contains back to it
 abbrev pub Back : Words → TypeKey → Type 0

@@ -10,7 +10,7 @@ use native.Mathlib.Omega.{arith}
 use Rattle.objects.specs.Lists.{Bytes}
 use Rattle.objects.specs.declared.TypeKey.{TypeKey}
 use Rattle.objects.specs.declared.PackageKey.{PackageKey}
-use Rattle.objects.specs.Table.{Table, size, typeKey, objKey, Member, Field, isMethod, kindNumber, isPointer, Basic, Struct, Named, Pointer, kindAt}
+use Rattle.objects.specs.Table.{Table, size, typeKey, objKey, Member, Field, isMethod, kindNumber, isPointer, Basic, Struct, Named, Pointer, kindAt, noTable, withTypes, withTypeLines, withMemberLines}
 use Rattle.objects.proofs.ListLaws.{cases, clash}
 use Rattle.objects.proofs.KindLaws.{pointer-is}
 use Rattle.text.specs.Bytes.{ascii, isBlank}
@@ -67,12 +67,10 @@ abbrev X : Member
 X = record { key = objKey 0; name = ascii "X"; pkg = none; type = typeKey 0; entity = Field false [] }
 
 abbrev pub starred : Table
-starred = record {
-  packages = [];
-  types = Basic 2 ∷ Struct (X ∷ []) ∷ Named (typeKey 1) [] ∷ Pointer (typeKey 2) ∷ Pointer (typeKey 3) ∷ Named (typeKey 4) [] ∷ [];
-  typeLines = 2 ∷ 3 ∷ 5 ∷ 6 ∷ 7 ∷ 8 ∷ [];
-  memberLines = 4 ∷ [];
-}
+starred =
+    withTypes (Basic 2 ∷ Struct (X ∷ []) ∷ Named (typeKey 1) [] ∷ Pointer (typeKey 2) ∷ Pointer (typeKey 3) ∷ Named (typeKey 4) [] ∷ [])
+    (withTypeLines (2 ∷ 3 ∷ 5 ∷ 6 ∷ 7 ∷ 8 ∷ [])
+    (withMemberLines (4 ∷ []) noTable))
 
 loads : load stars ≡ loaded starred
 unfolding calling

@@ -9,7 +9,7 @@ use Prim.Native.Nat.{ℕ, zero, suc, _+_, _<_}
 use Prim.Native.String.{String}
 use native.Mathlib.Omega.{arith}
 use Rattle.objects.specs.declared.ObjKey.{ObjKey}
-use Rattle.objects.specs.Table.{Table, typeKey, objKey, packageKey, Entity, Field, Method, Member, Tuple, Func, Struct, Iface, Named, Pointer, kindAt}
+use Rattle.objects.specs.Table.{Table, typeKey, objKey, packageKey, Entity, Field, Method, Member, Tuple, Func, Struct, Iface, Named, Pointer, kindAt, noTable, withPackages, withTypes, withTypeLines, withMemberLines}
 use Rattle.text.specs.Bytes.{ascii}
 use Rattle.rules.specs.Load.{load, loaded}
 use Rattle.rules.specs.Rows.{called}
@@ -25,40 +25,40 @@ abbrev pub line : (key : ℕ) → String → (p type : ℕ) → Entity → Membe
 line key name p type entity = record { key = objKey key; name = ascii name; pkg = some (packageKey p); type = typeKey type; entity = entity }
 
 abbrev pub writer : Table
-writer = record {
-  packages = ascii "disk" ∷ [];
-  types =
-      Tuple []
-      ∷ Func false (typeKey 0) (typeKey 0)
-      ∷ Struct []
-      ∷ Named (typeKey 2) (line 0 "Close" 0 1 (Method true) ∷ [])
-      ∷ Struct (line 1 "BlockWriter" 0 3 (Field true []) ∷ [])
-      ∷ Named (typeKey 4) []
-      ∷ Pointer (typeKey 5)
-      ∷ Iface (line 2 "Close" 0 1 (Method false) ∷ [])
-      ∷ [];
-  typeLines = 3 ∷ 4 ∷ 5 ∷ 6 ∷ 8 ∷ 10 ∷ 11 ∷ 12 ∷ [];
-  memberLines = 7 ∷ 9 ∷ 13 ∷ [];
-}
+writer =
+    withPackages (ascii "disk" ∷ [])
+    (withTypes (
+    Tuple []
+    ∷ Func false (typeKey 0) (typeKey 0)
+    ∷ Struct []
+    ∷ Named (typeKey 2) (line 0 "Close" 0 1 (Method true) ∷ [])
+    ∷ Struct (line 1 "BlockWriter" 0 3 (Field true []) ∷ [])
+    ∷ Named (typeKey 4) []
+    ∷ Pointer (typeKey 5)
+    ∷ Iface (line 2 "Close" 0 1 (Method false) ∷ [])
+    ∷ []
+    )
+    (withTypeLines (3 ∷ 4 ∷ 5 ∷ 6 ∷ 8 ∷ 10 ∷ 11 ∷ 12 ∷ [])
+    (withMemberLines (7 ∷ 9 ∷ 13 ∷ []) noTable)))
 
 abbrev pub catalogue : Table
-catalogue = record {
-  packages = ascii "disk" ∷ [];
-  types =
-      Tuple []
-      ∷ Func false (typeKey 0) (typeKey 0)
-      ∷ Struct []
-      ∷ Named (typeKey 2) (line 0 "Close" 0 1 (Method true) ∷ [])
-      ∷ Struct []
-      ∷ Named (typeKey 4) (line 1 "Close" 0 1 (Method true) ∷ [])
-      ∷ Struct (line 2 "BlockWriter" 0 3 (Field true []) ∷ line 3 "Cartridge" 0 5 (Field true []) ∷ [])
-      ∷ Named (typeKey 6) []
-      ∷ Pointer (typeKey 7)
-      ∷ Iface (line 4 "Close" 0 1 (Method false) ∷ [])
-      ∷ [];
-  typeLines = 3 ∷ 4 ∷ 5 ∷ 6 ∷ 8 ∷ 9 ∷ 11 ∷ 14 ∷ 15 ∷ 16 ∷ [];
-  memberLines = 7 ∷ 10 ∷ 12 ∷ 13 ∷ 17 ∷ [];
-}
+catalogue =
+    withPackages (ascii "disk" ∷ [])
+    (withTypes (
+    Tuple []
+    ∷ Func false (typeKey 0) (typeKey 0)
+    ∷ Struct []
+    ∷ Named (typeKey 2) (line 0 "Close" 0 1 (Method true) ∷ [])
+    ∷ Struct []
+    ∷ Named (typeKey 4) (line 1 "Close" 0 1 (Method true) ∷ [])
+    ∷ Struct (line 2 "BlockWriter" 0 3 (Field true []) ∷ line 3 "Cartridge" 0 5 (Field true []) ∷ [])
+    ∷ Named (typeKey 6) []
+    ∷ Pointer (typeKey 7)
+    ∷ Iface (line 4 "Close" 0 1 (Method false) ∷ [])
+    ∷ []
+    )
+    (withTypeLines (3 ∷ 4 ∷ 5 ∷ 6 ∷ 8 ∷ 9 ∷ 11 ∷ 14 ∷ 15 ∷ 16 ∷ [])
+    (withMemberLines (7 ∷ 10 ∷ 12 ∷ 13 ∷ 17 ∷ []) noTable)))
 
 -- two types are put in before type 4, a member before member 1 and one before member 2
 abbrev pub numbers : Numbers

@@ -7,7 +7,7 @@ use Prim.Native.Nat.{ℕ, zero, suc, _<_}
 use native.Mathlib.Omega.{arith}
 use Rattle.objects.specs.declared.TypeKey.{TypeKey}
 use Rattle.objects.specs.declared.PackageKey.{PackageKey}
-use Rattle.objects.specs.Table.{Table, typeKey, objKey, packageKey, Field, Method, Basic, Tuple, Func, Struct, Iface, Named, Pointer, kindAt}
+use Rattle.objects.specs.Table.{Table, typeKey, objKey, packageKey, Field, Method, Basic, Tuple, Func, Struct, Iface, Named, Pointer, kindAt, noTable, withPackages, withTypes, withTypeLines, withMemberLines}
 use Rattle.text.specs.Bytes.{ascii}
 use Rattle.rules.specs.Load.{load, loaded}
 use Rattle.rules.specs.Rows.{called}
@@ -19,22 +19,22 @@ use Rattle.growth.proofs.Disk.{line, writer, catalogue, writer-loads, c
 -- ---- a package and a type in front, and a method of the block writer: P, T and M lines
 
 abbrev pub flushing : Table
-flushing = record {
-  packages = ascii "office" ∷ ascii "disk" ∷ [];
-  types =
-      Basic 2
-      ∷ Tuple []
-      ∷ Func false (typeKey 1) (typeKey 1)
-      ∷ Struct []
-      ∷ Named (typeKey 3) (line 0 "Close" 1 2 (Method true) ∷ line 1 "Flush" 1 2 (Method true) ∷ [])
-      ∷ Struct (line 2 "BlockWriter" 1 4 (Field true []) ∷ [])
-      ∷ Named (typeKey 5) []
-      ∷ Pointer (typeKey 6)
-      ∷ Iface (line 3 "Close" 1 2 (Method false) ∷ [])
-      ∷ [];
-  typeLines = 4 ∷ 5 ∷ 6 ∷ 7 ∷ 8 ∷ 11 ∷ 13 ∷ 14 ∷ 15 ∷ [];
-  memberLines = 9 ∷ 10 ∷ 12 ∷ 16 ∷ [];
-}
+flushing =
+    withPackages (ascii "office" ∷ ascii "disk" ∷ [])
+    (withTypes (
+    Basic 2
+    ∷ Tuple []
+    ∷ Func false (typeKey 1) (typeKey 1)
+    ∷ Struct []
+    ∷ Named (typeKey 3) (line 0 "Close" 1 2 (Method true) ∷ line 1 "Flush" 1 2 (Method true) ∷ [])
+    ∷ Struct (line 2 "BlockWriter" 1 4 (Field true []) ∷ [])
+    ∷ Named (typeKey 5) []
+    ∷ Pointer (typeKey 6)
+    ∷ Iface (line 3 "Close" 1 2 (Method false) ∷ [])
+    ∷ []
+    )
+    (withTypeLines (4 ∷ 5 ∷ 6 ∷ 7 ∷ 8 ∷ 11 ∷ 13 ∷ 14 ∷ 15 ∷ [])
+    (withMemberLines (9 ∷ 10 ∷ 12 ∷ 16 ∷ []) noTable)))
 
 abbrev pub moved : Numbers
 moved = record { pk = λ p. packageKey (suc (p .0)); ty = λ t. typeKey (suc (t .0)); mem = λ m. objKey (shift 1 1 (m .0)) }
@@ -77,21 +77,21 @@ elsewhere-grown = record {
 -- ---- the catalogue's own `Close`: an M line at the end of a named type
 
 abbrev pub closing : Table
-closing = record {
-  packages = ascii "disk" ∷ [];
-  types =
-      Tuple []
-      ∷ Func false (typeKey 0) (typeKey 0)
-      ∷ Struct []
-      ∷ Named (typeKey 2) (line 0 "Close" 0 1 (Method true) ∷ [])
-      ∷ Struct (line 1 "BlockWriter" 0 3 (Field true []) ∷ [])
-      ∷ Named (typeKey 4) (line 2 "Close" 0 1 (Method true) ∷ [])
-      ∷ Pointer (typeKey 5)
-      ∷ Iface (line 3 "Close" 0 1 (Method false) ∷ [])
-      ∷ [];
-  typeLines = 3 ∷ 4 ∷ 5 ∷ 6 ∷ 8 ∷ 10 ∷ 12 ∷ 13 ∷ [];
-  memberLines = 7 ∷ 9 ∷ 11 ∷ 14 ∷ [];
-}
+closing =
+    withPackages (ascii "disk" ∷ [])
+    (withTypes (
+    Tuple []
+    ∷ Func false (typeKey 0) (typeKey 0)
+    ∷ Struct []
+    ∷ Named (typeKey 2) (line 0 "Close" 0 1 (Method true) ∷ [])
+    ∷ Struct (line 1 "BlockWriter" 0 3 (Field true []) ∷ [])
+    ∷ Named (typeKey 4) (line 2 "Close" 0 1 (Method true) ∷ [])
+    ∷ Pointer (typeKey 5)
+    ∷ Iface (line 3 "Close" 0 1 (Method false) ∷ [])
+    ∷ []
+    )
+    (withTypeLines (3 ∷ 4 ∷ 5 ∷ 6 ∷ 8 ∷ 10 ∷ 12 ∷ 13 ∷ [])
+    (withMemberLines (7 ∷ 9 ∷ 11 ∷ 14 ∷ []) noTable)))
 
 -- only members from a number on move up, by one
 abbrev pub from : ℕ → Numbers
@@ -135,25 +135,25 @@ own-grown = record {
 -- ---- a third type that the catalogue embeds: T lines with theirs, and an F line
 
 abbrev pub taping : Table
-taping = record {
-  packages = ascii "disk" ∷ [];
-  types =
-      Tuple []
-      ∷ Func false (typeKey 0) (typeKey 0)
-      ∷ Struct []
-      ∷ Named (typeKey 2) (line 0 "Close" 0 1 (Method true) ∷ [])
-      ∷ Struct []
-      ∷ Named (typeKey 4) (line 1 "Close" 0 1 (Method true) ∷ [])
-      ∷ Struct (line 2 "BlockWriter" 0 3 (Field true []) ∷ line 3 "Cartridge" 0 5 (Field true []) ∷ line 4 "Tape" 0 11 (Field true []) ∷ [])
-      ∷ Named (typeKey 6) []
-      ∷ Pointer (typeKey 7)
-      ∷ Iface (line 5 "Close" 0 1 (Method false) ∷ [])
-      ∷ Struct []
-      ∷ Named (typeKey 10) (line 6 "Close" 0 1 (Method true) ∷ [])
-      ∷ [];
-  typeLines = 3 ∷ 4 ∷ 5 ∷ 6 ∷ 8 ∷ 9 ∷ 11 ∷ 15 ∷ 16 ∷ 17 ∷ 19 ∷ 20 ∷ [];
-  memberLines = 7 ∷ 10 ∷ 12 ∷ 13 ∷ 14 ∷ 18 ∷ 21 ∷ [];
-}
+taping =
+    withPackages (ascii "disk" ∷ [])
+    (withTypes (
+    Tuple []
+    ∷ Func false (typeKey 0) (typeKey 0)
+    ∷ Struct []
+    ∷ Named (typeKey 2) (line 0 "Close" 0 1 (Method true) ∷ [])
+    ∷ Struct []
+    ∷ Named (typeKey 4) (line 1 "Close" 0 1 (Method true) ∷ [])
+    ∷ Struct (line 2 "BlockWriter" 0 3 (Field true []) ∷ line 3 "Cartridge" 0 5 (Field true []) ∷ line 4 "Tape" 0 11 (Field true []) ∷ [])
+    ∷ Named (typeKey 6) []
+    ∷ Pointer (typeKey 7)
+    ∷ Iface (line 5 "Close" 0 1 (Method false) ∷ [])
+    ∷ Struct []
+    ∷ Named (typeKey 10) (line 6 "Close" 0 1 (Method true) ∷ [])
+    ∷ []
+    )
+    (withTypeLines (3 ∷ 4 ∷ 5 ∷ 6 ∷ 8 ∷ 9 ∷ 11 ∷ 15 ∷ 16 ∷ 17 ∷ 19 ∷ 20 ∷ [])
+    (withMemberLines (7 ∷ 10 ∷ 12 ∷ 13 ∷ 14 ∷ 18 ∷ 21 ∷ []) noTable)))
 
 pub taping-grew : (t : ℕ) → t < 10 → Grew (from 4) catalogue (typeKey t) (kindAt catalogue (typeKey t)) (kindAt taping (typeKey t))
 unfolding kindAt

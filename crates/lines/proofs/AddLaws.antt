@@ -13,9 +13,9 @@ use Rattle.objects.specs.declared.PackageKey.{PackageKey}
 use Rattle.objects.specs.declared.«Package».{«Package»}
 use Rattle.objects.specs.Bounds.{maxPackages, maxTypes, maxMembers, rowWords, bounds}
 use Rattle.objects.specs.Lists.{Bytes}
-use Rattle.objects.specs.Table.{Table, Kind, typeKey, kindNumber, memberCount, Numbered}
+use Rattle.objects.specs.Table.{Table, Kind, typeKey, kindNumber, memberCount, Numbered, plusPackage, plusType, plusMember}
 use Rattle.objects.specs.Rows.{Words, packageCount, typeCount, memberCountOf, elementCount, typeWord, bytesAt, packageMeant, entityOf, kindOf, membersFrom, elementsFrom, tableOf}
-use Rattle.objects.specs.Laid.{used, Laid, Holds, lastType, memberOf, plusPackage, plusType, plusMember}
+use Rattle.objects.specs.Laid.{used, Laid, Holds, lastType, memberOf}
 use Rattle.objects.proofs.RowLaws.{size-read, member-count-read, package-count-read}
 use Rattle.rules.specs.Forms.{Line, packageLine, typeLine, memberLine}
 use Rattle.rules.specs.Load.{refused, loaded, lastKind, added, inPlace, hasRoom, lineAdded}

@@ -11,7 +11,7 @@ use lib.ListN.{length, getD, take, drop, replicate, getD-replicate, length-take,
 use borrow.Author.Tests.{eq-eqb, ne-eqb, eqb-true, lt-ltb, le-ltb}
 use Rattle.objects.specs.Bounds.{maxText, typesAt, bounds}
 use Rattle.objects.specs.Lists.{Bytes, empty, any}
-use Rattle.objects.specs.Table.{Table, size, memberCount, objKey, withMember}
+use Rattle.objects.specs.Table.{Table, size, memberCount, objKey, withMember, noTable, plusPackage, plusType, plusMember}
 use Rattle.objects.specs.Rows.{Words, wordAt, typeCount, memberCountOf, elementCount, tableOf}
 use Rattle.objects.specs.Laid.{Laid}
 use Rattle.objects.proofs.ListLaws.{cases, clash, or-l, or-r}
@@ -26,7 +26,7 @@ use Rattle.text.proofs.ByteLaws.{same-true}
 use Rattle.text.proofs.LineLaws.{Free, split-at, split-first}
 use Rattle.text.proofs.LineEnds.{pieces-at, line-within}
 use Rattle.rules.specs.Forms.{Line, packageLine, typeLine, memberLine, lineOf}
-use Rattle.rules.specs.Load.{Loaded, refused, loaded, added, inPlace, hasRoom, lineAdded, linesFrom, thenChecked, noTable, headed, loadWithin, load}
+use Rattle.rules.specs.Load.{Loaded, refused, loaded, added, inPlace, hasRoom, lineAdded, linesFrom, thenChecked, headed, loadWithin, load}
 use Rattle.line_forms.specs.Weights.{weight, lineTypes, typesIn, lineMembers, membersIn}
 use Rattle.line_forms.proofs.Weights.{fields-weight, brought}
 use Rattle.lines.specs.declared.Verdict.{Verdict}
@@ -118,13 +118,13 @@ module _ (count : Table → ℕ) (brings : Option Line → ℕ) (more : (T : Tab
       omega arith
 
 members-added : (T : Table) (line : ℕ) (l : Line) → memberCount (added T line l) ≡ memberCount T + membersIn (some l)
-unfolding added membersIn lineMembers
+unfolding added plusPackage plusType plusMember membersIn lineMembers
 members-added T line (packageLine path) = omega arith
 members-added T line (typeLine k) = omega arith
 members-added T line (memberLine name pkg type e) = length-append (T .memberLines) (line ∷ [])
 
 types-added : (T : Table) (line : ℕ) (l : Line) → size (added T line l) ≡ size T + typesIn (some l)
-unfolding added typesIn lineTypes
+unfolding added plusPackage plusType plusMember typesIn lineTypes
 types-added T line (packageLine path) = omega arith
 types-added T line (typeLine k) = length-append (T .types) (k ∷ [])
 types-added T line (memberLine name pkg type e) = let l = onLast-length (withMember (record { key = objKey (memberCount T); name = name; pkg = pkg; type = type; entity = e })) (T .types) in omega arith

@@ -10,9 +10,9 @@ use Rattle.objects.specs.declared.TypeKey.{TypeKey}
 use Rattle.objects.specs.declared.«Package».{«Package»}
 use Rattle.objects.specs.Bounds.{maxReference, maxText, maxTypes, maxElements, rowWords, roomFor}
 use Rattle.objects.specs.Lists.{Bytes, empty, lastOr, onLast, mapped}
-use Rattle.objects.specs.Table.{Table, Kind, Basic, Array, Slice, Pointer, Map, Chan, Tuple, Func, Struct, Iface, Named, typeKey, kindNumber, Numbered}
+use Rattle.objects.specs.Table.{Table, Kind, Basic, Array, Slice, Pointer, Map, Chan, Tuple, Func, Struct, Iface, Named, typeKey, kindNumber, Numbered, plusType}
 use Rattle.objects.specs.Rows.{Words, typeCount, memberCountOf, elementCount, typeWord, packageMeant, kindOf, elementsFrom, tableOf}
-use Rattle.objects.specs.Laid.{used, Laid, Holds, lastType, elementAdded, plusType, plusElement}
+use Rattle.objects.specs.Laid.{used, Laid, Holds, lastType, elementAdded, plusElement}
 use Rattle.objects.proofs.RoomLaws.{types-room, members-room}
 use Rattle.objects.proofs.ListLaws.{clash}
 use Rattle.objects.proofs.Numbers.{onLast-at}

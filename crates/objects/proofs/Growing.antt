@@ -10,9 +10,9 @@ use borrow.Author.Tests.{ne-eqb}
 use Rattle.objects.specs.declared.TypeKey.{TypeKey}
 use Rattle.objects.specs.Bounds.{maxTypes, maxPackages, maxMembers, maxElements, rowWords, membersAt}
 use Rattle.objects.specs.Lists.{Bytes, upTo, onLast}
-use Rattle.objects.specs.Table.{Member, Kind, Struct, Iface, Named, Tuple, typeKey, objKey, packageKey, withMember}
+use Rattle.objects.specs.Table.{Member, Kind, Struct, Iface, Named, Tuple, typeKey, objKey, packageKey, withMember, plusPackage, plusType, plusMember}
 use Rattle.objects.specs.Rows.{Words, packageCount, typeCount, memberCountOf, elementCount, typeWord, memberWord, packageWord, elementAt, bytesAt, pkgOf, memberAt, membersFrom, elementsFrom, kindOf, kindRead, pathRead, tableOf}
-use Rattle.objects.specs.Laid.{endOf, typesUsed, used, Laid, Holds, memberOf, elementAdded, plusPackage, plusType, plusMember, plusElement}
+use Rattle.objects.specs.Laid.{endOf, typesUsed, used, Laid, Holds, memberOf, elementAdded, plusElement}
 use Rattle.objects.proofs.Numbers.{each-more, each-grown, each-onLast}
 use Rattle.objects.proofs.RowLaws.{by-kind, named-kind, members-more, elements-more}
 use Rattle.objects.proofs.Stores.{Kept}

@@ -12,7 +12,7 @@ use Rattle.objects.specs.declared.ObjKey.{ObjKey}
 use Rattle.objects.specs.declared.PackageKey.{PackageKey}
 use Rattle.objects.specs.Bounds.{maxTypes, maxPackages, maxMembers, maxElements, membersAt}
 use Rattle.objects.specs.Lists.{Bytes, upTo}
-use Rattle.objects.specs.Table.{Table, Kind, Tuple, typeKey, objKey, packageKey}
+use Rattle.objects.specs.Table.{Table, Kind, Tuple, typeKey, objKey, packageKey, noTable, withPackages, withTypes, withTypeLines, withMemberLines}
 use Rattle.objects.specs.Rows.{Words, packageCount, typeCount, memberCountOf, elementCount, typeWord, memberWord, packageWord, elementAt, memberAt, membersFrom, elementsFrom, kindOf, kindRead, pathRead}
 use Rattle.objects.specs.Laid.{endOf, typesUsed, used, Laid}
 use Rattle.objects.proofs.ListLaws.{cases, either}
@@ -20,7 +20,7 @@ use Rattle.objects.proofs.Numbers.{each-same, run-same}
 use Rattle.objects.proofs.Stores.{Kept}
 
 pub same-table : {p p' : List Bytes} {k k' : List Kind} {l l' m m' : List ℕ} → p ≡ p' → k ≡ k' → l ≡ l' → m ≡ m'
-    → _≡_ {A = Table} (record { packages = p; types = k; typeLines = l; memberLines = m }) (record { packages = p'; types = k'; typeLines = l'; memberLines = m' })
+    → _≡_ {A = Table} (withPackages p (withTypes k (withTypeLines l (withMemberLines m noTable)))) (withPackages p' (withTypes k' (withTypeLines l' (withMemberLines m' noTable))))
 same-table e f g h = rw (e, f, g, h)
 
 -- ---- rows, members and kinds

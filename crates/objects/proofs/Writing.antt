@@ -11,9 +11,9 @@ use lib.Seq.{sets, length-sets}
 use Rattle.objects.specs.declared.TypeKey.{TypeKey}
 use Rattle.objects.specs.declared.«Package».{«Package»}
 use Rattle.objects.specs.Bounds.{maxTypes, maxPackages, maxMembers, maxElements, rowWords, typesAt, membersAt, packagesAt}
-use Rattle.objects.specs.Table.{Table, typeKey}
+use Rattle.objects.specs.Table.{noTable, typeKey, plusPackage, plusType, plusMember}
 use Rattle.objects.specs.Rows.{Words, wordAt, packageCount, typeCount, memberCountOf, elementCount, typeWord, memberWord, packageWord, elementAt, bytesAt, packageMeant, packageFrom, pkgOf, kindOf, tableOf}
-use Rattle.objects.specs.Laid.{endOf, lastType, typesUsed, used, Laid, Holds, raised, memberOf, plusPackage, plusType, plusMember, plusElement}
+use Rattle.objects.specs.Laid.{endOf, lastType, typesUsed, used, Laid, Holds, raised, memberOf, plusElement}
 use Rattle.objects.proofs.ListLaws.{cases}
 use Rattle.objects.proofs.RoomLaws.{types-behind, members-within}
 use Rattle.objects.proofs.Stores.{word-put, word-kept, run-put, run-kept, Kept, Free, kept-none, kept-set, kept-sets}
@@ -21,10 +21,7 @@ use Rattle.objects.proofs.Growing.{package-grown, type-grown, member-gr
 
 -- ---- before the first line
 
-abbrev pub emptyTable : Table
-emptyTable = record { packages = []; types = []; typeLines = []; memberLines = [] }
-
-pub empty-holds : (rows : Words) → typesAt ≤ length rows → ((i : ℕ) → i < 4 → wordAt rows i ≡ 0) → Holds rows (λ text. emptyTable)
+pub empty-holds : (rows : Words) → typesAt ≤ length rows → ((i : ℕ) → i < 4 → wordAt rows i ≡ 0) → Holds rows (λ text. noTable)
 unfolding packageCount typeCount memberCountOf elementCount tableOf
 empty-holds rows long zero =
     let p : wordAt rows 0 ≡ 0 = zero 0 (omega arith) in
@@ -46,7 +43,7 @@ empty-holds rows long zero =
     }
 
 -- as a local array of the code begins
-pub zeros-hold : (n : ℕ) → typesAt ≤ n → Holds (replicate n 0) (λ text. emptyTable)
+pub zeros-hold : (n : ℕ) → typesAt ≤ n → Holds (replicate n 0) (λ text. noTable)
 unfolding wordAt
 zeros-hold n h = empty-holds (replicate n 0) (rw (length-replicate {A = ℕ} n 0) h) (λ i l. getD-replicate n i 0 0 (omega arith))
 

@@ -65,6 +65,10 @@ maxPath = 128
 abbrev pub maxTag : ℕ
 maxTag = 128
 
+-- the greatest number of a refusal: 13, "The answer is longer than the buffer"
+abbrev pub lastRefusal : ℕ
+lastRefusal = 13
+
 -- "minus (refusal × 65,536 + line)"
 abbrev pub refusalUnit : ℕ
 refusalUnit = 65_536

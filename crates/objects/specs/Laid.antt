@@ -1,5 +1,4 @@
--- How rows are laid while a table is written, and the table that holds one line more. Each writer (src/writers.rt) keeps `Laid` and says what table the
--- rows then hold.
+-- How rows are laid while a table is written. Each writer (src/writers.rt) keeps `Laid` and says what table the rows then hold.
 use mathlib.Core.Path.{_≡_}
 use mathlib.Core.Bool.{cond}
 use mathlib.Core.List.{[], _∷_, _++_}
@@ -12,7 +11,7 @@ use Rattle.objects.specs.declared.TypeKey.{TypeKey}
 use Rattle.objects.specs.declared.PackageKey.{PackageKey}
 use Rattle.objects.specs.Bounds.{maxTypes, maxPackages, maxMembers, maxElements, rowWords, typesAt, membersAt}
 use Rattle.objects.specs.Lists.{Bytes, onLast}
-use Rattle.objects.specs.Table.{Table, Member, Kind, Basic, Array, Slice, Pointer, Map, Chan, Tuple, Func, Struct, Iface, Named, typeKey, objKey, withMember}
+use Rattle.objects.specs.Table.{Table, Member, Kind, Basic, Array, Slice, Pointer, Map, Chan, Tuple, Func, Struct, Iface, Named, typeKey, objKey, withTypes}
 use Rattle.objects.specs.Rows.{Words, packageCount, typeCount, memberCountOf, elementCount, typeWord, bytesAt, entityOf, tableOf}
 
 -- ---- rows in order
@@ -53,7 +52,7 @@ pub record Holds (rows : Words) (table : Bytes → Table) : Type 0 where
 unfoldable pub raised : Words → Words
 raised rows = set rows (typesAt + rowWords * (typeCount rows - 1) + 5) (typeWord rows (lastType rows) 5 + 1)
 
--- ---- a table with one line more
+-- ---- what a line is made of
 
 -- the member with this key and this package that a row with these words says
 abbrev pub memberOf : Bytes → (key name len : ℕ) (pkg : Option PackageKey) (type form tag tagLen : ℕ) → Member
@@ -79,17 +78,8 @@ elementAdded t (Struct ms) = Struct ms
 elementAdded t (Iface ms) = Iface ms
 elementAdded t (Named u ms) = Named u ms
 
-unfoldable pub plusPackage : Table → Bytes → Table
-plusPackage T path = record { packages = T .packages ++ (path ∷ []); types = T .types; typeLines = T .typeLines; memberLines = T .memberLines }
-
-unfoldable pub plusType : Table → ℕ → Kind → Table
-plusType T line k = record { packages = T .packages; types = T .types ++ (k ∷ []); typeLines = T .typeLines ++ (line ∷ []); memberLines = T .memberLines }
-
-unfoldable pub plusMember : Table → ℕ → Member → Table
-plusMember T line m = record { packages = T .packages; types = onLast (withMember m) (T .types); typeLines = T .typeLines; memberLines = T .memberLines ++ (line ∷ []) }
-
 unfoldable pub plusElement : Table → TypeKey → Table
-plusElement T e = record { packages = T .packages; types = onLast (elementAdded e) (T .types); typeLines = T .typeLines; memberLines = T .memberLines }
+plusElement T e = withTypes (onLast (elementAdded e) (T .types)) T
 
 -- ---- a type's rank
 

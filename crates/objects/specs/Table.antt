@@ -10,7 +10,7 @@ use Rattle.objects.specs.declared.ObjKey.{ObjKey}
 use Rattle.objects.specs.declared.PackageKey.{PackageKey}
 use Rattle.objects.specs.declared.Dir.{Dir}
 use Rattle.objects.specs.Bounds.{maxReference}
-use Rattle.objects.specs.Lists.{Bytes, headOr}
+use Rattle.objects.specs.Lists.{Bytes, headOr, onLast}
 
 -- ---- keys: "A type number, a member number and a package number are each a kind of their own"
 
@@ -85,6 +85,22 @@ pub record Table : Type 0 where
   pub types : List Kind
   pub typeLines : List ℕ
   pub memberLines : List ℕ
+
+-- Tables are made from the one without lines, by what is put in place of a part: a part more touches none of those who make one.
+abbrev pub noTable : Table
+noTable = record { packages = []; types = []; typeLines = []; memberLines = [] }
+
+abbrev pub withPackages : List Bytes → Table → Table
+withPackages packages T = record { packages = packages; types = T .types; typeLines = T .typeLines; memberLines = T .memberLines }
+
+abbrev pub withTypes : List Kind → Table → Table
+withTypes types T = record { packages = T .packages; types = types; typeLines = T .typeLines; memberLines = T .memberLines }
+
+abbrev pub withTypeLines : List ℕ → Table → Table
+withTypeLines lines T = record { packages = T .packages; types = T .types; typeLines = lines; memberLines = T .memberLines }
+
+abbrev pub withMemberLines : List ℕ → Table → Table
+withMemberLines lines T = record { packages = T .packages; types = T .types; typeLines = T .typeLines; memberLines = lines }
 
 -- ---- what a kind says
 
@@ -183,6 +199,17 @@ allMethodsOf k = cond (isIface k) (membersOf k) []
 -- "By value (10): through array elements, fields and a named type's u."
 abbrev pub byValue : Kind → List TypeKey
 byValue k = cond (isArray k || isNamed k) (refs k) (map (λ m. m .type) (fieldsOf k))
+
+-- ---- a table with one line more, which is line `line` of the text
+
+unfoldable pub plusPackage : Table → Bytes → Table
+plusPackage T path = withPackages (T .packages ++ (path ∷ [])) T
+
+unfoldable pub plusType : Table → ℕ → Kind → Table
+plusType T line k = withTypes (T .types ++ (k ∷ [])) (withTypeLines (T .typeLines ++ (line ∷ [])) T)
+
+unfoldable pub plusMember : Table → ℕ → Member → Table
+plusMember T line m = withTypes (onLast (withMember m) (T .types)) (withMemberLines (T .memberLines ++ (line ∷ [])) T)
 
 -- ---- packages
 

@@ -6,7 +6,7 @@ use mathlib.Core.Logic.{_⊎_, _↔_, _≢_}
 use mathlib.Core.Option.{Option, some}
 use Prim.Native.Nat.{ℕ, _*_, _≤_, _<_}
 use lib.ListN.{length, replicate}
-use Rattle.objects.specs.Bounds.{workWords, refusalUnit, Bounds}
+use Rattle.objects.specs.Bounds.{workWords, lastRefusal, refusalUnit, Bounds}
 use Rattle.objects.specs.Lists.{Bytes, In, Sorted}
 use Rattle.objects.specs.declared.TypeKey.{TypeKey}
 use Rattle.objects.specs.declared.PackageKey.{PackageKey}
@@ -39,7 +39,7 @@ pub record CallGives (table : Bytes) (c : Lent) : Type 0 where
   pub tooFewWords : length (c .work) < workWords → called table c ≡ record { number = refusal 1 0; answer = c .buffer; work = c .work }
   -- "minus (refusal × 65,536 + line)"; "a refusal changes none of it"; "The work area is zero on every return except after refusal 1"
   pub refuses : (n line : ℕ) → workWords ≤ length (c .work) → outcome table (c .line) (length (c .buffer)) ≡ refuse n line
-      → (called table c ≡ record { number = refusal n line; answer = c .buffer; work = replicate (length (c .work)) 0 }) × (2 ≤ n) × (n ≤ 13) × (line < refusalUnit)
+      → (called table c ≡ record { number = refusal n line; answer = c .buffer; work = replicate (length (c .work)) 0 }) × (2 ≤ n) × (n ≤ lastRefusal) × (line < refusalUnit)
   -- "the answer's length"; "An answer fills the front of the answer buffer and the rest is unchanged"
   pub answers : (bytes : Bytes) → workWords ≤ length (c .work) → outcome table (c .line) (length (c .buffer)) ≡ say bytes
       → (called table c ≡ answersWith bytes c) × (length bytes ≤ length (c .buffer))

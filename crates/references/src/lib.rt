@@ -8,7 +8,7 @@ ghost use Rattle.objects.specs.Rows.{typeCount};
 ghost use Rattle.objects.specs.Types.{numberRead, found};
 ghost use Rattle.objects.specs.Laid.{Laid};
 ghost use Rattle.rules.specs.Checks.{typeItem, memberItem, items, lacking, forbidden};
-ghost use Rattle.rules.specs.Stages.{firstLine, linesOf, linesUnder};
+ghost use Rattle.rules.specs.Stages.{firstItem, linesOf, linesUnder};
 ghost use Rattle.references.specs.Lines.{Says, SaysOf, linesRead};
 ghost use Rattle.references.specs.Tests.{fails};
 use crate::allowed::member_allowed;
@@ -76,7 +76,7 @@ pub fn member_lines(rows: &[u32], t: TypeKey) -> u32
 // The first line under the T line of t that fails.
 fn first_member_line(rows: &[u32], test: Test, t: TypeKey) -> Stage
     requires { ⌜ Laid (now rows) × (t .0 < typeCount (now rows)) ⌝ }
-    ensures { λ r. ⌜ Says (now (rows .entry)) (found r) (λ T. firstLine T (fails T test) (linesUnder t (kindAt T t))) ⌝ }
+    ensures { λ r. ⌜ Says (now (rows .entry)) (found r) (λ T. firstItem T (fails T test) (linesUnder t (kindAt T t))) ⌝ }
 {
     let first = first_member(rows, t);
     let n = member_lines(rows, t);
@@ -94,7 +94,7 @@ fn first_member_line(rows: &[u32], test: Test, t: TypeKey) -> Stage
 // The first line of t that fails: its T line, or one under it.
 fn first_line_of(rows: &[u32], test: Test, t: TypeKey) -> Stage
     requires { ⌜ Laid (now rows) × (t .0 < typeCount (now rows)) ⌝ }
-    ensures { λ r. ⌜ Says (now (rows .entry)) (found r) (λ T. firstLine T (fails T test) (linesOf t (kindAt T t))) ⌝ }
+    ensures { λ r. ⌜ Says (now (rows .entry)) (found r) (λ T. firstItem T (fails T test) (linesOf t (kindAt T t))) ⌝ }
 {
     if type_fails(rows, test, t) {
         return Stage::Bad(type_word(rows, t, 6));
@@ -107,7 +107,7 @@ fn first_line_of(rows: &[u32], test: Test, t: TypeKey) -> Stage
 // The first line of the table that fails.
 fn first_line(rows: &[u32], test: Test) -> Stage
     requires { ⌜ Laid (now rows) ⌝ }
-    ensures { λ r. ⌜ Says (now (rows .entry)) (found r) (λ T. firstLine T (fails T test) (items T)) ⌝ }
+    ensures { λ r. ⌜ Says (now (rows .entry)) (found r) (λ T. firstItem T (fails T test) (items T)) ⌝ }
 {
     let n = type_count(rows);
     let mut t = 0;
@@ -127,7 +127,7 @@ fn first_line(rows: &[u32], test: Test) -> Stage
 // 7: "A line refers to a package or type number that the table lacks."
 pub fn lacking(rows: &[u32]) -> Stage
     requires { ⌜ Laid (now rows) ⌝ }
-    ensures { λ r. ⌜ Says (now (rows .entry)) (found r) (λ T. firstLine T (lacking T) (items T)) ⌝ }
+    ensures { λ r. ⌜ Says (now (rows .entry)) (found r) (λ T. firstItem T (lacking T) (items T)) ⌝ }
 {
     first_line(rows, Test::Lacking)
 }
@@ -135,7 +135,7 @@ pub fn lacking(rows: &[u32]) -> Stage
 // 8: "A line refers to a kind of type not allowed there." It does not matter whether 7 was found.
 pub fn forbidden(rows: &[u32]) -> Stage
     requires { ⌜ Laid (now rows) ⌝ }
-    ensures { λ r. ⌜ Says (now (rows .entry)) (found r) (λ T. firstLine T (forbidden T) (items T)) ⌝ }
+    ensures { λ r. ⌜ Says (now (rows .entry)) (found r) (λ T. firstItem T (forbidden T) (items T)) ⌝ }
 {
     first_line(rows, Test::Forbidden)
 }

@@ -12,12 +12,12 @@ use lib.ListN.{length}
 use borrow.Author.Tests.{ltb-true, ltb-false, lt-ltb, le-ltb}
 use Rattle.objects.specs.Bounds.{maxPerType, Bounds}
 use Rattle.objects.specs.Lists.{Bytes, empty}
-use Rattle.objects.specs.Table.{Table, size, memberCount, membersOf}
+use Rattle.objects.specs.Table.{Table, size, memberCount, membersOf, noTable}
 use Rattle.objects.proofs.ListLaws.{cases, clash, and-l, and-r}
 use Rattle.text.specs.Bytes.{ascii, sameBytes}
 use Rattle.text.specs.Lines.{pieces, fields}
 use Rattle.rules.specs.Forms.{Line, packageLine, typeLine, memberLine, lineOf}
-use Rattle.rules.specs.Load.{Loaded, refused, loaded, lastKind, inPlace, hasRoom, lineAdded, linesFrom, thenChecked, noTable, headed, loadWithin, Within, Wider}
+use Rattle.rules.specs.Load.{Loaded, refused, loaded, lastKind, inPlace, hasRoom, lineAdded, linesFrom, thenChecked, headed, loadWithin, Within, Wider}
 use Rattle.rules.specs.Asked.{outcomeOf, outcomeWithin, askedWithin}
 use Rattle.rules.specs.Typeask.{inputOf, printedAll, typeaskWithin}
 use Rattle.rules.proofs.LoadLaws.{Built}

@@ -11,7 +11,7 @@ use borrow.Author.Tests.{ltb-false}
 use Rattle.objects.specs.Bounds.{refusalUnit, Bounds, bounds}
 use Rattle.objects.specs.Lists.{Bytes, In, headOr}
 use Rattle.objects.specs.declared.TypeKey.{TypeKey}
-use Rattle.objects.specs.Table.{Table, size, typeKey, Member, Kind, Basic, membersOf, kindAt}
+use Rattle.objects.specs.Table.{Table, size, typeKey, Member, Kind, Basic, membersOf, noTable, kindAt}
 use Rattle.objects.proofs.ListLaws.{cases, In-append-l, In-append-r}
 use Rattle.objects.proofs.PartLaws.{getD-all}
 use Rattle.text.specs.Bytes.{ascii, sameBytes}
@@ -19,7 +19,9 @@ use Rattle.text.specs.Lines.{split, pieces}
 use Rattle.text.proofs.ByteLaws.{same-true}
 use Rattle.text.proofs.PieceLaws.{split-few}
 use Rattle.rules.specs.Checks.{Item, typeItem, memberItem, memberItems, itemsFrom, items, lineOfItem, lacking, forbidden, clashing, containing}
-use Rattle.rules.specs.Load.{Loaded, refused, loaded, linesFrom, unless, checked, thenChecked, noTable, headed, loadWithin, load}
+use Rattle.rules.specs.Load.{Loaded, refused, loaded, linesFrom, staged, checked, thenChecked, headed, loadWithin, load}
+use Rattle.rules.specs.Stages.{firstItem}
+use Rattle.rules.proofs.StageLaws.{stage-is}
 use Rattle.rules.proofs.LoadLaws.{Built, Read, none-built, read-later, lines-read}
 
 -- ---- the lines of the table are its items
@@ -65,23 +67,6 @@ module _ (T : Table) where
 
 -- ---- the stages
 
--- what holds of the refusal at each line that fails, and of the rest if none does, holds of the stage
-unless-is : (P : Loaded → Type 0) (T : Table) (bad : Item → Bool) (n : ℕ) (is : List Item) (rest : Loaded)
-    → ((i : Item) → In i is → P (refused n (lineOfItem T i))) → (((i : Item) → In i is → bad i ≡ false) → P rest) → P (unless T bad n is rest)
-unfolding unless
-unless-is P T bad n [] rest fails passes = passes (λ i j. absurd j)
-unless-is P T bad n (i ∷ is) rest fails passes =
-    go (bad i) refl (fails i (inl refl)) (λ e. unless-is P T bad n is rest (λ j k. fails j (inr k)) (λ f. passes (all e f)))
-  where
-    all : bad i ≡ false → ((j : Item) → In j is → bad j ≡ false) → (j : Item) → In j (i ∷ is) → bad j ≡ false
-    all e f j (inl q) = rw q e
-    all e f j (inr k) = f j k
-
-    go : (b : Bool) → bad i ≡ b → P (refused n (lineOfItem T i)) → (bad i ≡ false → P (unless T bad n is rest))
-        → P (elim b [ true ↦ refused n (lineOfItem T i) | false ↦ unless T bad n is rest ])
-    go true e r s = r
-    go false e r s = s e
-
 -- no line of the table fails one of the four tests
 pub record Passed (T : Table) : Type 0 where
   pub lacks : (i : Item) → In i (items T) → lacking T i ≡ false
@@ -103,11 +88,14 @@ module _ (w : Bounds) where
   checked-right : (line : ℕ) (T : Table) → 0 < line → Built w line T → Right line (checked T)
   unfolding checked
   checked-right line T h b =
-      unless-is (Right line) T (lacking T) 7 (items T) _ (λ i j. (omega arith, omega arith, item-line line T h b i)) (λ lack.
-      unless-is (Right line) T (forbidden T) 8 (items T) _ (λ i j. (omega arith, omega arith, item-line line T h b i)) (λ forbid.
-      unless-is (Right line) T (clashing T) 9 (items T) _ (λ i j. (omega arith, omega arith, item-line line T h b i)) (λ clash.
-      unless-is (Right line) T (containing T) 10 (items T) (loaded T) (λ i j. (omega arith, omega arith, item-line line T h b i)) (λ contain.
+      by-lines (lacking T) 7 (omega arith, omega arith) _ (λ lack.
+      by-lines (forbidden T) 8 (omega arith, omega arith) _ (λ forbid.
+      by-lines (clashing T) 9 (omega arith, omega arith) _ (λ clash.
+      by-lines (containing T) 10 (omega arith, omega arith) _ (λ contain.
       (b, record { lacks = lack; forbids = forbid; clashes = clash; contains = contain })))))
+    where
+      by-lines : (bad : Item → Bool) (n : ℕ) → (2 ≤ n) × (n ≤ 10) → (rest : Loaded) → (((i : Item) → In i (items T) → bad i ≡ false) → Right line rest) → Right line (staged n (firstItem T bad (items T)) rest)
+      by-lines bad n k rest passes = stage-is (lineOfItem T) bad (Right line) n (items T) rest (λ i j. (k .0, k .1, item-line line T h b i)) passes
 
   then-right : (line : ℕ) (L : Loaded) → 0 < line → Read w line L → Right line (thenChecked L)
   then-right line (refused n at) h r = let a = r .0 in let b = r .1 in (omega arith, omega arith, r .2)

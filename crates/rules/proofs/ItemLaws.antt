@@ -10,7 +10,7 @@ use lib.Seq.{take-suc, drop-cons}
 use Rattle.objects.specs.declared.TypeKey.{TypeKey}
 use Rattle.objects.specs.Table.{Table, Member, Kind, Basic, typeKey, size, membersOf, kindAt}
 use Rattle.rules.specs.Checks.{Item, typeItem, memberItem, memberItems, itemsFrom, items, lineOfItem}
-use Rattle.rules.specs.Stages.{firstLine, orElse, linesUnder, linesOf}
+use Rattle.rules.specs.Stages.{firstLine, firstItem, orElse, linesUnder, linesOf}
 use Rattle.rules.proofs.StageLaws.{first-here, first-later, first-append}
 
 -- ---- from a type on
@@ -24,37 +24,37 @@ unfolding typesLeft linesOf linesUnder kindAt itemsFrom
 types-next T i h = rw (drop-cons (T .types) i (Basic 0) h, add-one i)
 
 module _ (T : Table) (bad : Item → Bool) where
-  pub types-start : firstLine T bad (items T) ≡ firstLine T bad (typesLeft T 0)
+  pub types-start : firstItem T bad (items T) ≡ firstItem T bad (typesLeft T 0)
   unfolding typesLeft
   types-start = refl
 
-  pub types-end : (i : ℕ) → size T ≤ i → firstLine T bad (typesLeft T i) ≡ none
+  pub types-end : (i : ℕ) → size T ≤ i → firstItem T bad (typesLeft T i) ≡ none
   unfolding typesLeft itemsFrom firstLine
   types-end i h = rw (drop-of-length-le (T .types) h)
 
   module _ (i : ℕ) (h : i < size T) where
-    parted : firstLine T bad (typesLeft T i) ≡ orElse (firstLine T bad (linesOf (typeKey i) (kindAt T (typeKey i)))) (firstLine T bad (typesLeft T (i + 1)))
-    parted = ap (firstLine T bad) (types-next T i h) ∙ first-append T bad _ _
+    parted : firstItem T bad (typesLeft T i) ≡ orElse (firstItem T bad (linesOf (typeKey i) (kindAt T (typeKey i)))) (firstItem T bad (typesLeft T (i + 1)))
+    parted = ap (firstItem T bad) (types-next T i h) ∙ first-append (lineOfItem T) bad _ _
 
     -- no line of type i fails: the rest decides
-    pub types-on : firstLine T bad (linesOf (typeKey i) (kindAt T (typeKey i))) ≡ none → firstLine T bad (typesLeft T i) ≡ firstLine T bad (typesLeft T (i + 1))
+    pub types-on : firstItem T bad (linesOf (typeKey i) (kindAt T (typeKey i))) ≡ none → firstItem T bad (typesLeft T i) ≡ firstItem T bad (typesLeft T (i + 1))
     unfolding orElse
     types-on e = parted ∙ rw e
 
-    pub types-stop : (line : ℕ) → firstLine T bad (linesOf (typeKey i) (kindAt T (typeKey i))) ≡ some line → firstLine T bad (typesLeft T i) ≡ some line
+    pub types-stop : (line : ℕ) → firstItem T bad (linesOf (typeKey i) (kindAt T (typeKey i))) ≡ some line → firstItem T bad (typesLeft T i) ≡ some line
     unfolding orElse
     types-stop line e = parted ∙ rw e
 
 -- ---- one type
 
 module _ (T : Table) (bad : Item → Bool) (t : TypeKey) (k : Kind) where
-  pub lines-stop : bad (typeItem t k) ≡ true → firstLine T bad (linesOf t k) ≡ some (lineOfItem T (typeItem t k))
+  pub lines-stop : bad (typeItem t k) ≡ true → firstItem T bad (linesOf t k) ≡ some (lineOfItem T (typeItem t k))
   unfolding linesOf
-  lines-stop e = first-here T bad _ _ e
+  lines-stop e = first-here (lineOfItem T) bad _ _ e
 
-  pub lines-on : bad (typeItem t k) ≡ false → firstLine T bad (linesOf t k) ≡ firstLine T bad (linesUnder t k)
+  pub lines-on : bad (typeItem t k) ≡ false → firstItem T bad (linesOf t k) ≡ firstItem T bad (linesUnder t k)
   unfolding linesOf
-  lines-on e = first-later T bad _ _ e
+  lines-on e = first-later (lineOfItem T) bad _ _ e
 
 -- ---- from a member on
 
@@ -68,18 +68,18 @@ unfolding membersLeft
 members-next t k i m h e = rw (drop-cons (membersOf k) i m h, add-one i, take-suc (membersOf k) i m h, e)
 
 module _ (T : Table) (bad : Item → Bool) (t : TypeKey) (k : Kind) where
-  pub members-start : firstLine T bad (linesUnder t k) ≡ firstLine T bad (membersLeft t k 0)
+  pub members-start : firstItem T bad (linesUnder t k) ≡ firstItem T bad (membersLeft t k 0)
   unfolding linesUnder membersLeft
   members-start = refl
 
-  pub members-end : (i : ℕ) → length (membersOf k) ≤ i → firstLine T bad (membersLeft t k i) ≡ none
+  pub members-end : (i : ℕ) → length (membersOf k) ≤ i → firstItem T bad (membersLeft t k i) ≡ none
   unfolding membersLeft firstLine
   members-end i h = rw (drop-of-length-le (membersOf k) h)
 
   module _ (i : ℕ) (m : Member) (h : i < length (membersOf k)) (e : getD (membersOf k) i m ≡ m) where
-    pub members-on : bad (memberItem t k (take i (membersOf k)) m) ≡ false → firstLine T bad (membersLeft t k i) ≡ firstLine T bad (membersLeft t k (i + 1))
-    members-on b = ap (firstLine T bad) (members-next t k i m h e) ∙ first-later T bad _ _ b
+    pub members-on : bad (memberItem t k (take i (membersOf k)) m) ≡ false → firstItem T bad (membersLeft t k i) ≡ firstItem T bad (membersLeft t k (i + 1))
+    members-on b = ap (firstItem T bad) (members-next t k i m h e) ∙ first-later (lineOfItem T) bad _ _ b
 
     pub members-stop : bad (memberItem t k (take i (membersOf k)) m) ≡ true
-        → firstLine T bad (membersLeft t k i) ≡ some (lineOfItem T (memberItem t k (take i (membersOf k)) m))
-    members-stop b = ap (firstLine T bad) (members-next t k i m h e) ∙ first-here T bad _ _ b
+        → firstItem T bad (membersLeft t k i) ≡ some (lineOfItem T (memberItem t k (take i (membersOf k)) m))
+    members-stop b = ap (firstItem T bad) (members-next t k i m h e) ∙ first-here (lineOfItem T) bad _ _ b

@@ -9,13 +9,13 @@ use lib.Dec.{ltb}
 use lib.ListN.{length}
 use Rattle.objects.specs.Bounds.{maxPackages, maxPerType, Bounds}
 use Rattle.objects.specs.Lists.{Bytes, In, flat, upTo, empty, onLast}
-use Rattle.objects.specs.Table.{Table, size, memberCount, objKey, Entity, Field, Method, Member, Kind, Basic, Array, Slice, Pointer, Map, Chan, Tuple, Func, Struct, Iface, Named, kindNumber, isStruct, isIface, isNamed, membersOf, withMember}
+use Rattle.objects.specs.Table.{Table, size, memberCount, objKey, Entity, Field, Method, Member, Kind, Basic, Array, Slice, Pointer, Map, Chan, Tuple, Func, Struct, Iface, Named, kindNumber, isStruct, isIface, isNamed, membersOf, withMember, noTable, plusPackage, plusType, plusMember}
 use Rattle.objects.proofs.ListLaws.{cases, clash, and-l, and-r, or-true, either, flat-append, map-append}
 use Rattle.objects.proofs.PartLaws.{all-snoc, length-snoc, few-snoc, onLast-length, onLast-In, onLast-flat}
 use Rattle.text.specs.Bytes.{isPath}
 use Rattle.text.specs.Lines.{fields}
 use Rattle.rules.specs.Forms.{Line, packageLine, typeLine, memberLine, lineOf}
-use Rattle.rules.specs.Load.{Loaded, refused, loaded, lastKind, added, stands, inPlace, hasRoom, lineAdded, linesFrom, noTable}
+use Rattle.rules.specs.Load.{Loaded, refused, loaded, lastKind, added, stands, inPlace, hasRoom, lineAdded, linesFrom}
 use Rattle.rules.proofs.FormLaws.{InRange, Fresh, Says, Formed, line-formed}
 
 -- ---- a kind with its members
@@ -129,8 +129,8 @@ module _ (w : Bounds) where
   above : (line : ℕ) (l : List ℕ) → ((n : ℕ) → In n l → n < line) → (n : ℕ) → In n (l ++ (line ∷ [])) → n < suc line
   above line l h = all-snoc (λ n. n < suc line) l line (λ n i. let b = h n i in omega arith) (omega arith)
 
-  with-package : (line : ℕ) (T : Table) (path : Bytes) → isPath path ≡ true → ltb (length (T .packages)) maxPackages ≡ true → Built line T → Built (suc line) (added T line (packageLine path))
-  unfolding added
+  with-package : (line : ℕ) (T : Table) (path : Bytes) → isPath path ≡ true → ltb (length (T .packages)) maxPackages ≡ true → Built line T → Built (suc line) (plusPackage T path)
+  unfolding plusPackage
   with-package line T path ok room b = record {
     paths = all-snoc (λ p. isPath p ≡ true) (T .packages) path (b .paths) ok;
     kinds = b .kinds;
@@ -143,8 +143,8 @@ module _ (w : Bounds) where
     membersAbove = later line (suc line) T (omega arith) b .membersAbove;
   }
 
-  with-type : (line : ℕ) (T : Table) (k : Kind) → Fresh k → ltb (size T) (w .types) ≡ true → Built line T → Built (suc line) (added T line (typeLine k))
-  unfolding added
+  with-type : (line : ℕ) (T : Table) (k : Kind) → Fresh k → ltb (size T) (w .types) ≡ true → Built line T → Built (suc line) (plusType T line k)
+  unfolding plusType
   with-type line T k new room b = record {
     paths = b .paths;
     kinds = all-snoc WellFormed (T .types) k (b .kinds) (fresh k new);
@@ -159,7 +159,8 @@ module _ (w : Bounds) where
 
   with-member : (line : ℕ) (T : Table) (m : Member) → m .key ≡ objKey (memberCount T) → Says (m .name) (m .pkg) (m .entity) → stands (m .entity) (lastKind T) ≡ true
       → ltb (memberCount T) (w .members) ≡ true → ltb (length (membersOf (lastKind T))) maxPerType ≡ true → Built line T
-      → Built (suc line) (record { packages = T .packages; types = onLast (withMember m) (T .types); typeLines = T .typeLines; memberLines = T .memberLines ++ (line ∷ []) })
+      → Built (suc line) (plusMember T line m)
+  unfolding plusMember
   with-member line T m key says h room each b = record {
     paths = b .paths;
     kinds = λ k i. either (onLast-In (withMember m) (Basic 0) (T .types) k i) (b .kinds k)

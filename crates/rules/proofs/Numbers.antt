@@ -8,7 +8,7 @@ use lib.Dec.{ltb}
 use lib.IntN.{ℤ, pos, negsuc, negℤ, negℤ-negℤ, pos-ne-negsuc}
 use lib.ListN.{length, drop, length-append, length-drop}
 use borrow.Author.Tests.{ltb-false}
-use Rattle.objects.specs.Bounds.{workWords, refusalUnit, bounds}
+use Rattle.objects.specs.Bounds.{workWords, lastRefusal, refusalUnit, bounds}
 use Rattle.objects.specs.Lists.{Bytes}
 use Rattle.objects.specs.Table.{Table}
 use Rattle.objects.proofs.ListLaws.{cases}
@@ -33,9 +33,9 @@ refusal-bound text n line e = let r = load-bounds text n line e in (r .0, r .1)
 
 -- ---- outcomes
 
--- refusals 2 to 13 with a line below 65,536, or an answer for which there is room
+-- refusals from 2 on with a line below 65,536, or an answer for which there is room
 abbrev Bounded : ℕ → Outcome → Type 0
-Bounded room (refuse n line) = (2 ≤ n) × (n ≤ 13) × (line < refusalUnit)
+Bounded room (refuse n line) = (2 ≤ n) × (n ≤ lastRefusal) × (line < refusalUnit)
 Bounded room (say bytes) = length bytes ≤ room
 
 answered-bounded : (T : Table) (room : ℕ) (q : Option Question) → Bounded room (answered T room q)
@@ -56,8 +56,8 @@ outcome-bounded table question room = go (load table) (load-right table)
     go (refused n line) r = let h = r .1 in (r .0, omega arith, r .2)
     go (loaded T) r = answered-bounded T room (questionOf T question)
 
--- a call that reads the table refuses by 2 to 13
-pub outcome-bound : (table question : Bytes) (room n line : ℕ) → outcome table question room ≡ refuse n line → (2 ≤ n) × (n ≤ 13) × (line < refusalUnit)
+-- a call that reads the table refuses by 2 or more, up to the last
+pub outcome-bound : (table question : Bytes) (room n line : ℕ) → outcome table question room ≡ refuse n line → (2 ≤ n) × (n ≤ lastRefusal) × (line < refusalUnit)
 outcome-bound table question room n line e = rw e at (outcome-bounded table question room)
 
 -- an answer is no longer than the room for it
@@ -69,9 +69,9 @@ answered-fits table question bytes room e = rw e at (outcome-bounded table quest
 -- A length up to the room, or minus a refusal: both are in the range of an i64, the one never negative and the other always.
 pub data CallNumber (room : ℕ) : ℤ → Type 0 where
   length-is : (n : ℕ) → n ≤ room → n < 2 ^ 63 → CallNumber room (pos n)
-  refusal-is : (k : ℕ) → refusalUnit ≤ k → k < 2 ^ 20 → CallNumber room (negℤ (pos k))
+  refusal-is : (k : ℕ) → refusalUnit ≤ k → k < suc lastRefusal * refusalUnit → CallNumber room (negℤ (pos k))
 
-refusal-number : (room n line : ℕ) → 1 ≤ n → n ≤ 13 → line < refusalUnit → CallNumber room (refusal n line)
+refusal-number : (room n line : ℕ) → 1 ≤ n → n ≤ lastRefusal → line < refusalUnit → CallNumber room (refusal n line)
 unfolding refusal
 refusal-number room n line low high h = refusal-is (n * refusalUnit + line) (omega arith) (omega arith)
 

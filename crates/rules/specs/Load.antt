@@ -6,12 +6,13 @@ use Prim.Native.Nat.{ℕ, suc, _≤_}
 use lib.Dec.{ltb}
 use lib.ListN.{length}
 use Rattle.objects.specs.Bounds.{maxPackages, maxPerType, Bounds, bounds}
-use Rattle.objects.specs.Lists.{Bytes, empty, lastOr, onLast}
-use Rattle.objects.specs.Table.{Table, size, memberCount, objKey, Entity, Field, Method, Member, Kind, Basic, isStruct, isIface, isNamed, membersOf, withMember}
+use Rattle.objects.specs.Lists.{Bytes, empty, lastOr}
+use Rattle.objects.specs.Table.{Table, size, memberCount, objKey, Entity, Field, Method, Member, Kind, Basic, isStruct, isIface, isNamed, membersOf, noTable, plusPackage, plusType, plusMember}
 use Rattle.text.specs.Bytes.{ascii, sameBytes}
 use Rattle.text.specs.Lines.{pieces, fields}
 use Rattle.rules.specs.Forms.{Line, packageLine, typeLine, memberLine, lineOf}
-use Rattle.rules.specs.Checks.{Item, items, lineOfItem, lacking, forbidden, clashing, containing}
+use Rattle.rules.specs.Checks.{Item, items, lacking, forbidden, clashing, containing}
+use Rattle.rules.specs.Stages.{firstItem}
 
 -- a refusal with its line, or the table
 pub data Loaded : Type 0 where
@@ -26,11 +27,9 @@ lastKind T = lastOr (Basic 0) (T .types)
 
 -- the table with one line more, whose number in the text is `line`
 unfoldable pub added : Table → ℕ → Line → Table
-added T line (packageLine path) = record { packages = T .packages ++ (path ∷ []); types = T .types; typeLines = T .typeLines; memberLines = T .memberLines }
-added T line (typeLine k) = record { packages = T .packages; types = T .types ++ (k ∷ []); typeLines = T .typeLines ++ (line ∷ []); memberLines = T .memberLines }
-added T line (memberLine name pkg type entity) =
-    let m : Member = record { key = objKey (memberCount T); name = name; pkg = pkg; type = type; entity = entity } in
-    record { packages = T .packages; types = onLast (withMember m) (T .types); typeLines = T .typeLines; memberLines = T .memberLines ++ (line ∷ []) }
+added T line (packageLine path) = plusPackage T path
+added T line (typeLine k) = plusType T line k
+added T line (memberLine name pkg type entity) = plusMember T line (record { key = objKey (memberCount T); name = name; pkg = pkg; type = type; entity = entity })
 
 -- 5: "F not under a struct, M not under a named type or interface"
 abbrev pub stands : Entity → Kind → Bool
@@ -71,31 +70,24 @@ module _ (b : Bounds) where
 
 -- ---- the whole
 
--- the rest, unless a line fails the test: then the refusal "names its first line"
-unfoldable pub unless : Table → (Item → Bool) → ℕ → List Item → Loaded → Loaded
-unless T bad n [] rest = rest
-unless T bad n (i ∷ is) rest = elim (bad i) [
-  | true ↦ refused n (lineOfItem T i)
-  | false ↦ unless T bad n is rest
-]
+-- refusal n at the line that a stage has found, or the rest
+unfoldable pub staged : ℕ → Option ℕ → Loaded → Loaded
+staged n none rest = rest
+staged n (some line) rest = refused n line
 
 -- "7 to 10 each over the whole text before the next"
 unfoldable pub checked : Table → Loaded
 checked T =
-    let is = items T in
-    unless T (lacking T) 7 is
-    (unless T (forbidden T) 8 is
-    (unless T (clashing T) 9 is
-    (unless T (containing T) 10 is
+    let finds : (Item → Bool) → Option ℕ = λ bad. firstItem T bad (items T) in
+    staged 7 (finds (lacking T))
+    (staged 8 (finds (forbidden T))
+    (staged 9 (finds (clashing T))
+    (staged 10 (finds (containing T))
     (loaded T))))
 
 abbrev pub thenChecked : Loaded → Loaded
 thenChecked (refused n line) = refused n line
 thenChecked (loaded T) = checked T
-
--- before the first line behind the header
-abbrev pub noTable : Table
-noTable = record { packages = []; types = []; typeLines = []; memberLines = [] }
 
 module _ (b : Bounds) where
   -- 3: "The first line is not exactly `typetable`, tab, `1`, newline (line 1, also for empty text)."

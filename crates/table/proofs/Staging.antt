@@ -10,21 +10,21 @@ use Rattle.objects.specs.Table.{Table}
 use Rattle.objects.specs.Rows.{Words, tableOf}
 use Rattle.objects.specs.Laid.{Laid, Holds}
 use Rattle.rules.specs.Checks.{Item, items, lacking, forbidden, clashing, containing}
-use Rattle.rules.specs.Load.{Loaded, refused, loaded, checked}
+use Rattle.rules.specs.Load.{Loaded, refused, loaded, staged, checked}
 use Rattle.rules.specs.Library.{Ranked}
-use Rattle.rules.specs.Stages.{firstLine, staged}
-use Rattle.rules.proofs.StageLaws.{checked-stages}
+use Rattle.rules.specs.Stages.{firstItem}
 use Rattle.cycles.specs.Contained.{Contained}
 use Rattle.table.specs.declared.Loading.{Loading}
 use Rattle.table.specs.Loading.{loadingMeant, Passes}
 
-staged-bad : {F : Option ℕ} {s : Stage} {line : ℕ} (n : ℕ) (rest : Loaded) → found s ≡ F → s ≡ Stage.Bad line → staged n F rest ≡ refused n line
+-- what is due behind a stage that passed, and at one that found a line
+after-passed : {due rest : Loaded} {n : ℕ} {F : Option ℕ} {s : Stage} → due ≡ staged n F rest → found s ≡ F → s ≡ Stage.Passed → due ≡ rest
 unfolding staged found
-staged-bad n rest p q = cc
+after-passed e p q = cc
 
-staged-passed : {F : Option ℕ} {s : Stage} (n : ℕ) (rest : Loaded) → found s ≡ F → s ≡ Stage.Passed → staged n F rest ≡ rest
+after-bad : {due rest : Loaded} {n line : ℕ} {F : Option ℕ} {s : Stage} → due ≡ staged n F rest → found s ≡ F → s ≡ Stage.Bad line → due ≡ refused n line
 unfolding staged found
-staged-passed n rest p q = cc
+after-bad e p q = cc
 
 -- 7 passed
 pub passed-none : {F : Option ℕ} {s : Stage} → found s ≡ F → s ≡ Stage.Passed → F ≡ none
@@ -47,35 +47,53 @@ module _ (text : Bytes) (rows : Words) (laid : Laid rows) where
   abbrev T : Table
   T = tableOf text rows
 
-  -- what the four stages have to find
-  abbrev stageOf : (Table → Item → Bool) → Option ℕ
-  stageOf bad = firstLine T (bad T) (items T)
+  -- what a stage over the T, F and M lines has to find
+  abbrev finds : (Table → Item → Bool) → Option ℕ
+  finds bad = firstItem T (bad T) (items T)
 
-  module _ {a : Stage} (p7 : found a ≡ stageOf lacking) where
+  -- what is due from a stage on
+  abbrev from10 : Loaded
+  from10 = staged 10 (finds containing) (loaded T)
+
+  abbrev from9 : Loaded
+  from9 = staged 9 (finds clashing) from10
+
+  abbrev from8 : Loaded
+  from8 = staged 8 (finds forbidden) from9
+
+  due-7 : checked T ≡ staged 7 (finds lacking) from8
+  unfolding checked
+  due-7 = refl
+
+  module _ {a : Stage} (p7 : found a ≡ finds lacking) where
     pub refused-7 : {line : ℕ} → a ≡ Stage.Bad line → Passes text (checked T) (Loading.Refused 7 line) rows
-    refused-7 q = refusal-passes text (checked T) rows 7 _ (checked-stages T ∙ staged-bad 7 _ p7 q) laid
+    refused-7 q = refusal-passes text (checked T) rows 7 _ (after-bad due-7 p7 q) laid
 
-    module _ {b : Stage} (q7 : a ≡ Stage.Passed) (p8 : found b ≡ stageOf forbidden) where
+    module _ {b : Stage} (q7 : a ≡ Stage.Passed) (p8 : found b ≡ finds forbidden) where
+      due-8 : checked T ≡ from8
+      due-8 = after-passed due-7 p7 q7
+
       pub refused-8 : {line : ℕ} → b ≡ Stage.Bad line → Passes text (checked T) (Loading.Refused 8 line) rows
-      refused-8 q = refusal-passes text (checked T) rows 8 _ (checked-stages T ∙ staged-passed 7 _ p7 q7 ∙ staged-bad 8 _ p8 q) laid
+      refused-8 q = refusal-passes text (checked T) rows 8 _ (after-bad due-8 p8 q) laid
 
-      module _ {c : Stage} (q8 : b ≡ Stage.Passed) (p9 : found c ≡ stageOf clashing) where
+      module _ {c : Stage} (q8 : b ≡ Stage.Passed) (p9 : found c ≡ finds clashing) where
+        due-9 : checked T ≡ from9
+        due-9 = after-passed due-8 p8 q8
+
         pub refused-9 : {line : ℕ} → c ≡ Stage.Bad line → Passes text (checked T) (Loading.Refused 9 line) rows
-        refused-9 q = refusal-passes text (checked T) rows 9 _ (checked-stages T ∙ staged-passed 7 _ p7 q7 ∙ staged-passed 8 _ p8 q8 ∙ staged-bad 9 _ p9 q) laid
+        refused-9 q = refusal-passes text (checked T) rows 9 _ (after-bad due-9 p9 q) laid
 
         module _ {d : Stage} (q9 : c ≡ Stage.Passed) (after : Words) (p10 : Contained rows d after) where
+          due-10 : checked T ≡ from10
+          due-10 = after-passed due-9 p9 q9
+
           pub refused-10 : {line : ℕ} → d ≡ Stage.Bad line → Passes text (checked T) (Loading.Refused 10 line) after
-          refused-10 q =
-              refusal-passes text (checked T) after 10 _
-              (checked-stages T ∙ staged-passed 7 _ p7 q7 ∙ staged-passed 8 _ p8 q8 ∙ staged-passed 9 _ p9 q9 ∙ staged-bad 10 _ (p10 .line text) q)
-              (p10 .holds .laid)
+          refused-10 q = refusal-passes text (checked T) after 10 _ (after-bad due-10 (p10 .line text) q) (p10 .holds .laid)
 
           pub passes-all : d ≡ Stage.Passed → Passes text (checked T) Loading.Loaded after
           unfolding loadingMeant
           passes-all q = record {
-            says =
-                ap loaded (p10 .holds .held text)
-                ∙ sym (checked-stages T ∙ staged-passed 7 _ p7 q7 ∙ staged-passed 8 _ p8 q8 ∙ staged-passed 9 _ p9 q9 ∙ staged-passed 10 _ (p10 .line text) q);
+            says = ap loaded (p10 .holds .held text) ∙ sym (after-passed due-10 (p10 .line text) q);
             laid = p10 .holds .laid;
             ranked = λ h. p10 .ranked q text;
           }

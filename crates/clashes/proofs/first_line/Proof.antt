@@ -7,7 +7,7 @@ use lib.ListN.{length}
 use Rattle.objects.specs.Table.{kindAt}
 use Rattle.objects.specs.Rows.{tableOf}
 use Rattle.rules.specs.Checks.{clashing}
-use Rattle.rules.specs.Stages.{firstLine, linesUnder}
+use Rattle.rules.specs.Stages.{firstItem, linesUnder}
 use Rattle.rules.proofs.ItemLaws.{membersLeft, members-start}
 use Rattle.references.proofs.RowKinds.{lines-fit}
 use Rattle.references.proofs.Walking.{under-end}
@@ -19,8 +19,8 @@ use Rattle.clashes.proofs.first_line.Statement.{statement}
 use Rattle.clashes.proofs.first_line.Tie as tie
 
 abbrev Inv-loop : tie.InvT-loop
-Inv-loop text rows marks₀ t first n i₀ marks i = (firstLine (tableOf text rows) (clashing (tableOf text rows)) (linesUnder t (kindAt (tableOf text rows) t))
-    ≡ firstLine (tableOf text rows) (clashing (tableOf text rows)) (membersLeft t (kindAt (tableOf text rows) t) i))
+Inv-loop text rows marks₀ t first n i₀ marks i = (firstItem (tableOf text rows) (clashing (tableOf text rows)) (linesUnder t (kindAt (tableOf text rows) t))
+    ≡ firstItem (tableOf text rows) (clashing (tableOf text rows)) (membersLeft t (kindAt (tableOf text rows) t) i))
     × Rising text rows t i
     × (length marks ≡ length marks₀)
     × Grows marks₀ marks

@@ -5,7 +5,7 @@ use native.Mathlib.Omega.{arith}
 use lib.ListN.{length}
 use Rattle.objects.specs.Rows.{tableOf}
 use Rattle.rules.specs.Checks.{items, clashing}
-use Rattle.rules.specs.Stages.{firstLine}
+use Rattle.rules.specs.Stages.{firstItem}
 use Rattle.rules.proofs.ItemLaws.{typesLeft, types-start}
 use Rattle.references.proofs.Walking.{table-on, table-stop, table-end}
 use Rattle.clashes.specs.Marks.{Ready}
@@ -15,8 +15,8 @@ use Rattle.clashes.proofs.first_of.Statement.{statement}
 use Rattle.clashes.proofs.first_of.Tie as tie
 
 abbrev Inv-loop : tie.InvT-loop
-Inv-loop text rows marks₀ done₀ n t₀ marks done t = (firstLine (tableOf text rows) (clashing (tableOf text rows)) (items (tableOf text rows))
-    ≡ firstLine (tableOf text rows) (clashing (tableOf text rows)) (typesLeft (tableOf text rows) t))
+Inv-loop text rows marks₀ done₀ n t₀ marks done t = (firstItem (tableOf text rows) (clashing (tableOf text rows)) (items (tableOf text rows))
+    ≡ firstItem (tableOf text rows) (clashing (tableOf text rows)) (typesLeft (tableOf text rows) t))
     × (length marks ≡ length marks₀)
     × (length done ≡ length done₀)
     × Ready text rows marks done

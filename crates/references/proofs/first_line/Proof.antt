@@ -4,7 +4,7 @@ use native.Mathlib.Omega.{arith}
 use Rattle.objects.specs.Lists.{Bytes}
 use Rattle.objects.specs.Rows.{tableOf}
 use Rattle.rules.specs.Checks.{items}
-use Rattle.rules.specs.Stages.{firstLine}
+use Rattle.rules.specs.Stages.{firstItem}
 use Rattle.rules.proofs.ItemLaws.{typesLeft, types-start}
 use Rattle.references.specs.Tests.{fails}
 use Rattle.references.proofs.Walking.{table-on, table-stop, table-end}
@@ -13,8 +13,8 @@ use Rattle.references.proofs.first_line.Statement.{statement}
 use Rattle.references.proofs.first_line.Tie as tie
 
 abbrev Inv-loop : tie.InvT-loop
-Inv-loop rows test n t₀ t = (text : Bytes) → firstLine (tableOf text rows) (fails (tableOf text rows) test) (items (tableOf text rows))
-    ≡ firstLine (tableOf text rows) (fails (tableOf text rows) test) (typesLeft (tableOf text rows) t)
+Inv-loop rows test n t₀ t = (text : Bytes) → firstItem (tableOf text rows) (fails (tableOf text rows) test) (items (tableOf text rows))
+    ≡ firstItem (tableOf text rows) (fails (tableOf text rows) test) (typesLeft (tableOf text rows) t)
 
 abbrev μ-loop : tie.MeasureT-loop
 μ-loop rows test n t₀ t = n - t

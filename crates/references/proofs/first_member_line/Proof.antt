@@ -4,7 +4,7 @@ use native.Mathlib.Omega.{arith}
 use Rattle.objects.specs.Lists.{Bytes}
 use Rattle.objects.specs.Table.{kindAt}
 use Rattle.objects.specs.Rows.{tableOf}
-use Rattle.rules.specs.Stages.{firstLine, linesUnder}
+use Rattle.rules.specs.Stages.{firstItem, linesUnder}
 use Rattle.rules.proofs.ItemLaws.{membersLeft, members-start}
 use Rattle.references.specs.Tests.{fails}
 use Rattle.references.proofs.RowKinds.{lines-fit, some-lines}
@@ -14,8 +14,8 @@ use Rattle.references.proofs.first_member_line.Statement.{statement}
 use Rattle.references.proofs.first_member_line.Tie as tie
 
 abbrev Inv-loop : tie.InvT-loop
-Inv-loop rows test t first n i₀ i = (text : Bytes) → firstLine (tableOf text rows) (fails (tableOf text rows) test) (linesUnder t (kindAt (tableOf text rows) t))
-    ≡ firstLine (tableOf text rows) (fails (tableOf text rows) test) (membersLeft t (kindAt (tableOf text rows) t) i)
+Inv-loop rows test t first n i₀ i = (text : Bytes) → firstItem (tableOf text rows) (fails (tableOf text rows) test) (linesUnder t (kindAt (tableOf text rows) t))
+    ≡ firstItem (tableOf text rows) (fails (tableOf text rows) test) (membersLeft t (kindAt (tableOf text rows) t) i)
 
 abbrev μ-loop : tie.MeasureT-loop
 μ-loop rows test t first n i₀ i = n - i
