@@ -18,13 +18,13 @@ use Rattle.table.specs.declared.Loading.{Loading}
 use Rattle.table.specs.Loading.{loadingMeant, Passes}
 
 -- what is due behind a stage that passed, and at one that found a line
-after-passed : {due rest : Loaded} {n : ℕ} {F : Option ℕ} {s : Stage} → due ≡ staged n F rest → found s ≡ F → s ≡ Stage.Passed → due ≡ rest
+after-passed : {due : Loaded} {F : Option ℕ} {s : Stage} (n : ℕ) (rest : Loaded) → due ≡ staged n F rest → found s ≡ F → s ≡ Stage.Passed → due ≡ rest
 unfolding staged found
-after-passed e p q = cc
+after-passed n rest e p q = cc
 
-after-bad : {due rest : Loaded} {n line : ℕ} {F : Option ℕ} {s : Stage} → due ≡ staged n F rest → found s ≡ F → s ≡ Stage.Bad line → due ≡ refused n line
+after-bad : {due : Loaded} {line : ℕ} {F : Option ℕ} {s : Stage} (n : ℕ) (rest : Loaded) → due ≡ staged n F rest → found s ≡ F → s ≡ Stage.Bad line → due ≡ refused n line
 unfolding staged found
-after-bad e p q = cc
+after-bad n rest e p q = cc
 
 -- 7 passed
 pub passed-none : {F : Option ℕ} {s : Stage} → found s ≡ F → s ≡ Stage.Passed → F ≡ none
@@ -67,33 +67,36 @@ module _ (text : Bytes) (rows : Words) (laid : Laid rows) where
 
   module _ {a : Stage} (p7 : found a ≡ finds lacking) where
     pub refused-7 : {line : ℕ} → a ≡ Stage.Bad line → Passes text (checked T) (Loading.Refused 7 line) rows
-    refused-7 q = refusal-passes text (checked T) rows 7 _ (after-bad due-7 p7 q) laid
+    refused-7 q = refusal-passes text (checked T) rows 7 _ (after-bad 7 from8 due-7 p7 q) laid
 
-    module _ {b : Stage} (q7 : a ≡ Stage.Passed) (p8 : found b ≡ finds forbidden) where
+    module _ (q7 : a ≡ Stage.Passed) where
       due-8 : checked T ≡ from8
-      due-8 = after-passed due-7 p7 q7
+      due-8 = after-passed 7 from8 due-7 p7 q7
 
-      pub refused-8 : {line : ℕ} → b ≡ Stage.Bad line → Passes text (checked T) (Loading.Refused 8 line) rows
-      refused-8 q = refusal-passes text (checked T) rows 8 _ (after-bad due-8 p8 q) laid
+      module _ {b : Stage} (p8 : found b ≡ finds forbidden) where
+        pub refused-8 : {line : ℕ} → b ≡ Stage.Bad line → Passes text (checked T) (Loading.Refused 8 line) rows
+        refused-8 q = refusal-passes text (checked T) rows 8 _ (after-bad 8 from9 due-8 p8 q) laid
 
-      module _ {c : Stage} (q8 : b ≡ Stage.Passed) (p9 : found c ≡ finds clashing) where
-        due-9 : checked T ≡ from9
-        due-9 = after-passed due-8 p8 q8
+        module _ (q8 : b ≡ Stage.Passed) where
+          due-9 : checked T ≡ from9
+          due-9 = after-passed 8 from9 due-8 p8 q8
 
-        pub refused-9 : {line : ℕ} → c ≡ Stage.Bad line → Passes text (checked T) (Loading.Refused 9 line) rows
-        refused-9 q = refusal-passes text (checked T) rows 9 _ (after-bad due-9 p9 q) laid
+          module _ {c : Stage} (p9 : found c ≡ finds clashing) where
+            pub refused-9 : {line : ℕ} → c ≡ Stage.Bad line → Passes text (checked T) (Loading.Refused 9 line) rows
+            refused-9 q = refusal-passes text (checked T) rows 9 _ (after-bad 9 from10 due-9 p9 q) laid
 
-        module _ {d : Stage} (q9 : c ≡ Stage.Passed) (after : Words) (p10 : Contained rows d after) where
-          due-10 : checked T ≡ from10
-          due-10 = after-passed due-9 p9 q9
+            module _ (q9 : c ≡ Stage.Passed) where
+              due-10 : checked T ≡ from10
+              due-10 = after-passed 9 from10 due-9 p9 q9
 
-          pub refused-10 : {line : ℕ} → d ≡ Stage.Bad line → Passes text (checked T) (Loading.Refused 10 line) after
-          refused-10 q = refusal-passes text (checked T) after 10 _ (after-bad due-10 (p10 .line text) q) (p10 .holds .laid)
+              module _ {d : Stage} (after : Words) (p10 : Contained rows d after) where
+                pub refused-10 : {line : ℕ} → d ≡ Stage.Bad line → Passes text (checked T) (Loading.Refused 10 line) after
+                refused-10 q = refusal-passes text (checked T) after 10 _ (after-bad 10 (loaded T) due-10 (p10 .line text) q) (p10 .holds .laid)
 
-          pub passes-all : d ≡ Stage.Passed → Passes text (checked T) Loading.Loaded after
-          unfolding loadingMeant
-          passes-all q = record {
-            says = ap loaded (p10 .holds .held text) ∙ sym (after-passed due-10 (p10 .line text) q);
-            laid = p10 .holds .laid;
-            ranked = λ h. p10 .ranked q text;
-          }
+                pub passes-all : d ≡ Stage.Passed → Passes text (checked T) Loading.Loaded after
+                unfolding loadingMeant
+                passes-all q = record {
+                  says = ap loaded (p10 .holds .held text) ∙ sym (after-passed 10 (loaded T) due-10 (p10 .line text) q);
+                  laid = p10 .holds .laid;
+                  ranked = λ h. p10 .ranked q text;
+                }
