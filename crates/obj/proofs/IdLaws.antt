@@ -15,9 +15,9 @@ use Rattle.objects.specs.declared.«Package».{«Package»}
 use Rattle.objects.specs.Table.{Table, hasPackage, pathOf}
 use Rattle.objects.specs.Rows.{Words, packageWord, memberWord, bytesAt, packageMeant, memberAt, pathRead, tableOf}
 use Rattle.objects.specs.Types.{packageRead}
-use Rattle.objects.proofs.ListLaws.{cases, clash}
+use Rattle.objects.proofs.ListLaws.{cases}
 use Rattle.text.specs.declared.Order.{Order}
-use Rattle.text.specs.Bytes.{sameBytes, belowBytes, exported}
+use Rattle.text.specs.Bytes.{exported}
 use Rattle.text.specs.Compare.{orderOf}
 use Rattle.text.proofs.CompareLaws.{order-end, order-part, order-whole, order-less, order-greater, order-next}
 use Rattle.rules.specs.Members.{identityFrom, identityOf, idBytes}
@@ -162,27 +162,3 @@ pub order-whole-ids : (text : Bytes) (a b : Id) {p m q n : Bytes}
     → orderOf (joined (a .form) p m) (joined (b .form) q n) ≡ orderOf (idMeant text a) (idMeant text b)
 unfolding idMeant bytesAt
 order-whole-ids text a b ep em eq en = rw (ep, em, eq, en)
-
--- ---- below, by the order
-
-less-is : (t u : Bool) → cond t Order.Less (cond u Order.Equal Order.Greater) ≡ Order.Less → true ≡ t
-less-is true u h = refl
-less-is false true h = let z : _≡_ {A = Bool} true false = cc in z
-less-is false false h = let z : _≡_ {A = Bool} true false = cc in z
-
-not-less : (t u : Bool) → (cond t Order.Less (cond u Order.Equal Order.Greater) ≡ Order.Less → ⊥) → false ≡ t
-not-less true u h = absurd (h refl)
-not-less false u h = refl
-
-module _ (a b : Bytes) {o : Order} (e : o ≡ orderOf a b) where
-  pub below-less : o ≡ Order.Less → true ≡ belowBytes a b
-  unfolding orderOf
-  below-less h = less-is (belowBytes a b) (sameBytes a b) (sym e ∙ h)
-
-  pub below-equal : o ≡ Order.Equal → false ≡ belowBytes a b
-  unfolding orderOf
-  below-equal h = not-less (belowBytes a b) (sameBytes a b) (λ l. let z : _≡_ {A = Bool} true false = cc in clash refl z)
-
-  pub below-greater : o ≡ Order.Greater → false ≡ belowBytes a b
-  unfolding orderOf
-  below-greater h = not-less (belowBytes a b) (sameBytes a b) (λ l. let z : _≡_ {A = Bool} true false = cc in clash refl z)

@@ -65,9 +65,9 @@ maxPath = 128
 abbrev pub maxTag : ℕ
 maxTag = 128
 
--- the greatest number of a refusal: 13, "The answer is longer than the buffer"
+-- the greatest number of a refusal. Document 02, point 5: "New numbers: 14, package out of order."
 abbrev pub lastRefusal : ℕ
-lastRefusal = 13
+lastRefusal = 14
 
 -- "minus (refusal × 65,536 + line)"
 abbrev pub refusalUnit : ℕ

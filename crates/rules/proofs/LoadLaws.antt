@@ -96,11 +96,12 @@ module _ (w : Bounds) where
     pub fewMembers : memberCount T ≤ w .members
     pub numbered : map (λ m. m .key .0) (flat membersOf (T .types)) ≡ upTo (memberCount T)
     pub lined : length (T .typeLines) ≡ size T
+    pub packagesAbove : 2 + length (T .packages) ≤ line
     pub typesAbove : (n : ℕ) → In n (T .typeLines) → n < line
     pub membersAbove : (n : ℕ) → In n (T .memberLines) → n < line
 
-  pub none-built : (line : ℕ) → Built line noTable
-  none-built line = record {
+  pub none-built : (line : ℕ) → 2 ≤ line → Built line noTable
+  none-built line h = record {
     paths = λ p i. absurd i;
     kinds = λ k i. absurd i;
     fewPackages = omega arith;
@@ -108,6 +109,7 @@ module _ (w : Bounds) where
     fewMembers = omega arith;
     numbered = refl;
     lined = refl;
+    packagesAbove = h;
     typesAbove = λ n i. absurd i;
     membersAbove = λ n i. absurd i;
   }
@@ -121,6 +123,7 @@ module _ (w : Bounds) where
     fewMembers = t .fewMembers;
     numbered = t .numbered;
     lined = t .lined;
+    packagesAbove = let h = t .packagesAbove in omega arith;
     typesAbove = λ n i. let h = t .typesAbove n i in omega arith;
     membersAbove = λ n i. let h = t .membersAbove n i in omega arith;
   }
@@ -139,6 +142,7 @@ module _ (w : Bounds) where
     fewMembers = b .fewMembers;
     numbered = b .numbered;
     lined = b .lined;
+    packagesAbove = let h = b .packagesAbove in rw (length-snoc (T .packages) path) (omega arith);
     typesAbove = later line (suc line) T (omega arith) b .typesAbove;
     membersAbove = later line (suc line) T (omega arith) b .membersAbove;
   }
@@ -153,6 +157,7 @@ module _ (w : Bounds) where
     fewMembers = b .fewMembers;
     numbered = rw (flat-append membersOf (T .types) (k ∷ []), new .1, append-nil (flat membersOf (T .types))) (b .numbered);
     lined = length-snoc (T .typeLines) line ∙ ap suc (b .lined) ∙ sym (length-snoc (T .types) k);
+    packagesAbove = later line (suc line) T (omega arith) b .packagesAbove;
     typesAbove = above line (T .typeLines) (b .typesAbove);
     membersAbove = later line (suc line) T (omega arith) b .membersAbove;
   }
@@ -170,6 +175,7 @@ module _ (w : Bounds) where
     fewMembers = few-snoc (T .memberLines) line (w .members) room;
     numbered = keys;
     lined = b .lined ∙ sym (onLast-length (withMember m) (T .types));
+    packagesAbove = later line (suc line) T (omega arith) b .packagesAbove;
     typesAbove = later line (suc line) T (omega arith) b .typesAbove;
     membersAbove = above line (T .memberLines) (b .membersAbove);
   }

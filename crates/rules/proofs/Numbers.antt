@@ -1,6 +1,7 @@
 -- The numbers and lines of refusals, and the answer buffer: what a call's number can be, and what a refusal leaves alone.
 use mathlib.Core.Path.{_≡_, refl, sym, ap, _∙_}
 use mathlib.Core.List.{List}
+use mathlib.Core.Logic.{inl, inr}
 use mathlib.Core.Option.{Option, none, some}
 use Prim.Native.Nat.{ℕ, zero, suc, _+_, _*_, _^_, _≤_, _<_}
 use native.Mathlib.Omega.{arith}
@@ -16,7 +17,7 @@ use Rattle.rules.specs.Load.{Loaded, refused, loaded, load}
 use Rattle.rules.specs.Question.{Question, questionOf}
 use Rattle.rules.specs.Answer.{answer, answerBytes}
 use Rattle.rules.specs.Asked.{Outcome, refuse, say, fitted, wrongSecond, answered, outcomeOf, outcomeWithin, outcome, refusal, numberOf, written, askedWithin, asked}
-use Rattle.rules.proofs.CheckLaws.{Right, load-right}
+use Rattle.rules.proofs.CheckLaws.{OfTable, Right, load-right}
 
 -- ---- loading
 
@@ -25,11 +26,15 @@ load-bounds text n line e = rw e at (load-right text)
 
 -- every line that is named is below 65,536
 pub line-bound : (text : Bytes) (n line : ℕ) → load text ≡ refused n line → line < refusalUnit
-line-bound text n line e = load-bounds text n line e .2
+line-bound text n line e = load-bounds text n line e .1
 
--- loading refuses by 2 to 10
-pub refusal-bound : (text : Bytes) (n line : ℕ) → load text ≡ refused n line → (2 ≤ n) × (n ≤ 10)
-refusal-bound text n line e = let r = load-bounds text n line e in (r .0, r .1)
+-- loading refuses by 2 to 10 and by 14
+pub refusal-bound : (text : Bytes) (n line : ℕ) → load text ≡ refused n line → OfTable n
+refusal-bound text n line e = load-bounds text n line e .0
+
+table-bound : (n : ℕ) → OfTable n → (2 ≤ n) × (n ≤ lastRefusal)
+table-bound n (inl h) = (h .0, let k = h .1 in omega arith)
+table-bound n (inr e) = (omega arith, omega arith)
 
 -- ---- outcomes
 
@@ -53,7 +58,7 @@ unfolding outcomeWithin outcomeOf
 outcome-bounded table question room = go (load table) (load-right table)
   where
     go : (L : Loaded) → Right bounds refusalUnit L → Bounded room (outcomeOf L question room)
-    go (refused n line) r = let h = r .1 in (r .0, omega arith, r .2)
+    go (refused n line) r = let h = table-bound n (r .0) in (h .0, h .1, r .1)
     go (loaded T) r = answered-bounded T room (questionOf T question)
 
 -- a call that reads the table refuses by 2 or more, up to the last

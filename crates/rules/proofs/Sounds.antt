@@ -24,6 +24,7 @@ use Rattle.rules.specs.Load.{loaded, load}
 use Rattle.rules.specs.Sound.{MemberOf, Apart, Lower, Sound}
 use Rattle.rules.specs.Library.{Library}
 use Rattle.rules.proofs.ChainLaws.{leads-iff, types-few}
+use Rattle.rules.proofs.PathLaws.{ordered-of}
 use Rattle.rules.proofs.LoadLaws.{WellFormed, fresh, Built}
 use Rattle.rules.proofs.CheckLaws.{Passed, Right, type-item, load-right}
 use Rattle.rules.proofs.Lacks.{at-type, item-at, item-of, refers-in, has-both, typed-in, content-in}
@@ -123,6 +124,7 @@ module _ (T : Table) (line : ℕ) (b : Built bounds line T) (p : Passed T) where
     fewPerType = λ t. well-formed t .few;
     numbered = b .numbered;
     lined = b .lined;
+    ordered = ordered-of (T .packages) (p .orders);
     refers = refers-in T (p .lacks);
     typed = typed-in T (p .lacks);
     packaged = λ t m i. and-r (hasType T (m .type)) (hasPackage T (m .pkg)) (has-both T (p .lacks) t m i);

@@ -1,17 +1,39 @@
--- Refusals 7 to 10 as four tests of a line of the table. Loading tries each over the whole text before the next.
+-- Refusals 14 and 7 to 10 as five tests of a line of the table. Loading tries each over the whole text before the next.
 use mathlib.Core.Bool.{Bool, true, false, cond, not, _&&_, _||_}
 use mathlib.Core.List.{List, [], _∷_, _++_}
 use Prim.Native.Nat.{ℕ, suc}
 use lib.Dec.{ltb}
 use lib.ListN.{getD}
-use Rattle.objects.specs.Lists.{any, every, lastOf}
+use Rattle.objects.specs.Lists.{Bytes, any, every, lastOf}
 use Rattle.objects.specs.declared.TypeKey.{TypeKey}
 use Rattle.objects.specs.Table.{Table, typeKey, sameType, size, Entity, Field, Method, Member, Kind, Basic, Array, Slice, Pointer, Map, Chan, Tuple, Func, Struct, Iface, Named, isSlice, isPointer, isTuple, isFunc, isIface, isNamed, refs, membersOf, fieldsOf, byValue, hasType, hasPackage, kindAt, bare, under, pointerAt, ifaceUnder, namedPointer}
 use Rattle.text.specs.Bytes.{belowBytes, isBlank}
 use Rattle.rules.specs.Members.{idBytes, identityOf, sameMember}
 use Rattle.rules.specs.Chains.{leads}
 
--- ---- the lines that are judged
+-- ---- P lines
+
+-- a P line behind another, with the path of that one
+pub record PathItem : Type 0 where
+  pub line : ℕ
+  pub before : Bytes
+  pub path : Bytes
+
+-- the P lines behind one that has this path and stands on this line
+abbrev pub pathsBehind : ℕ → Bytes → List Bytes → List PathItem
+pathsBehind line path [] = []
+pathsBehind line path (next ∷ rest) = record { line = suc line; before = path; path = next } ∷ pathsBehind (suc line) next rest
+
+-- P lines stand before all others (5), so that the first of them is line 2 of the text
+unfoldable pub pathItems : List Bytes → List PathItem
+pathItems [] = []
+pathItems (path ∷ rest) = pathsBehind 2 path rest
+
+-- 14: "P lines must come in strictly ascending order of the bytes of their paths"
+unfoldable pub unordered : PathItem → Bool
+unordered i = not (belowBytes (i .before) (i .path))
+
+-- ---- T, F and M lines
 
 -- a T line with its type; an F or M line with the type above it and the members between
 pub data Item : Type 0 where

@@ -1,4 +1,4 @@
--- Loading: the table that a text holds, or the refusal (2 to 10) with its line.
+-- Loading: the table that a text holds, or the refusal (2 to 10, 14) with its line.
 use mathlib.Core.Bool.{Bool, true, false, cond, _&&_, _||_}
 use mathlib.Core.List.{List, [], _∷_, _++_}
 use mathlib.Core.Option.{Option, none, some}
@@ -12,7 +12,7 @@ use Rattle.text.specs.Bytes.{ascii, sameBytes}
 use Rattle.text.specs.Lines.{pieces, fields}
 use Rattle.rules.specs.Forms.{Line, packageLine, typeLine, memberLine, lineOf}
 use Rattle.rules.specs.Checks.{Item, items, lacking, forbidden, clashing, containing}
-use Rattle.rules.specs.Stages.{firstItem}
+use Rattle.rules.specs.Stages.{firstUnordered, firstItem}
 
 -- a refusal with its line, or the table
 pub data Loaded : Type 0 where
@@ -75,15 +75,16 @@ unfoldable pub staged : ℕ → Option ℕ → Loaded → Loaded
 staged n none rest = rest
 staged n (some line) rest = refused n line
 
--- "7 to 10 each over the whole text before the next"
+-- "7 to 10 each over the whole text before the next"; 14 "after refusal 6 and before 7"
 unfoldable pub checked : Table → Loaded
 checked T =
     let finds : (Item → Bool) → Option ℕ = λ bad. firstItem T bad (items T) in
-    staged 7 (finds (lacking T))
+    staged 14 (firstUnordered T)
+    (staged 7 (finds (lacking T))
     (staged 8 (finds (forbidden T))
     (staged 9 (finds (clashing T))
     (staged 10 (finds (containing T))
-    (loaded T))))
+    (loaded T)))))
 
 abbrev pub thenChecked : Loaded → Loaded
 thenChecked (refused n line) = refused n line

@@ -1,4 +1,4 @@
--- A row or more for each refusal from 2 to 12 with its line, and for what the program reads.
+-- A row or more for each refusal from 2 to 12 and for 14 with its line, and for what the program reads.
 use mathlib.Core.List.{List, [], _∷_, _++_}
 use Prim.Native.Nat.{ℕ, zero, suc, _+_}
 use Prim.Native.String.{String}
@@ -38,6 +38,20 @@ refusals =
     ∷ bad (table (times (suc maxPackages) "P a" [])) (refusedBytes 6 (1 + maxPackages + 1))
     ∷ bad (table (times (suc maxTypes) "T struct" [])) (refusedBytes 6 (1 + maxTypes + 1))
     ∷ bad (table ("T struct" ⏎ times (suc maxPerType) "F _ - 0 0" [])) (refusedBytes 6 (1 + 1 + maxPerType + 1))
+    -- 14: a path below the one before, a path again, the longer before its prefix, a small letter before a capital, by bytes and not as numbers
+    ∷ bad (table ("P b" ⏎ "P a" ⏎ [])) ("refused 14 3" ⏎ [])
+    ∷ bad (table ("P a" ⏎ "P b" ⏎ "P b" ⏎ "P a" ⏎ [])) ("refused 14 4" ⏎ [])
+    ∷ bad (table ("P ab" ⏎ "P a" ⏎ [])) ("refused 14 3" ⏎ [])
+    ∷ bad (table ("P a" ⏎ "P B" ⏎ [])) ("refused 14 3" ⏎ [])
+    ∷ bad (table ("P p10" ⏎ "P p9" ⏎ "P p11" ⏎ [])) ("refused 14 4" ⏎ [])
+    -- .. compared with the line just before it and not with the first; the first line that fails
+    ∷ bad (table ("P a" ⏎ "P c" ⏎ "P b" ⏎ "P b" ⏎ [])) ("refused 14 4" ⏎ [])
+    -- .. over the whole text, after 4 to 6 and before 7
+    ∷ bad (table ("P b" ⏎ "P a" ⏎ "x" ⏎ [])) ("refused 4 4" ⏎ [])
+    ∷ bad (table ("P b" ⏎ "P a" ⏎ "T struct" ⏎ "P c" ⏎ [])) ("refused 5 5" ⏎ [])
+    ∷ bad (table ("P b" ⏎ "P a" ⏎ "T slice 9" ⏎ [])) ("refused 14 3" ⏎ [])
+    -- .. and paths that ascend by their bytes
+    ∷ run (table ("P !" ⏎ "P A" ⏎ "P Z" ⏎ "P _a" ⏎ "P a" ⏎ "P a.b" ⏎ "P a/b" ⏎ "P aa" ⏎ "P }}" ⏎ [])) ("V" ⏎ []) ("ok 9 0 0" ⏎ [])
     -- 7: a type and a package that the table lacks
     ∷ bad (table ("T basic 2" ⏎ "T slice 9999" ⏎ [])) ("refused 7 3" ⏎ [])
     ∷ bad (table ("P a" ⏎ "T basic 2" ⏎ "T struct" ⏎ "F X 1 0 0" ⏎ [])) ("refused 7 5" ⏎ [])

@@ -1,4 +1,4 @@
--- What every table that loads satisfies: refusals 4 to 10, each turned round. That it does is `loads-sound` (proofs/Sounds.antt); every theorem about
+-- What every table that loads satisfies: refusals 4 to 10 and 14, each turned round. That it does is `loads-sound` (proofs/Sounds.antt); every theorem about
 -- tables and every contract over rows takes this record. A number that the table lacks has no members and refers to nothing, so no clause asks for `t` in range.
 use mathlib.Core.Path.{_≡_}
 use mathlib.Core.Bool.{true, false}
@@ -17,6 +17,10 @@ use Rattle.rules.specs.Chains.{Chain}
 use Rattle.rules.specs.Checks.{typeAllowed, memberAllowed, contents}
 use Rattle.rules.specs.Load.{stands}
 
+-- the bytes of p come before those of q
+abbrev pub Below : Bytes → Bytes → Type 0
+Below p q = belowBytes p q ≡ true
+
 module _ (T : Table) where
   -- the members under the T line of t
   abbrev pub MemberOf : TypeKey → Member → Type 0
@@ -28,7 +32,7 @@ module _ (T : Table) where
 
   -- m's id comes before n's
   abbrev pub Lower : Member → Member → Type 0
-  Lower m n = belowBytes (idBytes (identityOf T m)) (idBytes (identityOf T n)) ≡ true
+  Lower m n = Below (idBytes (identityOf T m)) (idBytes (identityOf T n))
 
 pub record Sound (T : Table) : Type 0 where
   -- 4: what a line's fields may say
@@ -48,6 +52,8 @@ pub record Sound (T : Table) : Type 0 where
   -- "Packages, types and members are numbered from 0 as they come"; each type has its line
   pub numbered : map (λ m. m .key .0) (flat membersOf (T .types)) ≡ upTo (memberCount T)
   pub lined : length (T .typeLines) ≡ size T
+  -- 14: the paths strictly ascend, so that none recurs
+  pub ordered : Sorted Below (T .packages)
   -- 7
   pub refers : (t e : TypeKey) → In e (refs (kindAt T t)) → e .0 < size T
   pub typed : (t : TypeKey) (m : Member) → MemberOf T t m → m .type .0 < size T

@@ -6,7 +6,7 @@ use mathlib.Core.Option.{Option, none, some}
 use Prim.Native.Nat.{ℕ}
 use Rattle.objects.specs.declared.TypeKey.{TypeKey}
 use Rattle.objects.specs.Table.{Table, Kind, membersOf}
-use Rattle.rules.specs.Checks.{Item, typeItem, memberItems, lineOfItem}
+use Rattle.rules.specs.Checks.{unordered, pathItems, Item, typeItem, memberItems, lineOfItem}
 
 -- a refusal "names its first line"
 unfoldable pub firstLine : {A : Type 0} → (A → ℕ) → (A → Bool) → List A → Option ℕ
@@ -20,6 +20,12 @@ firstLine line bad (i ∷ is) = elim (bad i) [
 unfoldable pub orElse : Option ℕ → Option ℕ → Option ℕ
 orElse none b = b
 orElse (some a) b = some a
+
+-- ---- P lines
+
+-- "at the first line that fails to ascend"
+abbrev pub firstUnordered : Table → Option ℕ
+firstUnordered T = firstLine (λ i. i .line) unordered (pathItems (T .packages))
 
 -- ---- T, F and M lines
 

@@ -78,7 +78,7 @@ readings =
     -- 9, "line of the later member": two clashes, the first line; "or of the method that equals a field", also where the field stands below it
     ∷ run ("typetable 1" ⏎ "T tuple" ⏎ "T func 0 0 0" ⏎ "T named 3" ⏎ "M X - 1 0" ⏎ "T struct" ⏎ "F X - 1 0" ⏎ "F X - 1 0" ⏎ []) [] ("refused 9 5" ⏎ [])
     -- .. and an unexported name of another package is no clash, nor is a blank field
-    ∷ run ("typetable 1" ⏎ "P a" ⏎ "P b" ⏎ "P a" ⏎ "T basic 2" ⏎ "T struct" ⏎ "F x 0 0 0" ⏎ "F x 1 0 0" ⏎ "F _ - 0 0" ⏎ "F _ - 0 0" ⏎ "F x - 0 0" ⏎ "F x 2 0 0" ⏎ []) [] ("refused 9 12" ⏎ [])
+    ∷ run ("typetable 1" ⏎ "P a" ⏎ "P b" ⏎ "T basic 2" ⏎ "T struct" ⏎ "F x 0 0 0" ⏎ "F x 1 0 0" ⏎ "F _ - 0 0" ⏎ "F _ - 0 0" ⏎ "F x - 0 0" ⏎ "F x 0 0 0" ⏎ []) [] ("refused 9 11" ⏎ [])
     -- 10, "T line of the least number on such a cycle": 0 and 1 lead to cycles and lie on none; of 4, 5 and 2, 3 the least is 2
     ∷ run ("typetable 1" ⏎ "T named 1" ⏎ "T struct" ⏎ "F X - 4 0" ⏎ "F Y - 2 0" ⏎ "T named 3" ⏎ "T struct" ⏎ "F Z - 2 0" ⏎ "T named 5" ⏎ "T struct" ⏎ "F W - 4 0" ⏎ []) [] ("refused 10 6" ⏎ [])
     -- .. "through array elements", of an array of none too

@@ -12,7 +12,7 @@ use Rattle.objects.specs.Laid.{Laid, Holds}
 use Rattle.rules.specs.Checks.{Item, items, lacking, forbidden, clashing, containing}
 use Rattle.rules.specs.Load.{Loaded, refused, loaded, staged, checked}
 use Rattle.rules.specs.Library.{Ranked}
-use Rattle.rules.specs.Stages.{firstItem}
+use Rattle.rules.specs.Stages.{firstUnordered, firstItem}
 use Rattle.cycles.specs.Contained.{Contained}
 use Rattle.table.specs.declared.Loading.{Loading}
 use Rattle.table.specs.Loading.{loadingMeant, Passes}
@@ -61,42 +61,45 @@ module _ (text : Bytes) (rows : Words) (laid : Laid rows) where
   abbrev from8 : Loaded
   from8 = staged 8 (finds forbidden) from9
 
-  due-7 : checked T ≡ staged 7 (finds lacking) from8
+  abbrev from7 : Loaded
+  from7 = staged 7 (finds lacking) from8
+
+  -- the stages that pass, one after the other
+  pub to-7 : {s : Stage} → found s ≡ firstUnordered T → s ≡ Stage.Passed → checked T ≡ from7
   unfolding checked
-  due-7 = refl
+  to-7 p q = after-passed 14 from7 refl p q
 
-  module _ {a : Stage} (p7 : found a ≡ finds lacking) where
-    pub refused-7 : {line : ℕ} → a ≡ Stage.Bad line → Passes text (checked T) (Loading.Refused 7 line) rows
-    refused-7 q = refusal-passes text (checked T) rows 7 _ (after-bad 7 from8 due-7 p7 q) laid
+  pub to-8 : checked T ≡ from7 → {s : Stage} → found s ≡ finds lacking → s ≡ Stage.Passed → checked T ≡ from8
+  to-8 due p q = after-passed 7 from8 due p q
 
-    module _ (q7 : a ≡ Stage.Passed) where
-      due-8 : checked T ≡ from8
-      due-8 = after-passed 7 from8 due-7 p7 q7
+  pub to-9 : checked T ≡ from8 → {s : Stage} → found s ≡ finds forbidden → s ≡ Stage.Passed → checked T ≡ from9
+  to-9 due p q = after-passed 8 from9 due p q
 
-      module _ {b : Stage} (p8 : found b ≡ finds forbidden) where
-        pub refused-8 : {line : ℕ} → b ≡ Stage.Bad line → Passes text (checked T) (Loading.Refused 8 line) rows
-        refused-8 q = refusal-passes text (checked T) rows 8 _ (after-bad 8 from9 due-8 p8 q) laid
+  pub to-10 : checked T ≡ from9 → {s : Stage} → found s ≡ finds clashing → s ≡ Stage.Passed → checked T ≡ from10
+  to-10 due p q = after-passed 9 from10 due p q
 
-        module _ (q8 : b ≡ Stage.Passed) where
-          due-9 : checked T ≡ from9
-          due-9 = after-passed 8 from9 due-8 p8 q8
+  -- and the one that finds a line
+  pub refused-14 : {s : Stage} {line : ℕ} → found s ≡ firstUnordered T → s ≡ Stage.Bad line → Passes text (checked T) (Loading.Refused 14 line) rows
+  unfolding checked
+  refused-14 p q = refusal-passes text _ rows 14 _ (after-bad 14 from7 refl p q) laid
 
-          module _ {c : Stage} (p9 : found c ≡ finds clashing) where
-            pub refused-9 : {line : ℕ} → c ≡ Stage.Bad line → Passes text (checked T) (Loading.Refused 9 line) rows
-            refused-9 q = refusal-passes text (checked T) rows 9 _ (after-bad 9 from10 due-9 p9 q) laid
+  pub refused-7 : checked T ≡ from7 → {s : Stage} {line : ℕ} → found s ≡ finds lacking → s ≡ Stage.Bad line → Passes text (checked T) (Loading.Refused 7 line) rows
+  refused-7 due p q = refusal-passes text _ rows 7 _ (after-bad 7 from8 due p q) laid
 
-            module _ (q9 : c ≡ Stage.Passed) where
-              due-10 : checked T ≡ from10
-              due-10 = after-passed 9 from10 due-9 p9 q9
+  pub refused-8 : checked T ≡ from8 → {s : Stage} {line : ℕ} → found s ≡ finds forbidden → s ≡ Stage.Bad line → Passes text (checked T) (Loading.Refused 8 line) rows
+  refused-8 due p q = refusal-passes text _ rows 8 _ (after-bad 8 from9 due p q) laid
 
-              module _ {d : Stage} (after : Words) (p10 : Contained rows d after) where
-                pub refused-10 : {line : ℕ} → d ≡ Stage.Bad line → Passes text (checked T) (Loading.Refused 10 line) after
-                refused-10 q = refusal-passes text (checked T) after 10 _ (after-bad 10 (loaded T) due-10 (p10 .line text) q) (p10 .holds .laid)
+  pub refused-9 : checked T ≡ from9 → {s : Stage} {line : ℕ} → found s ≡ finds clashing → s ≡ Stage.Bad line → Passes text (checked T) (Loading.Refused 9 line) rows
+  refused-9 due p q = refusal-passes text _ rows 9 _ (after-bad 9 from10 due p q) laid
 
-                pub passes-all : d ≡ Stage.Passed → Passes text (checked T) Loading.Loaded after
-                unfolding loadingMeant
-                passes-all q = record {
-                  says = ap loaded (p10 .holds .held text) ∙ sym (after-passed 10 (loaded T) due-10 (p10 .line text) q);
-                  laid = p10 .holds .laid;
-                  ranked = λ h. p10 .ranked q text;
-                }
+  module _ (due : checked T ≡ from10) (after : Words) {s : Stage} (p : Contained rows s after) where
+    pub refused-10 : {line : ℕ} → s ≡ Stage.Bad line → Passes text (checked T) (Loading.Refused 10 line) after
+    refused-10 q = refusal-passes text _ after 10 _ (after-bad 10 (loaded T) due (p .line text) q) (p .holds .laid)
+
+    pub passes-all : s ≡ Stage.Passed → Passes text (checked T) Loading.Loaded after
+    unfolding loadingMeant
+    passes-all q = record {
+      says = ap loaded (p .holds .held text) ∙ sym (after-passed 10 (loaded T) due (p .line text) q);
+      laid = p .holds .laid;
+      ranked = λ h. p .ranked q text;
+    }

@@ -1,4 +1,4 @@
-// The loader: a text becomes rows, or is refused by 2 to 10 with its line. Each stage is a crate of its own; here they are put in order.
+// The loader: a text becomes rows, or is refused by 2 to 10 or 14 with its line. Each stage is a crate of its own; here they are put in order.
 ghost use mathlib.Core.Path.{_≡_};
 ghost use Prim.Native.Nat.{_≤_};
 ghost use lib.ListN.{length, replicate};
@@ -15,11 +15,14 @@ pub enum Loading {
     Loaded,
 }
 
-// 7 to 10, each over the whole text before the next.
+// 14, then 7 to 10, each over the whole text before the next.
 fn check(text: &[u8], rows: &mut [u32]) -> Loading
     requires { ⌜ Laid (now rows) ⌝ }
     ensures { λ r. ⌜ Passes (now (text .entry)) (checked (tableOf (now (text .entry)) (now (rows .entry)))) r (now (rows .exit)) ⌝ }
 {
+    if let Stage::Bad(line) = packages::unordered(text, rows) {
+        return Loading::Refused(14, line);
+    }
     if let Stage::Bad(line) = references::lacking(rows) {
         return Loading::Refused(7, line);
     }
@@ -35,7 +38,7 @@ fn check(text: &[u8], rows: &mut [u32]) -> Loading
     Loading::Loaded
 }
 
-// 2 to 10. The rows are clear when it is called.
+// 2 to 10, and 14. The rows are clear when it is called.
 pub fn load(text: &[u8], rows: &mut [u32]) -> Loading
     requires { ⌜ (now rows ≡ replicate (length (now rows)) 0) × (roomFor (length (now text)) ≤ length (now rows)) ⌝ }
     ensures { λ r. ⌜ Loads (now (text .entry)) r (now (rows .exit)) ⌝ }

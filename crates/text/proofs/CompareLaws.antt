@@ -1,6 +1,6 @@
 -- Two texts compared, four bytes at once or byte by byte: how the loops go on, and how they end.
 use mathlib.Core.Path.{_≡_, refl, sym, ap, _∙_}
-use mathlib.Core.Bool.{Bool, true, false, not, _||_}
+use mathlib.Core.Bool.{Bool, true, false, cond, not, _||_}
 use mathlib.Core.List.{[], _∷_}
 use mathlib.Core.Logic.{_⊎_, inl, inr}
 use Prim.Native.Nat.{ℕ, suc, _+_, _-_, _*_, _/_, _≤_, _<_}
@@ -235,3 +235,27 @@ order-above (x ∷ a) (y ∷ b) h =
     or-right-true : (t : Bool) {u : Bool} → u ≡ true → t || u ≡ true
     or-right-true true e = refl
     or-right-true false e = e
+
+-- ---- below, by the order
+
+less-is : (t u : Bool) → cond t Order.Less (cond u Order.Equal Order.Greater) ≡ Order.Less → true ≡ t
+less-is true u h = refl
+less-is false true h = let z : _≡_ {A = Bool} true false = cc in z
+less-is false false h = let z : _≡_ {A = Bool} true false = cc in z
+
+not-less : (t u : Bool) → (cond t Order.Less (cond u Order.Equal Order.Greater) ≡ Order.Less → ⊥) → false ≡ t
+not-less true u h = absurd (h refl)
+not-less false u h = refl
+
+module _ (a b : Bytes) {o : Order} (e : o ≡ orderOf a b) where
+  pub below-less : o ≡ Order.Less → true ≡ belowBytes a b
+  unfolding orderOf
+  below-less h = less-is (belowBytes a b) (sameBytes a b) (sym e ∙ h)
+
+  pub below-equal : o ≡ Order.Equal → false ≡ belowBytes a b
+  unfolding orderOf
+  below-equal h = not-less (belowBytes a b) (sameBytes a b) (λ l. let z : _≡_ {A = Bool} true false = cc in clash refl z)
+
+  pub below-greater : o ≡ Order.Greater → false ≡ belowBytes a b
+  unfolding orderOf
+  below-greater h = not-less (belowBytes a b) (sameBytes a b) (λ l. let z : _≡_ {A = Bool} true false = cc in clash refl z)

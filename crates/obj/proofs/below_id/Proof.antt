@@ -1,5 +1,5 @@
 -- `obj::below_id` meets its contract.
-use Rattle.obj.proofs.IdLaws.{below-less, below-equal, below-greater}
+use Rattle.text.proofs.CompareLaws.{below-less, below-equal, below-greater}
 use borrow.Author.Needs.{needs}
 use Rattle.obj.proofs.below_id.Statement.{statement}
 use Rattle.obj.proofs.below_id.Tie as tie
