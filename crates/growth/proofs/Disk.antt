@@ -8,14 +8,15 @@ use mathlib.Core.Option.{some}
 use Prim.Native.Nat.{ℕ, zero, suc, _+_, _<_}
 use Prim.Native.String.{String}
 use native.Mathlib.Omega.{arith}
+use Rattle.objects.specs.Lists.{In}
 use Rattle.objects.specs.declared.ObjKey.{ObjKey}
 use Rattle.objects.specs.Table.{Table, typeKey, objKey, packageKey, Entity, Field, Method, Member, Tuple, Func, Struct, Iface, Named, Pointer, kindAt, noTable, withPackages, withTypes, withTypeLines, withMemberLines}
 use Rattle.text.specs.Bytes.{ascii}
 use Rattle.rules.specs.Load.{load, loaded}
 use Rattle.rules.specs.Rows.{called}
-use Rattle.growth.specs.Grown.{Numbers, Grew, grew-tuple, grew-func, grew-iface, grew-pointer, grew-struct, grew-named, Grown, GrownTexts}
+use Rattle.growth.specs.Grown.{pathAt, knownAs, Numbers, Grew, grew-tuple, grew-func, grew-iface, grew-pointer, grew-struct, grew-named, Grown, GrownTexts}
 use Rattle.growth.specs.Incident.{alone, both}
-use Rattle.growth.proofs.Shown.{free-by, shift, shift-in, type-own}
+use Rattle.growth.proofs.Shown.{free-by, shift, shift-in, type-own, of-one}
 use Rattle.growth.proofs.Promised.{grown}
 
 -- ---- the two tables
@@ -78,13 +79,12 @@ grew-at (suc (suc (suc (suc (suc (suc (suc (suc t)))))))) h = absurd (omega arit
 
 pub disk : Grown numbers writer catalogue
 disk = record {
-  packageIn = λ p h. h;
-  packageOwn = λ p q h k e. e;
+  packageKnown = λ p h. of-one (λ q. numbers .pk q ≡ knownAs writer catalogue q) p h refl;
   typeIn = λ t h. shift-in 4 2 8 (t .0) h;
   typeOwn = λ t u h k e. type-own 4 2 t u e;
   memberIn = λ m h. omega arith;
   memberOwn = λ m o h k e. let z : m .0 + m .0 ≡ o .0 + o .0 = ap (λ (x : ObjKey). x .0) e in let same : m .0 ≡ o .0 = omega arith in ap objKey same;
-  paths = λ p h. refl;
+  paths = λ p h. of-one (λ q. In (pathAt writer q) (catalogue .packages)) p h (inl refl);
   grew = λ t h. grew-at (t .0) h;
 }
 

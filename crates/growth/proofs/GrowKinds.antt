@@ -20,6 +20,7 @@ use Rattle.rules.specs.Members.{identityFrom, identityOf}
 use Rattle.rules.specs.Sound.{Sound, MemberOf}
 use Rattle.rules.proofs.RangeLaws.{under-in}
 use Rattle.growth.specs.Grown.{Numbers, carryPkg, carryMember, isAdded, Added, Grew, grew-basic, grew-array, grew-slice, grew-pointer, grew-map, grew-chan, grew-tuple, grew-func, grew-iface, grew-struct, grew-named, Grown}
+use Rattle.growth.proofs.Packages.{package-path}
 
 -- ---- lists
 
@@ -168,7 +169,7 @@ module _ (n : Numbers) (A B : Table) (sound : Sound A) (g : Grown n A B) where
   path-kept : (p : Option PackageKey) → hasPackage A p ≡ true → pathOf B (carryPkg n p) ≡ pathOf A p
   unfolding pathOf
   path-kept none h = refl
-  path-kept (some p) h = ap (λ z. some z) (g .paths p (ltb-true (p .0) (length (A .packages)) h))
+  path-kept (some p) h = ap (λ z. some z) (package-path n A B g p (ltb-true (p .0) (length (A .packages)) h))
 
   pub name-kept : (p : Option PackageKey) (name : Bytes) → hasPackage A p ≡ true → identityFrom B (carryPkg n p) name ≡ identityFrom A p name
   unfolding identityFrom

@@ -6,21 +6,21 @@ use mathlib.Core.Logic.{inl, inr}
 use Prim.Native.Nat.{ℕ, zero, suc, _<_}
 use native.Mathlib.Omega.{arith}
 use Rattle.objects.specs.declared.TypeKey.{TypeKey}
-use Rattle.objects.specs.declared.PackageKey.{PackageKey}
+use Rattle.objects.specs.Lists.{In}
 use Rattle.objects.specs.Table.{Table, typeKey, objKey, packageKey, Field, Method, Basic, Tuple, Func, Struct, Iface, Named, Pointer, kindAt, noTable, withPackages, withTypes, withTypeLines, withMemberLines}
 use Rattle.text.specs.Bytes.{ascii}
 use Rattle.rules.specs.Load.{load, loaded}
 use Rattle.rules.specs.Rows.{called}
-use Rattle.growth.specs.Grown.{Numbers, Grew, grew-tuple, grew-func, grew-iface, grew-pointer, grew-struct, grew-named, GrownTexts}
+use Rattle.growth.specs.Grown.{pathAt, knownAs, Numbers, Grew, grew-tuple, grew-func, grew-iface, grew-pointer, grew-struct, grew-named, GrownTexts}
 use Rattle.growth.specs.Incident.{alone, both, three, elsewhere, own}
-use Rattle.growth.proofs.Shown.{free-by, shift, shift-in, member-own}
+use Rattle.growth.proofs.Shown.{free-by, shift, shift-in, member-own, of-one}
 use Rattle.growth.proofs.Disk.{line, writer, catalogue, writer-loads, catalogue-loads}
 
 -- ---- a package and a type in front, and a method of the block writer: P, T and M lines
 
 abbrev pub flushing : Table
 flushing =
-    withPackages (ascii "office" ∷ ascii "disk" ∷ [])
+    withPackages (ascii "archive" ∷ ascii "disk" ∷ [])
     (withTypes (
     Basic 2
     ∷ Tuple []
@@ -63,13 +63,12 @@ elsewhere-grown = record {
   newLoads = flushing-loads;
   numbers = moved;
   grown = record {
-    packageIn = λ p h. omega arith;
-    packageOwn = λ p q h k e. let z : suc (p .0) ≡ suc (q .0) = ap (λ (x : PackageKey). x .0) e in let same : p .0 ≡ q .0 = omega arith in ap packageKey same;
+    packageKnown = λ p h. of-one (λ q. moved .pk q ≡ knownAs writer flushing q) p h refl;
     typeIn = λ t h. omega arith;
     typeOwn = λ t u h k e. let z : suc (t .0) ≡ suc (u .0) = ap (λ (x : TypeKey). x .0) e in let same : t .0 ≡ u .0 = omega arith in ap typeKey same;
     memberIn = λ m h. shift-in 1 1 3 (m .0) h;
     memberOwn = λ m o h k e. member-own 1 1 m o e;
-    paths = λ p h. refl;
+    paths = λ p h. of-one (λ q. In (pathAt writer q) (flushing .packages)) p h (inr (inl refl));
     grew = λ t h. flushing-grew (t .0) h;
   };
 }
@@ -121,13 +120,12 @@ own-grown = record {
   newLoads = closing-loads;
   numbers = from 2;
   grown = record {
-    packageIn = λ p h. h;
-    packageOwn = λ p q h k e. e;
+    packageKnown = λ p h. of-one (λ q. (from 2) .pk q ≡ knownAs writer closing q) p h refl;
     typeIn = λ t h. h;
     typeOwn = λ t u h k e. e;
     memberIn = λ m h. shift-in 2 1 3 (m .0) h;
     memberOwn = λ m o h k e. member-own 2 1 m o e;
-    paths = λ p h. refl;
+    paths = λ p h. of-one (λ q. In (pathAt writer q) (closing .packages)) p h (inl refl);
     grew = λ t h. closing-grew (t .0) h;
   };
 }
@@ -181,13 +179,12 @@ three-grown = record {
   newLoads = taping-loads;
   numbers = from 4;
   grown = record {
-    packageIn = λ p h. h;
-    packageOwn = λ p q h k e. e;
+    packageKnown = λ p h. of-one (λ q. (from 4) .pk q ≡ knownAs catalogue taping q) p h refl;
     typeIn = λ t h. omega arith;
     typeOwn = λ t u h k e. e;
     memberIn = λ m h. let l = shift-in 4 1 5 (m .0) h in omega arith;
     memberOwn = λ m o h k e. member-own 4 1 m o e;
-    paths = λ p h. refl;
+    paths = λ p h. of-one (λ q. In (pathAt catalogue q) (taping .packages)) p h (inl refl);
     grew = λ t h. taping-grew (t .0) h;
   };
 }

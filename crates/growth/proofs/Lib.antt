@@ -1,4 +1,5 @@
 pub mod GrowWays
+pub mod Packages
 pub mod GrowKinds
 pub mod GrowIdentity
 pub mod GrowGraph

@@ -1,4 +1,4 @@
--- Tests that show a concrete growth: that a struct may get fields (`free-by`), and numbers that move up to make room (`shift`).
+-- Tests that show a concrete growth: that a struct may get fields (`free-by`), numbers that move up to make room (`shift`), a table's one package (`of-one`).
 use mathlib.Core.Path.{_≡_, refl, sym, ap, _∙_, subst}
 use mathlib.Core.Bool.{Bool, true, cond, not, _&&_, _||_}
 use mathlib.Core.List.{List, [], _∷_}
@@ -12,7 +12,8 @@ use Rattle.objects.proofs.ListLaws.{cases, clash, and-l, and-r, or-true, any-In
 use Rattle.objects.proofs.KeyLaws.{key-eq, same-self}
 use Rattle.objects.specs.declared.TypeKey.{TypeKey}
 use Rattle.objects.specs.declared.ObjKey.{ObjKey}
-use Rattle.objects.specs.Table.{Table, typeKey, objKey, sameType, Member, Kind, Basic, isNamed, refs, membersOf, kindAt}
+use Rattle.objects.specs.declared.PackageKey.{PackageKey}
+use Rattle.objects.specs.Table.{Table, typeKey, objKey, packageKey, sameType, Member, Kind, Basic, isNamed, refs, membersOf, kindAt}
 use Rattle.growth.specs.Grown.{Numbers, Free}
 
 -- ---- a test for `Free`: the T line of one named type c refers to t, and no other line
@@ -76,3 +77,9 @@ module _ (from by : ℕ) where
 
   pub member-own : (m o : ObjKey) → objKey (shift from by (m .0)) ≡ objKey (shift from by (o .0)) → m ≡ o
   member-own m o e = let same : m .0 ≡ o .0 = shift-own (m .0) (o .0) (ap (λ (x : ObjKey). x .0) e) in ap objKey same
+
+-- ---- packages
+
+-- what holds of package 0 holds of each package of a table that has one
+pub of-one : (P : PackageKey → Type 0) (p : PackageKey) → p .0 < 1 → P (packageKey 0) → P p
+of-one P p h x = let e : p .0 ≡ 0 = omega arith in subst P (sym (ap packageKey e)) x

@@ -1,10 +1,10 @@
--- Document 01, Growth: when a new library B is an old one A with lines added. Each clause stands under the sentence that it states.
+-- Document 01, Growth: when a new library B is an old one A with lines added; of packages document 02, point 5. Each clause stands under the sentence that it states.
 use mathlib.Core.Path.{_≡_}
-use mathlib.Core.Bool.{Bool, true, false, not}
-use mathlib.Core.List.{List, [], _++_, map}
+use mathlib.Core.Bool.{Bool, true, false, cond, not}
+use mathlib.Core.List.{List, [], _∷_, _++_, map}
 use mathlib.Core.Logic.{_⊎_}
 use mathlib.Core.Option.{Option}
-use Prim.Native.Nat.{ℕ, _<_}
+use Prim.Native.Nat.{ℕ, suc, _<_}
 use lib.Dec.{eqb}
 use lib.ListN.{length, getD}
 use Rattle.objects.specs.Lists.{Bytes, any, mapped, In, upTo}
@@ -12,8 +12,26 @@ use Rattle.objects.specs.declared.TypeKey.{TypeKey}
 use Rattle.objects.specs.declared.ObjKey.{ObjKey}
 use Rattle.objects.specs.declared.PackageKey.{PackageKey}
 use Rattle.objects.specs.declared.Dir.{Dir}
-use Rattle.objects.specs.Table.{Table, objKey, size, memberCount, Member, Kind, Basic, Array, Slice, Pointer, Map, Chan, Tuple, Func, Struct, Iface, Named, isNamed, refs, membersOf, kindAt}
+use Rattle.objects.specs.Table.{Table, objKey, packageKey, size, memberCount, Member, Kind, Basic, Array, Slice, Pointer, Map, Chan, Tuple, Func, Struct, Iface, Named, isNamed, refs, membersOf, kindAt}
+use Rattle.text.specs.Bytes.{sameBytes}
 use Rattle.rules.specs.Load.{load, loaded}
+
+-- ---- packages: "a library that grows inserts its new packages in order, and an old package is then known by its path"
+
+-- the place of a path among others: the first that is the same, or behind them
+abbrev pub placeAmong : List Bytes → Bytes → ℕ
+placeAmong [] path = 0
+placeAmong (p ∷ ps) path = cond (sameBytes p path) 0 (suc (placeAmong ps path))
+
+-- the path of a package
+abbrev pub pathAt : Table → PackageKey → Bytes
+pathAt T p = getD (T .packages) (p .0) []
+
+-- the number in B of the package p of A
+abbrev pub knownAs : Table → Table → PackageKey → PackageKey
+knownAs A B p = packageKey (placeAmong (B .packages) (pathAt A p))
+
+-- ---- numbers
 
 -- The new numbers of the old packages, types and members. What a map says of a number that the old table lacks is never asked.
 pub record Numbers : Type 0 where
@@ -62,14 +80,14 @@ module _ (n : Numbers) where
 -- B is A with "P lines, T lines with theirs", M lines and F lines added, "whatever mixture was added"
 pub record Grown (n : Numbers) (A B : Table) : Type 0 where
   -- "Each old package, type and member has its own number in the new table"
-  pub packageIn : (p : PackageKey) → p .0 < length (A .packages) → n .pk p .0 < length (B .packages)
-  pub packageOwn : (p q : PackageKey) → p .0 < length (A .packages) → q .0 < length (A .packages) → n .pk p ≡ n .pk q → p ≡ q
   pub typeIn : (t : TypeKey) → t .0 < size A → n .ty t .0 < size B
   pub typeOwn : (t u : TypeKey) → t .0 < size A → u .0 < size A → n .ty t ≡ n .ty u → t ≡ u
   pub memberIn : (m : ObjKey) → m .0 < memberCount A → n .mem m .0 < memberCount B
   pub memberOwn : (m o : ObjKey) → m .0 < memberCount A → o .0 < memberCount A → n .mem m ≡ n .mem o → m ≡ o
+  -- a package's is that of its path: no other number is left to choose
+  pub packageKnown : (p : PackageKey) → p .0 < length (A .packages) → n .pk p ≡ knownAs A B p
   -- "old lines stay, only these numbers changed": the P lines
-  pub paths : (p : PackageKey) → p .0 < length (A .packages) → getD (B .packages) (n .pk p .0) [] ≡ getD (A .packages) (p .0) []
+  pub paths : (p : PackageKey) → p .0 < length (A .packages) → In (pathAt A p) (B .packages)
   -- the T lines, with the F and M lines under them
   pub grew : (t : TypeKey) → t .0 < size A → Grew n A t (kindAt A t) (kindAt B (n .ty t))
 

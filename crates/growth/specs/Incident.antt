@@ -57,7 +57,7 @@ three =
 abbrev pub elsewhere : Bytes
 elsewhere =
     "typetable 1" ⏎
-    "P office" ⏎
+    "P archive" ⏎
     "P disk" ⏎
     "T basic 2" ⏎
     "T tuple" ⏎

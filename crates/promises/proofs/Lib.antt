@@ -1,1 +1,2 @@
+pub mod PackageOrder
 pub mod Promises

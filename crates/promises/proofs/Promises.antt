@@ -13,11 +13,12 @@ use Rattle.objects.specs.Bounds.{workWords, Bounds, bounds, formerBounds}
 use Rattle.objects.specs.Lists.{Bytes}
 use Rattle.objects.specs.declared.TypeKey.{TypeKey}
 use Rattle.objects.specs.declared.PackageKey.{PackageKey}
-use Rattle.objects.specs.Table.{Table, size, hasType, hasPackage, Member, Struct, isIface, isNamed, kindAt, under}
+use Rattle.objects.specs.Table.{Table, size, hasType, hasPackage, pathOf, Member, Struct, isIface, isNamed, kindAt, under}
 use Rattle.objects.proofs.ListLaws.{and-l, In-map, map-In-to, map-map}
 use Rattle.objects.proofs.KindLaws.{iface-is, under-plain}
 use Rattle.rules.specs.Members.{identityFrom, identityOf}
-use Rattle.rules.specs.Load.{loaded, loadWithin, load, Within, Wider}
+use Rattle.rules.specs.Load.{Loaded, refused, loaded, loadWithin, load, Within, Wider}
+use Rattle.rules.specs.Sound.{Sound}
 use Rattle.rules.specs.Question.{Question, askS, askM, askN, askI, askC, inTable}
 use Rattle.rules.specs.Ways.{Selected, searchedAs, shortest, select}
 use Rattle.rules.specs.Identity.{mismatch, identical}
@@ -31,6 +32,7 @@ use Rattle.rules.specs.Worked.{worked}
 use Rattle.rules.proofs.Computed as computed
 use Rattle.rules.proofs.Numbers.{outcome-bound, answered-fits}
 use Rattle.rules.proofs.Sounds.{loads-sound}
+use Rattle.rules.proofs.PathLaws.{package-by-path}
 use Rattle.rules.proofs.BoundLaws.{loads-within, load-wider, refused-wider, outcome-wider, asked-wider, typeask-wider}
 use Rattle.ways.specs.MethodLevels.{asGo, setByLevels}
 use Rattle.ways.proofs.LevelSets.{set-by-levels}
@@ -50,10 +52,12 @@ use Rattle.gospec.specs.GoSelectors.{OneStar}
 use Rattle.gospec.specs.GoImplements.{Implements}
 use Rattle.gospec.proofs.FieldsGo.{structs-told-apart}
 use Rattle.gospec.proofs.Loaded as go
-use Rattle.growth.specs.Grown.{GrownTexts}
+use Rattle.growth.specs.Grown.{knownAs, Numbers, GrownTexts}
 use Rattle.growth.specs.Calls.{Lent, called, PutAgain, Said}
+use Rattle.growth.proofs.Packages.{package-in, package-path, package-only, old-order}
 use Rattle.growth.proofs.Promised.{asked-in, outcome-says, call-says, grown-calls}
-use Rattle.promises.specs.Demands.{CallGives, Answered, CallSays, GoSelects, GoSet, KeptWalks, BesideGo, SameWithin}
+use Rattle.promises.specs.Demands.{CallGives, Answered, CallSays, GoSelects, GoSet, KeptWalks, BesideGo, SameWithin, Reads, InOrder, PackagesKnown}
+use Rattle.promises.proofs.PackageOrder.{in-order}
 
 -- ---- DEMAND 1: what every call gives
 
@@ -207,10 +211,51 @@ wider-bounds b b′ w = record {
   prints = typeask-wider b b′ w;
 }
 
--- "An old table loads as before, and its answers agree": within document 01's bounds and within those in force
+-- "An old table loads as before, and its answers agree": within document 01's bounds and within those in force, with 14 (point 5) tried in both
 pub old-tables : SameWithin formerBounds bounds
 old-tables = wider-bounds formerBounds bounds (record { bytes = omega arith; types = omega arith; members = omega arith })
 
--- of the call: what the call gave before point 4, by its contract then, it gives now
+-- of the call: what it gives within document 01's bounds it gives now
 pub old-calls : (text : Bytes) (T : Table) → loadWithin formerBounds text ≡ loaded T → (c : Lent) → called text c ≡ askedWithin formerBounds text (c .line) (c .buffer) (c .work)
 old-calls = old-tables .gives
+
+-- ---- document 02, point 5: packages by path
+
+-- 14, for every text whose lines pass 2 to 6: where it is due, at which line, and that all else is as document 01 has it
+pub packages-in-order : (text : Bytes) (T : Table) → Reads text T → InOrder text T
+packages-in-order = in-order
+
+-- "so a path no longer recurs": two packages of a table that loads are one exactly if their numbers are
+pub packages-apart : (text : Bytes) (T : Table) → load text ≡ loaded T → (p q : Option PackageKey) → hasPackage T p ≡ true → hasPackage T q ≡ true → (pathOf T p ≡ pathOf T q) ↔ (p ≡ q)
+packages-apart text T h = package-by-path T (loads-sound text T h)
+
+-- "an old package is then known by its path": the two texts determine its number
+pub packages-known : (a b : Bytes) (g : GrownTexts a b) → PackagesKnown g
+packages-known a b g = record {
+  kept = λ p h. (package-in n A B (g .grown) p h, package-path n A B (g .grown) p h);
+  only = package-only n A B newSound (g .grown);
+  order = old-order n A B newSound (g .grown) (loads-sound a A (g .oldLoads));
+  determined = λ h p k. known h p k ∙ sym (g .grown .packageKnown p k);
+}
+  where
+    n : Numbers
+    n = g .numbers
+
+    A : Table
+    A = g .old
+
+    B : Table
+    B = g .new
+
+    newSound : Sound B
+    newSound = loads-sound b B (g .newLoads)
+
+    tableOr : Loaded → Table
+    tableOr (refused m line) = A
+    tableOr (loaded T) = T
+
+    known : (h : GrownTexts a b) (p : PackageKey) → p .0 < length (A .packages) → h .numbers .pk p ≡ knownAs A B p
+    known h p k =
+        let old : h .old ≡ A = ap tableOr (sym (h .oldLoads) ∙ g .oldLoads) in
+        let new : h .new ≡ B = ap tableOr (sym (h .newLoads) ∙ g .newLoads) in
+        subst (λ U. h .numbers .pk p ≡ knownAs U B p) old (subst (λ U. h .numbers .pk p ≡ knownAs (h .old) U p) new (h .grown .packageKnown p (rw old k)))

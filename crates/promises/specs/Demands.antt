@@ -1,20 +1,24 @@
 -- The words that the promises are said in: what a call gives, and when it answers a question.
 use mathlib.Core.Path.{_≡_}
 use mathlib.Core.Bool.{Bool, true, false, cond, _&&_}
-use mathlib.Core.List.{List, map}
+use mathlib.Core.List.{List, [], _∷_, map}
 use mathlib.Core.Logic.{_⊎_, _↔_, _≢_}
 use mathlib.Core.Option.{Option, some}
-use Prim.Native.Nat.{ℕ, _*_, _≤_, _<_}
-use lib.ListN.{length, replicate}
-use Rattle.objects.specs.Bounds.{workWords, lastRefusal, refusalUnit, Bounds}
+use Prim.Native.Nat.{ℕ, _+_, _-_, _*_, _≤_, _<_}
+use lib.ListN.{length, getD, replicate}
+use Rattle.objects.specs.Bounds.{workWords, maxText, lastRefusal, refusalUnit, Bounds, bounds}
 use Rattle.objects.specs.Lists.{Bytes, In, Sorted}
 use Rattle.objects.specs.declared.TypeKey.{TypeKey}
 use Rattle.objects.specs.declared.PackageKey.{PackageKey}
-use Rattle.objects.specs.Table.{Table, size, Member, bare, pointerAt, ifaceUnder}
-use Rattle.text.specs.Bytes.{belowBytes}
-use Rattle.text.specs.Lines.{pieces}
+use Rattle.objects.specs.Table.{Table, size, Member, noTable, bare, pointerAt, ifaceUnder}
+use Rattle.text.specs.Bytes.{ascii, belowBytes}
+use Rattle.text.specs.Lines.{pieces, fields}
 use Rattle.rules.specs.Members.{Identity, identityOf, idBytes}
-use Rattle.rules.specs.Load.{refused, loaded, loadWithin, load}
+use Rattle.rules.specs.Forms.{packageLine, lineOf}
+use Rattle.rules.specs.Checks.{Item, items, lacking, forbidden, clashing, containing}
+use Rattle.rules.specs.Stages.{firstItem}
+use Rattle.rules.specs.Load.{Loaded, refused, loaded, linesFrom, staged, loadWithin, load}
+use Rattle.rules.specs.Sound.{Below}
 use Rattle.rules.specs.Question.{Question, questionOf}
 use Rattle.rules.specs.Ways.{Selected, notfound, judged, searched}
 use Rattle.rules.specs.Answer.{Answer, Sel, answer, answerBytes}
@@ -29,11 +33,12 @@ use Rattle.gospec.specs.Says.{Says, Alike}
 use Rattle.gospec.specs.GoMethodSets.{MethodSet}
 use Rattle.goscript.specs.MethodSets.{Selection}
 use Rattle.goscript.specs.Departures.{DenotesField, PointsToNamedInterface}
+use Rattle.growth.specs.Grown.{pathAt, GrownTexts}
 use Rattle.growth.specs.Calls.{Lent, called, answersWith}
 
 -- ---- demand 1
 
--- All that a call gives, by what is due (`outcome`: refusals 2 to 13, or the bytes of the answer).
+-- All that a call gives, by what is due (`outcome`: a refusal from 2 on, or the bytes of the answer).
 pub record CallGives (table : Bytes) (c : Lent) : Type 0 where
   -- 1: "The work area has fewer words than the number the team fixes"; it "leaves it unchanged"
   pub tooFewWords : length (c .work) < workWords → called table c ≡ record { number = refusal 1 0; answer = c .buffer; work = c .work }
@@ -102,3 +107,48 @@ pub record SameWithin (b b′ : Bounds) : Type 0 where
   pub gives : (text : Bytes) (T : Table) → loadWithin b text ≡ loaded T → (c : Lent)
       → askedWithin b′ text (c .line) (c .buffer) (c .work) ≡ askedWithin b text (c .line) (c .buffer) (c .work)
   pub prints : (input : Bytes) (T : Table) → length input ≤ b .bytes → loadWithin b (inputOf (pieces input) .table) ≡ loaded T → typeaskWithin b′ input ≡ typeaskWithin b input
+
+-- ---- document 02, point 5
+
+-- the lines of a text pass 2 to 6 and build T
+pub record Reads (text : Bytes) (T : Table) : Type 0 where
+  pub bytes : length text ≤ maxText
+  pub next : Bytes
+  pub rest : List Bytes
+  pub header : pieces text ≡ ascii "typetable\t1" ∷ next ∷ rest
+  pub lines : linesFrom bounds 2 noTable (next ∷ rest) ≡ loaded T
+
+-- 7 to 10, as document 01 has them
+abbrev pub formerly : Table → Loaded
+formerly T =
+    let finds : (Item → Bool) → Option ℕ = λ bad. firstItem T bad (items T) in
+    staged 7 (finds (lacking T)) (staged 8 (finds (forbidden T)) (staged 9 (finds (clashing T)) (staged 10 (finds (containing T)) (loaded T))))
+
+-- p is the first package whose path is not above that of the one just before
+pub record Falls (T : Table) (p : ℕ) : Type 0 where
+  pub behind : 0 < p
+  pub there : p < length (T .packages)
+  pub before : (q : ℕ) → 0 < q → q < p → Below (getD (T .packages) (q - 1) []) (getD (T .packages) q [])
+  pub here : belowBytes (getD (T .packages) (p - 1) []) (getD (T .packages) p []) ≡ false
+
+-- "P lines must come in strictly ascending order of the bytes of their paths"
+pub record InOrder (text : Bytes) (T : Table) : Type 0 where
+  -- where they do, all is as document 01 has it
+  pub ascending : Sorted Below (T .packages) → load text ≡ formerly T
+  -- where they do not, one of them is the first that fails
+  pub falling : Sorted Below (T .packages) ⊎ ((p : ℕ) × Falls T p)
+  -- "refused after refusal 6 and before 7, at the first line that fails to ascend"
+  pub refuses : (p : ℕ) → Falls T p → load text ≡ refused 14 (p + 2)
+  -- package p stands on line p + 2, which is the piece p + 1 of the text
+  pub line : (p : ℕ) → p < length (T .packages) → lineOf (fields (getD (pieces text) (p + 1) [])) ≡ some (packageLine (getD (T .packages) p []))
+
+-- Packages of a library that grew: "an old package is then known by its path".
+pub record PackagesKnown {a b : Bytes} (g : GrownTexts a b) : Type 0 where
+  -- each old package is one of the new ones, of the same path
+  pub kept : (p : PackageKey) → p .0 < length (g .old .packages) → (g .numbers .pk p .0 < length (g .new .packages)) × (pathAt (g .new) (g .numbers .pk p) ≡ pathAt (g .old) p)
+  -- and the only one
+  pub only : (p : PackageKey) → p .0 < length (g .old .packages) → (r : PackageKey) → r .0 < length (g .new .packages) → pathAt (g .new) r ≡ pathAt (g .old) p → r ≡ g .numbers .pk p
+  -- "inserts its new packages in order": the old ones stay in theirs
+  pub order : (p q : PackageKey) → p .0 < q .0 → q .0 < length (g .old .packages) → g .numbers .pk p .0 < g .numbers .pk q .0
+  -- the two texts determine the number, however they are said to have grown
+  pub determined : (h : GrownTexts a b) (p : PackageKey) → p .0 < length (g .old .packages) → h .numbers .pk p ≡ g .numbers .pk p
