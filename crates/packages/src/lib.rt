@@ -31,7 +31,8 @@ fn ascends(text: &[u8], rows: &[u32], p: u32) -> bool
     requires { ⌜ 0 < p ⌝ }
     ensures { λ r. ⌜ r ≡ belowBytes (pathRead (now (text .entry)) (now (rows .entry)) (packageKey (p - 1))) (pathRead (now (text .entry)) (now (rows .entry)) (packageKey p)) ⌝ }
 {
-    let before = path_of(text, rows, PackageKey(p - 1));
+    let previous = p - 1;
+    let before = path_of(text, rows, PackageKey(previous));
     let path = path_of(text, rows, PackageKey(p));
     match order(before, path) {
         Order::Less => true,
@@ -49,7 +50,8 @@ pub fn unordered(text: &[u8], rows: &[u32]) -> Stage
     let mut p = 1;
     while p < n {
         if !ascends(text, rows, p) {
-            return Stage::Bad(p + 2);
+            let line = p + 2;
+            return Stage::Bad(line);
         }
         p += 1;
     }

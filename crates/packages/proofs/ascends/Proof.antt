@@ -5,8 +5,8 @@ use borrow.Author.Needs.{needs}
 use Rattle.packages.proofs.ascends.Statement.{statement}
 use Rattle.packages.proofs.ascends.Tie as tie
 
-sub-t6 : tie.Need-sub-t6
-sub-t6 c = search needs
+sub-previous : tie.Need-sub-previous
+sub-previous c = search needs
 
 path-of-requires : tie.Need-path-of-requires
 path-of-requires c κs = search needs
@@ -39,7 +39,7 @@ pub ascends-spec : {M : Type 1} → statement M
 ascends-spec =
     tie.close
     (tie.spec
-    sub-t6
+    sub-previous
     path-of-requires
     path-of-requires-2
     order-requires

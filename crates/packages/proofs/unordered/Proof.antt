@@ -26,8 +26,8 @@ loop-holds c = (omega arith, paths-start _)
 ascends-requires : tie.Need-ascends-requires Inv-loop μ-loop
 ascends-requires c κs = c .before .loop .inv .0
 
-add-t7 : tie.Need-add-t7 Inv-loop μ-loop
-add-t7 c = search needs
+add-line : tie.Need-add-line Inv-loop μ-loop
+add-line c = search needs
 
 returns : tie.Need-returns Inv-loop μ-loop
 returns c =
@@ -59,7 +59,7 @@ unordered-spec =
     package-count-requires
     loop-holds
     ascends-requires
-    add-t7
+    add-line
     returns
     add-p
     loop-less
