@@ -22,10 +22,11 @@ use Rattle.objects.proofs.PartLaws.{parted}
 use Rattle.objects.proofs.RowLaws.{size-read, number-read, fields-read, kind-beyond, members-have, members-more}
 use Rattle.text.specs.Bytes.{isBlank}
 use Rattle.rules.specs.Members.{sameMember}
-use Rattle.rules.specs.Checks.{Item, memberItem, items, lineOfItem, lacking, ascends, equalsField, clashing}
-use Rattle.rules.specs.Stages.{firstItem, linesUnder, linesOf}
+use Rattle.rules.specs.Checks.{PathItem, pathItems, unordered, Item, memberItem, items, lineOfItem, lacking, ascends, equalsField, clashing}
+use Rattle.rules.specs.Stages.{firstUnordered, firstItem, linesUnder, linesOf}
 use Rattle.rules.specs.Sound.{Lower}
 use Rattle.rules.proofs.StageLaws.{none-fails}
+use Rattle.rules.proofs.PathLaws.{ordered-of}
 use Rattle.rules.proofs.CheckLaws.{member-item}
 use Rattle.rules.proofs.ItemLaws.{lines-on, membersLeft, members-on, members-stop}
 use Rattle.references.specs.Lines.{linesRead}
@@ -185,15 +186,15 @@ module _ (text : Bytes) (rows : Words) (u : TypeKey) (p : Member → Bool) where
     pub fields-packaged : Packaged text rows → k ≡ 8 → {first c : ℕ} → first ≡ firstRead rows u → c ≡ totalRead rows u → PackagedFrom text rows first c
     fields-packaged s q pf pc i l = rw pf (s .under u there i (rw (some-under rows u pk (omega arith) pc) at l))
 
--- ---- 7 passed
+-- ---- 14 and 7 passed
 
 -- a line that 7 passes has its package in the table
 lacking-none : (T : Table) (t : TypeKey) (k : Kind) (before : List Member) (m : Member) → lacking T (memberItem t k before m) ≡ false → hasPackage T (m .pkg) ≡ true
 unfolding lacking
 lacking-none T t k before m z = and-r (hasType T (m .type)) (hasPackage T (m .pkg)) (not-false (hasType T (m .type) && hasPackage T (m .pkg)) z)
 
-pub packaged-of : (text : Bytes) (rows : Words) → firstItem (tableOf text rows) (lacking (tableOf text rows)) (items (tableOf text rows)) ≡ none → Packaged text rows
-packaged-of text rows e = record { under = here }
+pub packaged-of : (text : Bytes) (rows : Words) → firstUnordered (tableOf text rows) ≡ none → firstItem (tableOf text rows) (lacking (tableOf text rows)) (items (tableOf text rows)) ≡ none → Packaged text rows
+packaged-of text rows o e = record { ordered = ordered-of (tableOf text rows .packages) (none-fails (λ (i : PathItem). i .line) unordered (pathItems (tableOf text rows .packages)) o); under = here }
   where
     here : (t : TypeKey) → t .0 < typeCount rows → PackagedFrom text rows (firstRead rows t) (linesRead rows t)
     here t h i l =

@@ -13,9 +13,10 @@ ghost use Rattle.objects.specs.Rows.{typeCount, typeWord, memberAt, membersFrom
 ghost use Rattle.objects.specs.Types.{numberRead, firstRead, found};
 ghost use Rattle.objects.specs.Laid.{Laid};
 ghost use Rattle.text.specs.Bytes.{isBlank};
+ghost use Rattle.rules.specs.Sound.{Ordered};
 ghost use Rattle.rules.specs.Members.{sameMember};
 ghost use Rattle.rules.specs.Checks.{memberItem, items, lacking, ascends, clashing};
-ghost use Rattle.rules.specs.Stages.{firstItem, linesUnder};
+ghost use Rattle.rules.specs.Stages.{firstUnordered, firstItem, linesUnder};
 ghost use Rattle.references.specs.Lines.{linesRead};
 ghost use Rattle.clashes.specs.Known.{PackagedFrom, Packaged, Rising};
 ghost use Rattle.clashes.specs.Marks.{hashes, bitWords, placeOf, fieldsNumber, MarkedAt, Grows, Noted, Ready, Readied, Prepared, Seen, Looked};
@@ -51,7 +52,7 @@ pub mod marks; // which names were met
 
 // One of n members from a first one on has the identity of m.
 fn any_same(text: &[u8], rows: &[u32], m: ObjKey, first: u32, n: u32) -> bool
-    requires { ⌜ (hasPackage (tableOf (now text) (now rows)) (memberAt (now text) (now rows) m .pkg) ≡ true) × PackagedFrom (now text) (now rows) first n × (first + n ≤ maxElements) ⌝ }
+    requires { ⌜ (hasPackage (tableOf (now text) (now rows)) (memberAt (now text) (now rows) m .pkg) ≡ true) × PackagedFrom (now text) (now rows) first n × (first + n ≤ maxElements) × Ordered (tableOf (now text) (now rows)) ⌝ }
     ensures { λ r. ⌜ r ≡ any (sameMember (tableOf (now (text .entry)) (now (rows .entry))) (memberAt (now (text .entry)) (now (rows .entry)) m)) (membersFrom (now (text .entry)) (now (rows .entry)) first n) ⌝ }
 {
     let mut i = 0;
@@ -66,7 +67,7 @@ fn any_same(text: &[u8], rows: &[u32], m: ObjKey, first: u32, n: u32) -> bool
 
 // "Blank fields `_` may repeat."
 fn repeats(text: &[u8], rows: &[u32], m: ObjKey, first: u32, n: u32) -> bool
-    requires { ⌜ (hasPackage (tableOf (now text) (now rows)) (memberAt (now text) (now rows) m .pkg) ≡ true) × PackagedFrom (now text) (now rows) first n × (first + n ≤ maxElements) ⌝ }
+    requires { ⌜ (hasPackage (tableOf (now text) (now rows)) (memberAt (now text) (now rows) m .pkg) ≡ true) × PackagedFrom (now text) (now rows) first n × (first + n ≤ maxElements) × Ordered (tableOf (now text) (now rows)) ⌝ }
     ensures { λ r. ⌜ r ≡ not (isBlank (memberAt (now (text .entry)) (now (rows .entry)) m .name)) && any (sameMember (tableOf (now (text .entry)) (now (rows .entry))) (memberAt (now (text .entry)) (now (rows .entry)) m)) (membersFrom (now (text .entry)) (now (rows .entry)) first n) ⌝ }
 {
     if is_blank(text, rows, m) {
@@ -253,9 +254,9 @@ fn first_of(text: &[u8], rows: &[u32], marks: &mut [u32], done: &mut [u8]) -> St
     Stage::Passed
 }
 
-// 9, of a table that passed 7
+// 9, of a table that passed 14 and 7
 pub fn clashing(text: &[u8], rows: &[u32]) -> Stage
-    requires { ⌜ Laid (now rows) × (firstItem (tableOf (now text) (now rows)) (lacking (tableOf (now text) (now rows))) (items (tableOf (now text) (now rows))) ≡ none) ⌝ }
+    requires { ⌜ Laid (now rows) × (firstUnordered (tableOf (now text) (now rows)) ≡ none) × (firstItem (tableOf (now text) (now rows)) (lacking (tableOf (now text) (now rows))) (items (tableOf (now text) (now rows))) ≡ none) ⌝ }
     ensures { λ r. ⌜ found r ≡ firstItem (tableOf (now (text .entry)) (now (rows .entry))) (clashing (tableOf (now (text .entry)) (now (rows .entry)))) (items (tableOf (now (text .entry)) (now (rows .entry)))) ⌝ }
 {
     let mut marks = [0u32; BIT_WORDS];

@@ -14,7 +14,7 @@ use Rattle.objects.specs.Table.{Table, packageKey}
 use Rattle.objects.proofs.ListLaws.{cases, clash}
 use Rattle.text.specs.Bytes.{sameBytes, belowBytes}
 use Rattle.text.proofs.ByteLaws.{same-refl, same-true, below-irrefl, below-trans}
-use Rattle.rules.specs.Sound.{Below, Sound}
+use Rattle.rules.specs.Sound.{Below, Ordered}
 use Rattle.rules.proofs.PathLaws.{paths-ascend, path-once}
 use Rattle.growth.specs.Grown.{Numbers, Grown, placeAmong, pathAt, knownAs}
 
@@ -40,13 +40,13 @@ module _ (n : Numbers) (A B : Table) (g : Grown n A B) (p : PackageKey) (h : p .
   pub package-path : pathAt B (n .pk p) ≡ pathAt A p
   package-path = placed .1
 
-module _ (n : Numbers) (A B : Table) (newSound : Sound B) (g : Grown n A B) where
+module _ (n : Numbers) (A B : Table) (newOrdered : Ordered B) (g : Grown n A B) where
   -- no other number of the new table has the path
   pub package-only : (p : PackageKey) → p .0 < length (A .packages) → (r : PackageKey) → r .0 < length (B .packages) → pathAt B r ≡ pathAt A p → r ≡ n .pk p
   package-only p h r k e =
-      ap packageKey (path-once (B .packages) (newSound .ordered) (r .0) (n .pk p .0) k (package-in n A B g p h) (e ∙ sym (package-path n A B g p h)))
+      ap packageKey (path-once (B .packages) newOrdered (r .0) (n .pk p .0) k (package-in n A B g p h) (e ∙ sym (package-path n A B g p h)))
 
-  module _ (oldSound : Sound A) where
+  module _ (oldOrdered : Ordered A) where
     -- the new packages are put between the old ones, whose order stays
     pub old-order : (p q : PackageKey) → p .0 < q .0 → q .0 < length (A .packages) → n .pk p .0 < n .pk q .0
     old-order p q l h =
@@ -55,7 +55,7 @@ module _ (n : Numbers) (A B : Table) (newSound : Sound B) (g : Grown n A B) wher
         (λ e. absurd (not-below (ltb-false (n .pk p .0) (n .pk q .0) e)))
       where
         below : Below (pathAt A p) (pathAt A q)
-        below = paths-ascend (A .packages) (oldSound .ordered) (p .0) (q .0) l h
+        below = paths-ascend (A .packages) oldOrdered (p .0) (q .0) l h
 
         below-new : Below (pathAt B (n .pk p)) (pathAt B (n .pk q))
         below-new = rw (package-path n A B g p (omega arith), package-path n A B g q h) below
@@ -66,7 +66,7 @@ module _ (n : Numbers) (A B : Table) (newSound : Sound B) (g : Grown n A B) wher
             let j = n .pk q .0 in
             let path = pathAt B (n .pk p) in
             cases (ltb j i)
-            (λ e. clash (below-trans path (pathAt B (n .pk q)) path below-new (paths-ascend (B .packages) (newSound .ordered) j i (ltb-true j i e) (package-in n A B g p (omega arith)))) (below-irrefl path))
+            (λ e. clash (below-trans path (pathAt B (n .pk q)) path below-new (paths-ascend (B .packages) newOrdered j i (ltb-true j i e) (package-in n A B g p (omega arith)))) (below-irrefl path))
             (λ e.
             let m = ltb-false j i e in
             let same : j ≡ i = omega arith in

@@ -1,11 +1,12 @@
--- The identity of a member and that of a name that is asked for, by what the member's row says and by the paths of packages.
+-- The identity of a member and that of a name that is asked for, by what the member's row says and by the numbers of packages.
 use mathlib.Core.Path.{_≡_, refl, sym, ap, _∙_}
 use mathlib.Core.Bool.{Bool, true, false}
 use mathlib.Core.List.{[], _∷_}
 use mathlib.Core.Option.{Option, some}
 use Prim.Native.Nat.{ℕ, _<_}
+use lib.Dec.{eqb}
 use lib.ListN.{length, getD, take, drop}
-use borrow.Author.Tests.{ltb-true}
+use borrow.Author.Tests.{ltb-true, eqb-true, eqb-false, eq-eqb}
 use Rattle.objects.specs.Lists.{Bytes}
 use Rattle.objects.specs.declared.ObjKey.{ObjKey}
 use Rattle.objects.specs.declared.PackageKey.{PackageKey}
@@ -13,11 +14,14 @@ use Rattle.objects.specs.declared.«Package».{«Package»}
 use Rattle.objects.specs.Table.{Table, hasPackage, pathOf}
 use Rattle.objects.specs.Rows.{Words, packageCount, packageWord, memberWord, bytesAt, packageMeant, memberAt, pathRead, tableOf}
 use Rattle.objects.specs.Types.{packageRead}
+use Rattle.objects.proofs.ListLaws.{cases}
 use Rattle.objects.proofs.RowLaws.{package-count-read, path-read, member-package-meant}
 use Rattle.text.specs.Bytes.{ascii, sameBytes, between, exported, isBlank}
 use Rattle.text.proofs.ByteLaws.{same-refl, same-true}
 use Rattle.rules.specs.Members.{Identity, identityFrom, identityOf, samePath, sameId}
-use Rattle.obj.specs.Ids.{askedId}
+use Rattle.rules.specs.Sound.{Ordered}
+use Rattle.rules.proofs.PathLaws.{path-once}
+use Rattle.obj.specs.Ids.{samePackage, askedId}
 
 -- ---- names
 
@@ -36,40 +40,44 @@ module _ (text : Bytes) (rows : Words) (k : PackageKey) (h : hasPackage (tableOf
   pub path-of : pathOf (tableOf text rows) (some k) ≡ some (pathRead text rows k)
   path-of = path-read text rows k package-in
 
-module _ (text : Bytes) (rows : Words) where
-  pub one-number : {a b : PackageKey} → a .0 ≡ b .0 → sameBytes (pathRead text rows a) (pathRead text rows b) ≡ true
-  unfolding pathRead packageWord
-  one-number {b = b} e = rw e (same-refl (pathRead text rows b))
+-- the ways through `same_package`
+module _ {p q : «Package»} where
+  pub package-none : p ≡ «Package».Absent → q ≡ «Package».Absent → true ≡ samePackage p q
+  unfolding samePackage
+  package-none e f = rw (e, f)
 
-  -- two paths by their bytes
-  pub paths-read : (k l : PackageKey) {a an b bn : ℕ} → a ≡ packageWord rows k 0 → an ≡ packageWord rows k 1 → b ≡ packageWord rows l 0 → bn ≡ packageWord rows l 1
-      → sameBytes (take an (drop a text)) (take bn (drop b text)) ≡ sameBytes (pathRead text rows k) (pathRead text rows l)
-  unfolding pathRead bytesAt
-  paths-read k l ea ean eb ebn = rw (ea, ean, eb, ebn)
+  pub package-right : {l : PackageKey} → p ≡ «Package».Absent → q ≡ «Package».Is l → false ≡ samePackage p q
+  unfolding samePackage
+  package-right e f = rw (e, f)
 
-  -- ---- "equal package paths or no package on both sides"
+  pub package-left : {k : PackageKey} → p ≡ «Package».Is k → q ≡ «Package».Absent → false ≡ samePackage p q
+  unfolding samePackage
+  package-left e f = rw (e, f)
 
-  module _ {p q : «Package»} where
-    pub path-none : p ≡ «Package».Absent → q ≡ «Package».Absent → samePath (pathOf (tableOf text rows) (packageMeant p)) (pathOf (tableOf text rows) (packageMeant q)) ≡ true
-    unfolding pathOf packageMeant
-    path-none e f = rw (e, f)
+  pub package-both : {k l : PackageKey} → p ≡ «Package».Is k → q ≡ «Package».Is l → eqb (k .0) (l .0) ≡ samePackage p q
+  unfolding samePackage
+  package-both e f = rw (e, f)
 
-    -- a package on one side alone
-    pub path-right : {l : PackageKey} → p ≡ «Package».Absent → q ≡ «Package».Is l
-        → samePath (pathOf (tableOf text rows) (packageMeant p)) (pathOf (tableOf text rows) (packageMeant q)) ≡ false
-    unfolding pathOf packageMeant
-    path-right e f = rw (e, f)
+-- where paths ascend, equal numbers are equal paths
+numbers-tell : (T : Table) → Ordered T → (k l : PackageKey) → hasPackage T (some k) ≡ true → hasPackage T (some l) ≡ true → eqb (k .0) (l .0) ≡ samePath (pathOf T (some k)) (pathOf T (some l))
+unfolding pathOf
+numbers-tell T ordered k l h i =
+    let n = length (T .packages) in
+    let path = getD (T .packages) (k .0) [] in
+    let other = getD (T .packages) (l .0) [] in
+    cases (eqb (k .0) (l .0))
+    (λ e. rw (eqb-true (k .0) (l .0) e, eq-eqb (l .0) (l .0) refl, same-refl other))
+    (λ e. cases (sameBytes path other)
+    (λ f. absurd (eqb-false (k .0) (l .0) e (path-once (T .packages) ordered (k .0) (l .0) (ltb-true (k .0) n h) (ltb-true (l .0) n i) (same-true path other f))))
+    (λ f. rw (e, f)))
 
-    pub path-left : {k : PackageKey} → p ≡ «Package».Is k → q ≡ «Package».Absent
-        → samePath (pathOf (tableOf text rows) (packageMeant p)) (pathOf (tableOf text rows) (packageMeant q)) ≡ false
-    unfolding pathOf packageMeant
-    path-left e f = rw (e, f)
-
-    pub path-both : {k l : PackageKey} → hasPackage (tableOf text rows) (packageMeant p) ≡ true → hasPackage (tableOf text rows) (packageMeant q) ≡ true
-        → p ≡ «Package».Is k → q ≡ «Package».Is l
-        → samePath (pathOf (tableOf text rows) (packageMeant p)) (pathOf (tableOf text rows) (packageMeant q)) ≡ sameBytes (pathRead text rows k) (pathRead text rows l)
-    unfolding packageMeant
-    path-both {k} {l} hp hq e f = rw (e, f, path-of text rows k (rw e at hp), path-of text rows l (rw f at hq))
+pub same-package : (T : Table) → Ordered T → (p q : «Package») → hasPackage T (packageMeant p) ≡ true → hasPackage T (packageMeant q) ≡ true
+    → samePackage p q ≡ samePath (pathOf T (packageMeant p)) (pathOf T (packageMeant q))
+unfolding samePackage packageMeant pathOf
+same-package T ordered «Package».Absent «Package».Absent h i = refl
+same-package T ordered «Package».Absent («Package».Is l) h i = refl
+same-package T ordered («Package».Is k) «Package».Absent h i = refl
+same-package T ordered («Package».Is k) («Package».Is l) h i = numbers-tell T ordered k l h i
 
 -- ---- names, and paths only where the name is not exported
 

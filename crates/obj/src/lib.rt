@@ -5,15 +5,15 @@ ghost use mathlib.Core.Bool.{true};
 ghost use mathlib.Core.List.{_∷_};
 ghost use Prim.Native.Nat.{_-_, _≤_};
 ghost use lib.ListN.{length, getD};
-ghost use Rattle.objects.specs.Table.{hasPackage, pathOf};
-ghost use Rattle.objects.specs.Rows.{bytesAt, packageMeant, memberAt, pathRead, tableOf};
-ghost use Rattle.text.specs.Bytes.{sameBytes, exported, isBlank, belowBytes};
+ghost use Rattle.objects.specs.Table.{hasPackage};
+ghost use Rattle.objects.specs.Rows.{bytesAt, packageMeant, memberAt, tableOf};
+ghost use Rattle.text.specs.Bytes.{exported, isBlank, belowBytes};
 ghost use Rattle.text.specs.Compare.{orderOf};
-ghost use Rattle.rules.specs.Members.{samePath, sameId, identityOf, idBytes};
-ghost use Rattle.obj.specs.Ids.{askedId, joined, idMeant};
+ghost use Rattle.rules.specs.Members.{sameId, identityOf, idBytes};
+ghost use Rattle.rules.specs.Sound.{Ordered};
+ghost use Rattle.obj.specs.Ids.{samePackage, askedId, joined, idMeant};
 use objects::ObjKey;
 use objects::Package;
-use objects::PackageKey;
 use objects::rows::member_package;
 use objects::rows::member_word;
 use objects::rows::package_word;
@@ -23,7 +23,6 @@ use text::bytes::within;
 use text::compare::order;
 use text::compare::same;
 use text::compare::same_across;
-use text::compare::same_part;
 use text::compare::span;
 
 // The id of a member as places in the text: its form, its package's path and its name (specs/Ids.antt).
@@ -63,26 +62,9 @@ pub fn is_blank(text: &[u8], rows: &[u32], m: ObjKey) -> bool
 
 // ---- identity
 
-// Whether two packages have one path: at once where they have one number.
-fn one_path(text: &[u8], rows: &[u32], a: PackageKey, b: PackageKey) -> bool
-    ensures { λ r. ⌜ r ≡ sameBytes (pathRead (now (text .entry)) (now (rows .entry)) a) (pathRead (now (text .entry)) (now (rows .entry)) b) ⌝ }
-{
-    if a.0 == b.0 {
-        return true;
-    }
-    same_part(
-        text,
-        package_word(rows, a, 0) as usize,
-        package_word(rows, a, 1) as usize,
-        package_word(rows, b, 0) as usize,
-        package_word(rows, b, 1) as usize,
-    )
-}
-
-// "equal package paths or no package on both sides"
-pub fn same_path(text: &[u8], rows: &[u32], p: Package, q: Package) -> bool
-    requires { ⌜ (hasPackage (tableOf (now text) (now rows)) (packageMeant p) ≡ true) × (hasPackage (tableOf (now text) (now rows)) (packageMeant q) ≡ true) ⌝ }
-    ensures { λ r. ⌜ r ≡ samePath (pathOf (tableOf (now (text .entry)) (now (rows .entry))) (packageMeant p)) (pathOf (tableOf (now (text .entry)) (now (rows .entry))) (packageMeant q)) ⌝ }
+// "equal package paths or no package on both sides": where paths ascend, packages of one path have one number.
+fn same_package(p: Package, q: Package) -> bool
+    ensures { λ r. ⌜ r ≡ samePackage p q ⌝ }
 {
     match p {
         Package::Absent => match q {
@@ -91,7 +73,7 @@ pub fn same_path(text: &[u8], rows: &[u32], p: Package, q: Package) -> bool
         },
         Package::Is(a) => match q {
             Package::Absent => false,
-            Package::Is(b) => one_path(text, rows, a, b),
+            Package::Is(b) => a.0 == b.0,
         },
     }
 }
@@ -106,7 +88,7 @@ pub fn same_id(
     len: u32,
     pkg: Package,
 ) -> bool
-    requires { ⌜ (hasPackage (tableOf (now text) (now rows)) (memberAt (now text) (now rows) m .pkg) ≡ true) × (hasPackage (tableOf (now text) (now rows)) (packageMeant pkg) ≡ true) ⌝ }
+    requires { ⌜ (hasPackage (tableOf (now text) (now rows)) (memberAt (now text) (now rows) m .pkg) ≡ true) × (hasPackage (tableOf (now text) (now rows)) (packageMeant pkg) ≡ true) × Ordered (tableOf (now text) (now rows)) ⌝ }
     ensures { λ r. ⌜ r ≡ sameId (identityOf (tableOf (now (text .entry)) (now (rows .entry))) (memberAt (now (text .entry)) (now (rows .entry)) m)) (askedId (now (text .entry)) (now (rows .entry)) (now (names .entry)) at len pkg) ⌝ }
 {
     let a = member_word(rows, m, 0);
@@ -122,7 +104,7 @@ pub fn same_id(
         if exported(text, a, n) {
             true
         } else {
-            same_path(text, rows, member_package(rows, m), pkg)
+            same_package(member_package(rows, m), pkg)
         }
     } else {
         false
@@ -130,7 +112,7 @@ pub fn same_id(
 }
 
 pub fn same_member(text: &[u8], rows: &[u32], m: ObjKey, n: ObjKey) -> bool
-    requires { ⌜ (hasPackage (tableOf (now text) (now rows)) (memberAt (now text) (now rows) m .pkg) ≡ true) × (hasPackage (tableOf (now text) (now rows)) (memberAt (now text) (now rows) n .pkg) ≡ true) ⌝ }
+    requires { ⌜ (hasPackage (tableOf (now text) (now rows)) (memberAt (now text) (now rows) m .pkg) ≡ true) × (hasPackage (tableOf (now text) (now rows)) (memberAt (now text) (now rows) n .pkg) ≡ true) × Ordered (tableOf (now text) (now rows)) ⌝ }
     ensures { λ r. ⌜ r ≡ sameId (identityOf (tableOf (now (text .entry)) (now (rows .entry))) (memberAt (now (text .entry)) (now (rows .entry)) m)) (identityOf (tableOf (now (text .entry)) (now (rows .entry))) (memberAt (now (text .entry)) (now (rows .entry)) n)) ⌝ }
 {
     same_id(

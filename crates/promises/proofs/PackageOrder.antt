@@ -20,7 +20,7 @@ use Rattle.rules.specs.Forms.{Line, packageLine, typeLine, memberLine, lineOf}
 use Rattle.rules.specs.Checks.{PathItem, pathItems, unordered}
 use Rattle.rules.specs.Stages.{firstLine, firstUnordered}
 use Rattle.rules.specs.Load.{Loaded, refused, loaded, added, stands, inPlace, hasRoom, lineAdded, linesFrom, staged, checked, thenChecked, loadWithin, load}
-use Rattle.rules.specs.Sound.{Below}
+use Rattle.rules.specs.Sound.{Below, Ordered}
 use Rattle.rules.proofs.StageLaws.{none-fails}
 use Rattle.rules.proofs.PathLaws.{ordered-of, foundFrom, paths-start, paths-on, paths-stop, paths-end, paths-ascend}
 use Rattle.promises.specs.Demands.{Reads, formerly, Falls, InOrder}
@@ -68,7 +68,7 @@ module _ (paths : List Bytes) where
   ordered-rises s q h k = paths-ascend paths s (q - 1) q (omega arith) k
 
 -- the paths ascend, or one of them is the first that falls
-falls-or : (T : Table) (left p : ℕ) → 0 < p → p + left ≡ length (T .packages) → Rises (T .packages) p → Sorted Below (T .packages) ⊎ ((p : ℕ) × Falls T p)
+falls-or : (T : Table) (left p : ℕ) → 0 < p → p + left ≡ length (T .packages) → Rises (T .packages) p → Ordered T ⊎ ((p : ℕ) × Falls T p)
 falls-or T zero p h e r = inl (rises-ordered (T .packages) (λ q a b. r q a (omega arith)))
 falls-or T (suc left) p h e r =
     cases (belowBytes (getD (T .packages) (p - 1) []) (getD (T .packages) p []))
@@ -81,10 +81,10 @@ falls-or T (suc left) p h e r =
         (λ e. r q a (ltb-true q p e))
         (λ e. let m = ltb-false q p e in let same : q ≡ p = omega arith in rw same b)
 
-decided : (T : Table) → Sorted Below (T .packages) ⊎ ((p : ℕ) × Falls T p)
+decided : (T : Table) → Ordered T ⊎ ((p : ℕ) × Falls T p)
 decided T = go (T .packages) refl
   where
-    go : (paths : List Bytes) → T .packages ≡ paths → Sorted Below (T .packages) ⊎ ((p : ℕ) × Falls T p)
+    go : (paths : List Bytes) → T .packages ≡ paths → Ordered T ⊎ ((p : ℕ) × Falls T p)
     go [] e = inl (rw e tt)
     go (path ∷ rest) e = let n = ap length e in falls-or T (length rest) 1 (omega arith) (omega arith) (λ q a b. absurd (omega arith))
 

@@ -18,7 +18,7 @@ use Rattle.objects.proofs.ListLaws.{and-l, In-map, map-In-to, map-map}
 use Rattle.objects.proofs.KindLaws.{iface-is, under-plain}
 use Rattle.rules.specs.Members.{identityFrom, identityOf}
 use Rattle.rules.specs.Load.{Loaded, refused, loaded, loadWithin, load, Within, Wider}
-use Rattle.rules.specs.Sound.{Sound}
+use Rattle.rules.specs.Sound.{Ordered}
 use Rattle.rules.specs.Question.{Question, askS, askM, askN, askI, askC, inTable}
 use Rattle.rules.specs.Ways.{Selected, searchedAs, shortest, select}
 use Rattle.rules.specs.Identity.{mismatch, identical}
@@ -227,14 +227,14 @@ packages-in-order = in-order
 
 -- "so a path no longer recurs": two packages of a table that loads are one exactly if their numbers are
 pub packages-apart : (text : Bytes) (T : Table) → load text ≡ loaded T → (p q : Option PackageKey) → hasPackage T p ≡ true → hasPackage T q ≡ true → (pathOf T p ≡ pathOf T q) ↔ (p ≡ q)
-packages-apart text T h = package-by-path T (loads-sound text T h)
+packages-apart text T h = package-by-path T (loads-sound text T h .ordered)
 
 -- "an old package is then known by its path": the two texts determine its number
 pub packages-known : (a b : Bytes) (g : GrownTexts a b) → PackagesKnown g
 packages-known a b g = record {
   kept = λ p h. (package-in n A B (g .grown) p h, package-path n A B (g .grown) p h);
-  only = package-only n A B newSound (g .grown);
-  order = old-order n A B newSound (g .grown) (loads-sound a A (g .oldLoads));
+  only = package-only n A B newOrdered (g .grown);
+  order = old-order n A B newOrdered (g .grown) (loads-sound a A (g .oldLoads) .ordered);
   determined = λ h p k. known h p k ∙ sym (g .grown .packageKnown p k);
 }
   where
@@ -247,8 +247,8 @@ packages-known a b g = record {
     B : Table
     B = g .new
 
-    newSound : Sound B
-    newSound = loads-sound b B (g .newLoads)
+    newOrdered : Ordered B
+    newOrdered = loads-sound b B (g .newLoads) .ordered
 
     tableOr : Loaded → Table
     tableOr (refused m line) = A

@@ -18,7 +18,7 @@ use Rattle.rules.specs.Forms.{packageLine, lineOf}
 use Rattle.rules.specs.Checks.{Item, items, lacking, forbidden, clashing, containing}
 use Rattle.rules.specs.Stages.{firstItem}
 use Rattle.rules.specs.Load.{Loaded, refused, loaded, linesFrom, staged, loadWithin, load}
-use Rattle.rules.specs.Sound.{Below}
+use Rattle.rules.specs.Sound.{Below, Ordered}
 use Rattle.rules.specs.Question.{Question, questionOf}
 use Rattle.rules.specs.Ways.{Selected, notfound, judged, searched}
 use Rattle.rules.specs.Answer.{Answer, Sel, answer, answerBytes}
@@ -134,9 +134,9 @@ pub record Falls (T : Table) (p : ℕ) : Type 0 where
 -- "P lines must come in strictly ascending order of the bytes of their paths"
 pub record InOrder (text : Bytes) (T : Table) : Type 0 where
   -- where they do, all is as document 01 has it
-  pub ascending : Sorted Below (T .packages) → load text ≡ formerly T
+  pub ascending : Ordered T → load text ≡ formerly T
   -- where they do not, one of them is the first that fails
-  pub falling : Sorted Below (T .packages) ⊎ ((p : ℕ) × Falls T p)
+  pub falling : Ordered T ⊎ ((p : ℕ) × Falls T p)
   -- "refused after refusal 6 and before 7, at the first line that fails to ascend"
   pub refuses : (p : ℕ) → Falls T p → load text ≡ refused 14 (p + 2)
   -- package p stands on line p + 2, which is the piece p + 1 of the text

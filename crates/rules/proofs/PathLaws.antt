@@ -20,7 +20,7 @@ use Rattle.text.specs.Bytes.{belowBytes}
 use Rattle.text.proofs.ByteLaws.{below-irrefl, below-trans}
 use Rattle.rules.specs.Checks.{PathItem, pathsBehind, pathItems, unordered}
 use Rattle.rules.specs.Stages.{firstLine}
-use Rattle.rules.specs.Sound.{Below, Sound}
+use Rattle.rules.specs.Sound.{Below, Ordered}
 use Rattle.rules.proofs.StageLaws.{first-here, first-later}
 
 -- ---- 14 passed
@@ -116,9 +116,9 @@ path-once paths s i j h k e =
     never p q same below = clash (rw same at below) (below-irrefl q)
 
 -- TWO PACKAGES ARE ONE EXACTLY IF THEIR NUMBERS ARE
-pub package-by-path : (T : Table) → Sound T → (p q : Option PackageKey) → hasPackage T p ≡ true → hasPackage T q ≡ true → (pathOf T p ≡ pathOf T q) ↔ (p ≡ q)
+pub package-by-path : (T : Table) → Ordered T → (p q : Option PackageKey) → hasPackage T p ≡ true → hasPackage T q ≡ true → (pathOf T p ≡ pathOf T q) ↔ (p ≡ q)
 unfolding pathOf
-package-by-path T sound p q h k = (one p q h k, ap (pathOf T))
+package-by-path T ordered p q h k = (one p q h k, ap (pathOf T))
   where
     orElse : Bytes → Option Bytes → Bytes
     orElse d none = d
@@ -134,4 +134,4 @@ package-by-path T sound p q h k = (one p q h k, ap (pathOf T))
     one (some p) none h k e = clash refl (ap isSome e)
     one (some p) (some q) h k e =
         let n = length (T .packages) in
-        ap (λ i. some (packageKey i)) (path-once (T .packages) (sound .ordered) (p .0) (q .0) (ltb-true (p .0) n h) (ltb-true (q .0) n k) (ap (orElse []) e))
+        ap (λ i. some (packageKey i)) (path-once (T .packages) ordered (p .0) (q .0) (ltb-true (p .0) n h) (ltb-true (q .0) n k) (ap (orElse []) e))

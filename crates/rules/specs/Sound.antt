@@ -21,6 +21,10 @@ use Rattle.rules.specs.Load.{stands}
 abbrev pub Below : Bytes → Bytes → Type 0
 Below p q = belowBytes p q ≡ true
 
+-- the paths of a table strictly ascend, so that none recurs
+abbrev pub Ordered : Table → Type 0
+Ordered T = Sorted Below (T .packages)
+
 module _ (T : Table) where
   -- the members under the T line of t
   abbrev pub MemberOf : TypeKey → Member → Type 0
@@ -52,8 +56,8 @@ pub record Sound (T : Table) : Type 0 where
   -- "Packages, types and members are numbered from 0 as they come"; each type has its line
   pub numbered : map (λ m. m .key .0) (flat membersOf (T .types)) ≡ upTo (memberCount T)
   pub lined : length (T .typeLines) ≡ size T
-  -- 14: the paths strictly ascend, so that none recurs
-  pub ordered : Sorted Below (T .packages)
+  -- 14
+  pub ordered : Ordered T
   -- 7
   pub refers : (t e : TypeKey) → In e (refs (kindAt T t)) → e .0 < size T
   pub typed : (t : TypeKey) (m : Member) → MemberOf T t m → m .type .0 < size T

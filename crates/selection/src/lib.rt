@@ -6,6 +6,7 @@ ghost use Rattle.objects.specs.Bounds.{maxElements};
 ghost use Rattle.objects.specs.Table.{objKey, hasPackage, membersOf, kindAt};
 ghost use Rattle.objects.specs.Rows.{typeCount, packageMeant, memberAt, membersFrom, tableOf};
 ghost use Rattle.objects.specs.Types.{numberRead};
+ghost use Rattle.rules.specs.Sound.{Ordered};
 ghost use Rattle.rules.specs.Library.{Library};
 ghost use Rattle.rules.specs.Ways.{matching};
 ghost use Rattle.selection.specs.Results.{nameMeant, first, ownMeant};
@@ -63,7 +64,7 @@ pub enum Missing {
 
 // The place of the first of `count` members from number `from` on that has the name, or count.
 fn find(text: &[u8], rows: &[u32], from: u32, count: u32, names: &[u8], q: Name) -> u32
-    requires { ⌜ ((i : ℕ) → i < count → hasPackage (tableOf (now text) (now rows)) (memberAt (now text) (now rows) (objKey (from + i)) .pkg) ≡ true) × (hasPackage (tableOf (now text) (now rows)) (packageMeant (q .pkg)) ≡ true) × (from + count ≤ maxElements) ⌝ }
+    requires { ⌜ ((i : ℕ) → i < count → hasPackage (tableOf (now text) (now rows)) (memberAt (now text) (now rows) (objKey (from + i)) .pkg) ≡ true) × (hasPackage (tableOf (now text) (now rows)) (packageMeant (q .pkg)) ≡ true) × (from + count ≤ maxElements) × Ordered (tableOf (now text) (now rows)) ⌝ }
     ensures { λ r. ⌜ placeAt (now (text .entry)) (now (rows .entry)) from count r ≡ firstFrom (tableOf (now (text .entry)) (now (rows .entry))) (nameMeant (now (text .entry)) (now (rows .entry)) (now (names .entry)) q) 0 (membersFrom (now (text .entry)) (now (rows .entry)) from count) ⌝ }
 {
     let pkg = q.pkg;

@@ -8,6 +8,7 @@ ghost use Rattle.objects.specs.Bounds.{wordValues};
 ghost use Rattle.objects.specs.Rows.{typeWord, typeCount, tableOf, memberAt};
 ghost use Rattle.objects.specs.Types.{firstRead};
 ghost use Rattle.objects.specs.Table.{dirNumber, hasPackage, membersOf, kindAt};
+ghost use Rattle.rules.specs.Sound.{Ordered};
 ghost use Rattle.rules.specs.Identity.{alikeMember, alike, mismatch};
 ghost use Rattle.rules.specs.Library.{Library};
 ghost use Rattle.type_parts.specs.Parts.{ownRead, partCount, partAt, tagLength, sameNumbers, pairOf, Kin};
@@ -182,7 +183,7 @@ fn tag_length(rows: &[u32], m: ObjKey) -> u32
 
 // One identity, both embedded or neither, one tag: "tags count".
 fn alike(text: &[u8], rows: &[u32], m: ObjKey, n: ObjKey) -> bool
-    requires { ⌜ (hasPackage (tableOf (now text) (now rows)) (memberAt (now text) (now rows) m .pkg) ≡ true) × (hasPackage (tableOf (now text) (now rows)) (memberAt (now text) (now rows) n .pkg) ≡ true) ⌝ }
+    requires { ⌜ (hasPackage (tableOf (now text) (now rows)) (memberAt (now text) (now rows) m .pkg) ≡ true) × (hasPackage (tableOf (now text) (now rows)) (memberAt (now text) (now rows) n .pkg) ≡ true) × Ordered (tableOf (now text) (now rows)) ⌝ }
     ensures { λ r. ⌜ r ≡ alikeMember (tableOf (now (text .entry)) (now (rows .entry))) (memberAt (now (text .entry)) (now (rows .entry)) m) (memberAt (now (text .entry)) (now (rows .entry)) n) ⌝ }
 {
     if !same_member(text, rows, m, n) {

@@ -24,7 +24,7 @@ add-t9 : tie.Need-add-t9 Inv-loop μ-loop
 add-t9 c = omega (arith, (c .before .before .before .before .pre) .2)
 
 same-member-requires : tie.Need-same-member-requires Inv-loop μ-loop
-same-member-requires c κs = ((c .before .before .before .before .pre) .0, (c .before .before .before .before .pre) .1 _ (c .loop-test .taken))
+same-member-requires c κs = ((c .before .before .before .before .pre) .0, (c .before .before .before .before .pre) .1 _ (c .loop-test .taken), (c .before .before .before .before .pre) .3)
 
 returns : tie.Need-returns Inv-loop μ-loop
 returns c = sym (any-here (c .before .before .before .before .before .before .args .text .now) (c .before .before .before .before .before .before .args .rows .now) (c .before .before .before .before .before .before .args .first) (sameMember (tableOf (c .before .before .before .before .before .before .args .text .now) (c .before .before .before .before .before .before .args .rows .now)) (memberAt (c .before .before .before .before .before .before .args .text .now) (c .before .before .before .before .before .before .args .rows .now) (c .before .before .before .before .before .before .args .m))) (c .before .before .before .loop .i) (c .before .before .before .before .before .before .args .n) (c .before .before .loop-test .taken) (sym (c .before .same-member .ensures) ∙ (c .if1 .taken)))

@@ -14,7 +14,7 @@ slice-aggregate-first-of-2 : tie.Need-slice-aggregate-first-of-2
 slice-aggregate-first-of-2 c = search needs
 
 first-of-requires : tie.Need-first-of-requires
-first-of-requires c κs = ((c .before .before .before .before .pre .0), packaged-of (c .before .before .before .before .args .text .now) (c .before .before .before .before .args .rows .now) (c .before .before .before .before .pre .1), omega arith, omega arith, ready-start _ _ _ maxTypes)
+first-of-requires c κs = ((c .before .before .before .before .pre .0), packaged-of (c .before .before .before .before .args .text .now) (c .before .before .before .before .args .rows .now) (c .before .before .before .before .pre .1) (c .before .before .before .before .pre .2), omega arith, omega arith, ready-start _ _ _ maxTypes)
 
 returns : tie.Need-returns
 returns c = (c .before .before .first-of .ensures)

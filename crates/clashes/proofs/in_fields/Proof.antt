@@ -29,6 +29,7 @@ any-same-requires c κs = (
   (c .before .before .before .before .before .before .before .before .before .pre) .2,
   fields-packaged (c .before .before .before .before .before .before .before .before .before .args .text .now) (c .before .before .before .before .before .before .before .before .before .args .rows .now) (c .before .before .before .before .before .before .before .before .before .args .u) (sameMember (tableOf (c .before .before .before .before .before .before .before .before .before .args .text .now) (c .before .before .before .before .before .before .before .before .before .args .rows .now)) (memberAt (c .before .before .before .before .before .before .before .before .before .args .text .now) (c .before .before .before .before .before .before .before .before .before .args .rows .now) (c .before .before .before .before .before .before .before .before .before .args .m))) (c .before .before .before .before .before .before .type-count .ensures) (c .before .before .before .before .if1 .left) (c .before .before .before .kind-number .ensures) ((c .before .before .before .before .before .before .before .before .before .pre) .1) (c .before .before .if2 .taken) (c .before .first-member .ensures) (c .member-total .ensures),
   omega (arith, places-fit (c .before .before .before .before .before .before .before .before .before .args .rows .now) ((c .before .before .before .before .before .before .before .before .before .pre) .0) (c .before .before .before .before .before .before .before .before .before .args .u) (rw (c .before .before .before .before .before .before .type-count .ensures) at (c .before .before .before .before .if1 .left)), (c .before .first-member .ensures), (c .member-total .ensures)),
+  (c .before .before .before .before .before .before .before .before .before .pre) .1 .ordered,
 )
 
 returns-2 : tie.Need-returns-2

@@ -20,7 +20,7 @@ falls-requires : tie.Need-falls-requires
 falls-requires c κs = (packaged-with ((c .before .before .before .before .before .pre) .1) (c .before .before .before .before .before .args .t) ((c .before .before .before .before .before .pre) .2) (c .before .before .before .before .before .args .i) ((c .before .before .before .before .before .pre) .3) (c .before .before .first-member .ensures), omega (arith, lines-fit (c .before .before .before .before .before .args .rows .now) ((c .before .before .before .before .before .pre) .0) (c .before .before .before .before .before .args .t) ((c .before .before .before .before .before .pre) .2), (c .before .before .first-member .ensures), (c .before .before .before .before .before .pre) .3))
 
 repeats-requires : tie.Need-repeats-requires
-repeats-requires c κs = (packaged-at ((c .before .before .before .before .before .pre) .1) (c .before .before .before .before .before .args .t) ((c .before .before .before .before .before .pre) .2) (c .before .before .before .before .before .args .i) ((c .before .before .before .before .before .pre) .3) (c .before .before .first-member .ensures), packaged-before ((c .before .before .before .before .before .pre) .1) (c .before .before .before .before .before .args .t) ((c .before .before .before .before .before .pre) .2) (c .before .before .before .before .before .args .i) ((c .before .before .before .before .before .pre) .3) (c .before .before .first-member .ensures), omega (arith, lines-fit (c .before .before .before .before .before .args .rows .now) ((c .before .before .before .before .before .pre) .0) (c .before .before .before .before .before .args .t) ((c .before .before .before .before .before .pre) .2), (c .before .before .first-member .ensures), (c .before .before .before .before .before .pre) .3))
+repeats-requires c κs = (packaged-at ((c .before .before .before .before .before .pre) .1) (c .before .before .before .before .before .args .t) ((c .before .before .before .before .before .pre) .2) (c .before .before .before .before .before .args .i) ((c .before .before .before .before .before .pre) .3) (c .before .before .first-member .ensures), packaged-before ((c .before .before .before .before .before .pre) .1) (c .before .before .before .before .before .args .t) ((c .before .before .before .before .before .pre) .2) (c .before .before .before .before .before .args .i) ((c .before .before .before .before .before .pre) .3) (c .before .before .first-member .ensures), omega (arith, lines-fit (c .before .before .before .before .before .args .rows .now) ((c .before .before .before .before .before .pre) .0) (c .before .before .before .before .before .args .t) ((c .before .before .before .before .before .pre) .2), (c .before .before .first-member .ensures), (c .before .before .before .before .before .pre) .3), (c .before .before .before .before .before .pre) .1 .ordered)
 
 type-word-requires : tie.Need-type-word-requires
 type-word-requires c κs = search needs
@@ -32,7 +32,7 @@ or-requires : tie.Need-or-requires
 or-requires c κs = search needs
 
 repeats-requires-2 : tie.Need-repeats-requires-2
-repeats-requires-2 c κs = (packaged-at ((c .before .before .before .before .before .pre) .1) (c .before .before .before .before .before .args .t) ((c .before .before .before .before .before .pre) .2) (c .before .before .before .before .before .args .i) ((c .before .before .before .before .before .pre) .3) (c .before .before .first-member .ensures), packaged-before ((c .before .before .before .before .before .pre) .1) (c .before .before .before .before .before .args .t) ((c .before .before .before .before .before .pre) .2) (c .before .before .before .before .before .args .i) ((c .before .before .before .before .before .pre) .3) (c .before .before .first-member .ensures), omega (arith, lines-fit (c .before .before .before .before .before .args .rows .now) ((c .before .before .before .before .before .pre) .0) (c .before .before .before .before .before .args .t) ((c .before .before .before .before .before .pre) .2), (c .before .before .first-member .ensures), (c .before .before .before .before .before .pre) .3))
+repeats-requires-2 c κs = (packaged-at ((c .before .before .before .before .before .pre) .1) (c .before .before .before .before .before .args .t) ((c .before .before .before .before .before .pre) .2) (c .before .before .before .before .before .args .i) ((c .before .before .before .before .before .pre) .3) (c .before .before .first-member .ensures), packaged-before ((c .before .before .before .before .before .pre) .1) (c .before .before .before .before .before .args .t) ((c .before .before .before .before .before .pre) .2) (c .before .before .before .before .before .args .i) ((c .before .before .before .before .before .pre) .3) (c .before .before .first-member .ensures), omega (arith, lines-fit (c .before .before .before .before .before .args .rows .now) ((c .before .before .before .before .before .pre) .0) (c .before .before .before .before .before .args .t) ((c .before .before .before .before .before .pre) .2), (c .before .before .first-member .ensures), (c .before .before .before .before .before .pre) .3), (c .before .before .before .before .before .pre) .1 .ordered)
 
 returns : tie.Need-returns
 returns c = clashes-iface (c .before .before .before .before .before .before .args .text .now) (c .before .before .before .before .before .before .args .rows .now) (c .before .before .before .before .before .before .args .t) ((c .before .before .before .before .before .before .pre) .2) (c .before .before .before .before .before .before .args .i) ((c .before .before .before .before .before .before .pre) .3) ((c .before .before .before .before .before .before .pre) .4) (c .before .before .before .first-member .ensures) (c .before .before .kind-number .ensures) (c .before .match .keys1) (c .falls .ensures)

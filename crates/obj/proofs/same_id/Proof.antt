@@ -1,6 +1,6 @@
 -- `obj::same_id` meets its contract.
 use mathlib.Core.Path.{sym, _∙_}
-use Rattle.obj.proofs.IdentityLaws.{member-has, same-differ, same-exported, same-paths}
+use Rattle.obj.proofs.IdentityLaws.{member-has, same-package, same-differ, same-exported, same-paths}
 use borrow.Author.Needs.{needs}
 use Rattle.obj.proofs.same_id.Statement.{statement}
 use Rattle.obj.proofs.same_id.Tie as tie
@@ -26,9 +26,8 @@ exported-requires c κs = search needs
 member-package-requires : tie.Need-member-package-requires
 member-package-requires c κs = search needs
 
-same-path-requires : tie.Need-same-path-requires
-same-path-requires c κs = let at-entry = c .before .before .before .before .before .before .before .before .before .before in
-    (member-has _ _ _ (at-entry .pre .0) (c .member-package .ensures), (at-entry .pre .1))
+same-package-requires : tie.Need-same-package-requires
+same-package-requires c κs = search needs
 
 returns : tie.Need-returns
 returns c = let at-same-across = c .before .before .before in
@@ -42,7 +41,8 @@ returns-2 c = let at-exported = c .before .before .before in
     let at-same-across = at-if1 .before in
     let at-member-word2 = at-same-across .before in
     let at-member-word = at-member-word2 .before in
-    (c .same-path .ensures) ∙ sym (same-paths _ _ _ _ _ _ _ (at-member-word .member-word .ensures) (at-member-word2 .member-word2 .ensures) (at-same-across .same-across .ensures) (at-exported .exported .ensures) (at-if1 .if1 .taken) (c .before .before .if2 .left) (c .before .member-package .ensures))
+    let start = at-member-word .before .before .before .before in
+    (c .same-package .ensures) ∙ same-package _ (start .pre .2) _ _ (member-has _ _ _ (start .pre .0) (c .before .member-package .ensures)) (start .pre .1) ∙ sym (same-paths _ _ _ _ _ _ _ (at-member-word .member-word .ensures) (at-member-word2 .member-word2 .ensures) (at-same-across .same-across .ensures) (at-exported .exported .ensures) (at-if1 .if1 .taken) (c .before .before .if2 .left) (c .before .member-package .ensures))
 
 returns-3 : tie.Need-returns-3
 returns-3 c = let at-member-word = c .before .before .before in
@@ -59,7 +59,7 @@ same-id-spec =
     same-across-requires
     exported-requires
     member-package-requires
-    same-path-requires
+    same-package-requires
     returns
     returns-2
     returns-3)

@@ -17,7 +17,7 @@ member-package-requires c κs = search needs
 
 same-id-requires : tie.Need-same-id-requires
 same-id-requires c κs = let at-entry = c .before .before .before .before .before in
-    ((at-entry .pre .0), member-has _ _ _ (at-entry .pre .1) (c .member-package .ensures))
+    (at-entry .pre .0, member-has _ _ _ (at-entry .pre .1) (c .member-package .ensures), at-entry .pre .2)
 
 returns : tie.Need-returns
 returns c = let at-member-word = c .before .before .before in

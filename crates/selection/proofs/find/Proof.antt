@@ -27,7 +27,7 @@ add-t11 c = let at-entry = c .before .before .before .before .before in
 
 same-id-requires : tie.Need-same-id-requires Inv-loop μ-loop
 same-id-requires c κs = let at-entry = c .before .before .before .before .before in
-    ((at-entry .pre .0) _ (c .loop-test .taken), (at-entry .pre .1))
+    ((at-entry .pre .0) _ (c .loop-test .taken), at-entry .pre .1, at-entry .pre .3)
 
 returns : tie.Need-returns Inv-loop μ-loop
 returns c = let at-loop = c .before .before .before in

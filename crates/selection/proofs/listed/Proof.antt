@@ -1,6 +1,7 @@
 -- `selection::listed` meets its contract.
 use native.Mathlib.Omega.{arith}
 use Rattle.selection.proofs.OwnLaws.{list-fits, list-packaged, listed-found, listed-nothing}
+use Rattle.rules.proofs.Sounds.{library-sound}
 use borrow.Author.Needs.{needs}
 use Rattle.selection.proofs.listed.Statement.{statement}
 use Rattle.selection.proofs.listed.Tie as tie
@@ -12,7 +13,7 @@ member-total-requires : tie.Need-member-total-requires
 member-total-requires c κs = search needs
 
 find-requires : tie.Need-find-requires
-find-requires c κs = (list-packaged _ _ _ (c .before .before .before .before .before .pre .0) (c .before .before .before .before .before .pre .1 .0) (c .before .first-member .ensures) (c .member-total .ensures) (c .before .before .before .before .before .pre .1 .2), (c .before .before .before .before .before .pre .1 .1), list-fits _ _ _ (c .before .before .before .before .before .pre .0) (c .before .before .before .before .before .pre .1 .0) (c .before .first-member .ensures) (c .member-total .ensures))
+find-requires c κs = (list-packaged _ _ _ (c .before .before .before .before .before .pre .0) (c .before .before .before .before .before .pre .1 .0) (c .before .first-member .ensures) (c .member-total .ensures) (c .before .before .before .before .before .pre .1 .2), (c .before .before .before .before .before .pre .1 .1), list-fits _ _ _ (c .before .before .before .before .before .pre .0) (c .before .before .before .before .before .pre .1 .0) (c .before .first-member .ensures) (c .member-total .ensures), library-sound (c .before .before .before .before .before .pre .0) .ordered)
 
 add-t11 : tie.Need-add-t11
 add-t11 c = omega (arith, list-fits _ _ _ (c .before .before .before .before .before .before .before .pre .0) (c .before .before .before .before .before .before .before .pre .1 .0) (c .before .before .before .first-member .ensures) (c .before .before .member-total .ensures))

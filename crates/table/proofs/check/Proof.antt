@@ -77,8 +77,9 @@ clashing-requires : tie.Need-clashing-requires
 clashing-requires c κs =
     let at-8 = c .before .before .before in
     let at-7 = at-8 .before .before .before .before in
-    let start = at-7 .before .before .before .before .before .before .before .before in
-    (start .pre, passed-none (at-7 .lacking .ensures (start .args .text .now)) (at-8 .before .before .enum-told2 .given .1))
+    let at-14 = at-7 .before .before .before .before in
+    let start = at-14 .before .before .before .before in
+    (start .pre, passed-none (at-14 .unordered .ensures) (at-7 .before .before .enum-told .given .1), passed-none (at-7 .lacking .ensures (start .args .text .now)) (at-8 .before .before .enum-told2 .given .1))
 
 enum-known-line-4 : tie.Need-enum-known-line-4
 enum-known-line-4 c = search needs
