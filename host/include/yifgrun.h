@@ -30,7 +30,7 @@ extern "C" {
  *
  *                           answer buffer                                 work area
  *   an answer               the answer in front, the rest unchanged       all words 0
- *   refusals 2 to 13        unchanged                                     all words 0
+ *   refusals 2 to 14        unchanged                                     all words 0
  *   refusal 1               unchanged                                     unchanged
  */
 int64_t yifgrun_ask(const uint8_t *table, size_t table_len,
@@ -38,7 +38,7 @@ int64_t yifgrun_ask(const uint8_t *table, size_t table_len,
                     uint8_t *answer, size_t answer_len,
                     uint32_t *work, size_t work_len);
 
-/* The refusal (1 to 13) and the line of a number below 0. */
+/* The refusal (1 to 14) and the line of a number below 0. */
 #define YIFGRUN_REFUSAL(number) ((int)(-(number) / 65536))
 #define YIFGRUN_LINE(number) ((int)(-(number) % 65536))
 
@@ -57,7 +57,8 @@ enum yifgrun_refusal {
     YIFGRUN_QUESTION = 11,           /* the question has a wrong form, more than 256 bytes, or a number that the
                                         table lacks */
     YIFGRUN_NOT_AN_INTERFACE = 12,   /* the second type of an N question is not itself of kind iface */
-    YIFGRUN_ANSWER_TOO_LONG = 13     /* the answer is longer than the answer buffer */
+    YIFGRUN_ANSWER_TOO_LONG = 13,    /* the answer is longer than the answer buffer */
+    YIFGRUN_PACKAGE_ORDER = 14       /* package out of order: its path does not come after the one before */
 };
 
 #ifdef __cplusplus

@@ -1,4 +1,4 @@
-//! Refusals: a number and a line, and document 01's words for each.
+//! Refusals: a number and a line, and the papers' words for each: document 01's, and for 14 document 02's.
 
 use std::error::Error;
 use std::fmt::{self, Display, Formatter};
@@ -15,14 +15,14 @@ use std::fmt::{self, Display, Formatter};
 /// ```
 #[derive(Clone, Copy, Debug, PartialEq, Eq, Hash)]
 pub struct Refusal {
-    /// 1 to 13.
+    /// 1 to 14.
     pub number: u8,
     /// The line of the table, the first being 1; 0 where none is named (1, 2, 11, 12, 13).
     pub line: u16,
 }
 
-/// Document 01's words, from refusal 1 on.
-const WORDS: [&str; 13] = [
+/// The words, from refusal 1 on.
+const WORDS: [&str; 14] = [
     "the work area has fewer than 4,096 words",
     "the table has more than 65,536 bytes",
     "the first line is not exactly `typetable`, tab, `1`, newline",
@@ -36,6 +36,7 @@ const WORDS: [&str; 13] = [
     "the question has a wrong form, more than 256 bytes, or a number that the table lacks",
     "the second type of an N question is not itself of kind iface",
     "the answer is longer than the answer buffer",
+    "package out of order: its path does not come after the one before",
 ];
 
 impl Refusal {
@@ -48,9 +49,16 @@ impl Refusal {
         }
     }
 
-    /// Whether the table is refused, and so every question on it: refusals 2 to 10.
+    /// Whether the table is refused, and so every question on it: refusals 2 to 10, and 14.
+    ///
+    /// ```
+    /// use yifgrun::Refusal;
+    ///
+    /// assert!(Refusal { number: 14, line: 3 }.is_of_table());
+    /// assert!(!Refusal { number: 13, line: 0 }.is_of_table());
+    /// ```
     pub fn is_of_table(&self) -> bool {
-        (2..=10).contains(&self.number)
+        matches!(self.number, 2..=10 | 14)
     }
 
     /// What the refusal's number means, without the line.

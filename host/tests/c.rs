@@ -17,6 +17,7 @@ no
 rest kept, work zero
 refusal 1 line 0, kept, work right
 refusal 7 line 2, kept, work right
+refusal 14 line 3, kept, work right
 refusal 11 line 0, kept, work right
 refusal 13 line 0, kept, work right
 ";

@@ -107,6 +107,14 @@ fn a_table_past_a_bound() {
 }
 
 #[test]
+fn packages_out_of_order() {
+    let order = "yifgrun: line 4: package out of order: its path does not come after the one before (refusal 14)\n";
+    let table = "typetable\t1\nP\ta\nP\tc\nP\tb\n";
+    assert_eq!(run(&[], table), says(1, "", order));
+    assert_eq!(run(&["-", "C 0"], table), says(1, "", order));
+}
+
+#[test]
 fn a_file_of_questions() {
     let input = format!("{TABLE}Q\nS\t7\t0\t0\tClose\nM\t7\nC\t2");
     let answers = says(0, "entry\t0\t1\t0\t0\nset\t1\nsel\t0\t1\t0\t0\nno\n", "");

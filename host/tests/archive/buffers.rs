@@ -52,11 +52,14 @@ fn answer_buffers_of_every_length() {
 #[test]
 fn refusals_come_before_the_rooms() {
     let damaged = TABLE.replace("F\tLen", "F\t1en");
+    let disordered = TABLE.replace("P\t", "P\toffice/dog\nP\t");
     let refusals = [
         (TABLE, "V\t", (11, 0)),
         (TABLE, "N\t7\t7\t0", (12, 0)),
         (TABLE, "N\t7\t99\t0", (11, 0)),
         (&damaged, "V", (4, 9)),
+        (&disordered, "V", (14, 3)),
+        (&disordered, "X", (14, 3)),
     ];
     for (table, question, due) in refusals {
         for room in 0..=40 {

@@ -8,6 +8,7 @@ mod due;
 #[cfg(target_os = "linux")]
 mod fenced;
 mod lent;
+mod order;
 #[cfg(target_os = "linux")]
 mod pages;
 #[cfg(target_os = "linux")]

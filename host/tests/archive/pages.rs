@@ -101,12 +101,20 @@ const QUESTIONS: [&str; 10] = [
     "",
 ];
 
-/// Every choice of sides, with damaged tables and questions, short rooms and short work areas, and nothing at all.
+/// Every choice of sides, with damaged tables and questions, tables whose last line is a package, short rooms and short work
+/// areas, and nothing at all.
 #[test]
 fn every_choice_of_sides() {
     let mut pages = Pages::new();
     let table = TABLE.as_bytes();
-    let tables = [table, &table[..table.len() - 1], &table[..15], &[]];
+    let tables = [
+        table,
+        &table[..table.len() - 1],
+        &table[..15],
+        &[],
+        b"typetable\t1\nP\ta\nP\tab\n",
+        b"typetable\t1\nP\tab\nP\ta\n",
+    ];
     let rooms = [0, 1, 3, 16, 40];
     let words = [0, 1, WORK_WORDS - 1, WORK_WORDS, WORK_WORDS + 1];
     for sides in all_sides() {

@@ -9,6 +9,9 @@ static const char table[] =
     "T\tstruct\nF\tLen\t0\t0\t0\nT\tpointer\t3\nT\tstruct\nF\tBlock\t0\t5\t1\nT\tnamed\t6\n"
     "T\tstruct\nF\tA\t0\t3\t1\nF\tB\t0\t5\t1\n";
 
+/* The path on line 3 is that of line 2. */
+static const char recurring[] = "typetable\t1\nP\toffice/cat\nP\toffice/cat\n";
+
 static uint8_t answer[64];
 static uint32_t work[YIFGRUN_WORK_WORDS + 1];
 
@@ -61,7 +64,8 @@ int main(void)
     print_answer("C\t2");
     print_refusal(table, "V", sizeof answer, YIFGRUN_WORK_WORDS - 1);
     print_refusal("typetable\t1\nT\tnamed\t9\n", "V", sizeof answer, YIFGRUN_WORK_WORDS);
+    print_refusal(recurring, "V", sizeof answer, YIFGRUN_WORK_WORDS);
     print_refusal(table, "X", 0, YIFGRUN_WORK_WORDS + 1);
     print_refusal(table, "M\t7", 3, YIFGRUN_WORK_WORDS);
-    return 0;
+    return YIFGRUN_REFUSAL(ask(recurring, "V", sizeof answer, YIFGRUN_WORK_WORDS)) != YIFGRUN_PACKAGE_ORDER;
 }

@@ -5,7 +5,7 @@ use std::collections::BTreeSet;
 use yifgrun::{Refusal, WORK_WORDS};
 
 /// Every answer word, and every refusal but the first: `typeask` has a work area of its own.
-pub const WORDS: [&str; 24] = [
+pub const WORDS: [&str; 25] = [
     "ambiguous",
     "and",
     "badreceiver",
@@ -18,6 +18,7 @@ pub const WORDS: [&str; 24] = [
     "refused 11",
     "refused 12",
     "refused 13",
+    "refused 14",
     "refused 2",
     "refused 3",
     "refused 4",
