@@ -188,7 +188,7 @@ fn stored_tables() {
         );
     }
     if let Some(folder) = batches::vectors_02() {
-        let pairs = ["1", "2", "4"];
+        let pairs = ["1", "2", "4", "5"];
         stored.extend(pairs.iter().flat_map(|name| batches::cases(&folder, name)));
     }
     stored.sort();

@@ -1,7 +1,7 @@
 //! Stored inputs of the program `typeask` with what it prints, and stored calls: the sample in `testdata`, which
 //! tools/host_sample.py makes, and the vectors where they are at hand.
 
-use crate::due;
+use crate::due::{self, Due};
 use std::io::{self, Write};
 use std::path::{Path, PathBuf};
 use std::{env, fs};
@@ -43,20 +43,48 @@ pub fn say(what: &str) {
     writeln!(io::stderr(), "{what}").expect("standard error takes a line");
 }
 
+/// The base's pairs of files and document 02's, each with what tells the print that is due now from the stored one.
+const BASE: [(&str, Due); 3] = [
+    ("small", due::of_base),
+    ("mixed", due::of_base),
+    ("damaged", due::of_base),
+];
+const POINTS: [(&str, Due); 4] = [
+    ("1", due::of_point_1),
+    ("2", due::of_point_2),
+    ("4", due::of_point_4),
+    ("5", due::of_point_5),
+];
+
 /// The stored cases, and says which they are: the sample, and the vectors at hand.
 pub fn cases() -> Vec<Case> {
     let mut cases = cases_of(&sample(), "sample");
-    if let Some(folder) = vectors() {
-        let names = ["small", "mixed", "damaged"];
-        let base = names.iter().flat_map(|name| cases_of(&folder, name));
-        cases.extend(base.filter(|case| due::of_base(&case.output)));
+    for (folder, pairs) in [(vectors(), &BASE[..]), (vectors_02(), &POINTS[..])] {
+        let Some(folder) = folder else { continue };
+        for &(name, due) in pairs {
+            cases.extend(due_of(&folder, name, due));
+        }
     }
-    if let Some(folder) = vectors_02() {
-        cases.extend(cases_of(&folder, "4"));
-        let [of_1, of_2] = ["1", "2"].map(|name| cases_of(&folder, name).into_iter());
-        cases.extend(of_1.filter(|case| due::of_point_1(&case.output)));
-        cases.extend(of_2.filter(|case| due::of_point_2(&case.output)));
-    }
+    cases
+}
+
+/// The cases of a pair of files with what is due now, where that can be told; says how many these are.
+fn due_of(folder: &Path, name: &str, due: Due) -> Vec<Case> {
+    let stored = cases_of(folder, name);
+    let count = stored.len();
+    let now = |case: Case| {
+        let output = due(&case.input, &case.output)?;
+        Some(Case { output, ..case })
+    };
+    let cases: Vec<Case> = stored.into_iter().filter_map(now).collect();
+    let order = cases
+        .iter()
+        .filter(|case| case.output.starts_with(b"refused\t14\t"));
+    say(&format!(
+        "{name}: {} of {count} cases, {} refused by 14",
+        cases.len(),
+        order.count()
+    ));
     cases
 }
 

@@ -48,6 +48,25 @@ impl Call<'_> {
         }
     }
 
+    /// The call with what is due now, where that can be told: another refusal, or what is stored.
+    fn due(self) -> Option<Self> {
+        let printed = self.printed();
+        let due = due::of_base(&self.table, &printed)?;
+        if due == printed {
+            return Some(self);
+        }
+        let fields = str::from_utf8(&due).expect("text").trim_end().split('\t');
+        let numbers: Vec<i64> = fields.skip(1).flat_map(str::parse).collect();
+        let [number, line] = numbers[..] else {
+            panic!("a refusal: {}", due.escape_ascii());
+        };
+        Some(Call {
+            number: -(number * 65_536 + line),
+            answer: Vec::new(),
+            ..self
+        })
+    }
+
     /// What comes back, as `typeask` prints it.
     fn printed(&self) -> Vec<u8> {
         match u64::try_from(-self.number) {
@@ -89,19 +108,21 @@ fn bytes(digits: &str) -> Vec<u8> {
 #[test]
 fn stored_calls_return_what_is_stored() {
     let (sample, base) = (calls(), base_calls().unwrap_or_default());
-    let mut calls: Vec<Call> = base.lines().map(Call::of).collect();
-    calls.retain(|call| due::of_base(&call.printed()));
-    calls.extend(sample.lines().map(Call::of));
+    let base = base.lines().map(Call::of).filter_map(Call::due);
+    let calls: Vec<Call> = base.chain(sample.lines().map(Call::of)).collect();
     calls.iter().for_each(Call::run);
     let answered = |by: &[u8]| {
         let given = |call: &&Call| call.answer.windows(by.len()).any(|w| w == by);
         calls.iter().filter(given).count()
     };
     let (both, listed) = (answered(b"\nand\t"), answered(b"\nsel\t"));
+    let disordered = |call: &&Call| call.printed().starts_with(b"refused\t14\t");
+    let disordered = calls.iter().filter(disordered).count();
     let count = calls.len();
     say(&format!(
-        "{count} calls, {both} answered by two ways, {listed} by a set with methods"
+        "{count} calls, {both} answered by two ways, {listed} by a set with methods, {disordered} refused by 14"
     ));
     assert!(both > 0, "no call is answered by two ways");
     assert!(listed > 0, "no call is answered by a set with methods");
+    assert!(disordered > 0, "no call is refused by 14");
 }

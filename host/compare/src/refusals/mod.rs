@@ -1,5 +1,5 @@
-//! Document 01's refusals 2 to 12 with their lines, read off its words: what a table or a question earns.
-//! It knows nothing of the library and is slow where that is simpler.
+//! The refusals 2 to 12 of document 01 and 14 of document 02 with their lines, read off the papers' words: what a table or a
+//! question earns. It knows nothing of the library and is slow where that is simpler.
 
 mod forms;
 mod rules;

@@ -1,11 +1,12 @@
-//! Refusals 7 to 10, each over the whole text before the next.
+//! Refusals 14 and 7 to 10, in this order, each over the whole text before the next.
 
 use super::{Read, Refused};
 use crate::table::{Kind, Member, Table};
 
-/// The first refusal of 7 to 10 that a text earns.
+/// The first refusal of 14 and 7 to 10 that a text earns.
 pub fn keep(read: &Read) -> Result<(), Refused> {
     let table = &read.table;
+    ascend(&table.packages)?;
     first(7, read, |t| has_parts(table, t), |_, m| has(table, m))?;
     let refers = |t, m: usize| member_refers(table, t, &table.members[m]);
     first(8, read, |t| type_refers(table, t), refers)?;
@@ -16,6 +17,18 @@ pub fn keep(read: &Read) -> Result<(), Refused> {
         .collect();
     first(9, read, |_| true, |t, m| is_distinct(table, &ids, t, m))?;
     first(10, read, |t| !is_on_cycle(table, t), |_, _| true)
+}
+
+/// "P lines must come in strictly ascending order of the bytes of their paths": 14 "at the first line that fails to
+/// ascend". No other line stands before a P line but the first line of the text.
+fn ascend(paths: &[String]) -> Result<(), Refused> {
+    for p in 1..paths.len() {
+        if paths[p].as_bytes() <= paths[p - 1].as_bytes() {
+            let line = p + 2;
+            return Err(Refused { number: 14, line });
+        }
+    }
+    Ok(())
 }
 
 /// The refusal of the first line that breaks a rule: on the types, and on the members with their types.
