@@ -186,6 +186,24 @@ fn repeat_line(prng: &mut Prng, text: &mut Vec<u8>) {
     }
 }
 
+/// Puts the packages of a text that has any out of order: swaps two P lines, puts one in the place of another, or repeats
+/// one, there or elsewhere.
+pub fn disorder(prng: &mut Prng, text: &mut Vec<u8>) {
+    let mut lines = lines(text);
+    let is_package = |n: &usize| lines[*n].starts_with(b"P\t");
+    let packages: Vec<usize> = (0..lines.len()).filter(is_package).collect();
+    let (Some(&a), Some(&b)) = (prng.pick(&packages), prng.pick(&packages)) else {
+        return;
+    };
+    let copy = lines[b].clone();
+    match prng.below(3) {
+        0 if a != b => lines.swap(a, b),
+        1 if a != b => lines[a] = copy,
+        _ => lines.insert(a, copy),
+    }
+    *text = lines.concat();
+}
+
 /// Repeats a line until there are more of it than a table may have, or nearly.
 fn multiply_line(prng: &mut Prng, text: &mut Vec<u8>) {
     let mut lines = lines(text);

@@ -1,13 +1,13 @@
 //! Calls of the library on random and damaged tables, each from a seed alone. Each is held against what every call
-//! promises of the number and the buffers, against the refusals that document 01's words give, and, where an answer
-//! is due, against goscript.
+//! promises of the number and the buffers, against the refusals that the papers' words give, and, where an answer is
+//! due, against goscript.
 
 #[path = "../../tests/archive/lent.rs"]
 mod lent;
 
 use crate::agreement::{agrees_with, is_ambiguous, Agreed};
 use crate::bounds;
-use crate::damage::{self, damage, misdirect};
+use crate::damage::{self, damage, disorder, misdirect};
 use crate::departures::{self, Departure};
 use crate::engine::{self, Engine};
 use crate::prng::Prng;
@@ -65,7 +65,7 @@ fn asked(prng: &mut Prng) -> (Vec<u8>, Vec<u8>) {
     (text(prng, table), question)
 }
 
-/// The text of a table: as it is, with a line changed, or damaged.
+/// The text of a table: as it is, with a line changed, or damaged; each of these now and then with its packages out of order.
 fn text(prng: &mut Prng, mut table: Table) -> Vec<u8> {
     let times = 1 + prng.below(2);
     let what = prng.below(10);
@@ -75,6 +75,9 @@ fn text(prng: &mut Prng, mut table: Table) -> Vec<u8> {
     let mut text = table.to_string().into_bytes();
     if what >= 7 {
         (0..times).for_each(|_| damage(prng, &mut text));
+    }
+    if prng.chance(8) {
+        disorder(prng, &mut text);
     }
     text
 }
@@ -106,7 +109,8 @@ pub struct Counts {
     pub answered: u64,
     /// Answers, and refusals 13, that were held against goscript's answer, or the counts for V.
     pub agreed: Agreed,
-    pub refused: [u64; 14],
+    /// By the number of the refusal; none has the number 0.
+    pub refused: [u64; 15],
 }
 
 pub struct Hammer {

@@ -27,11 +27,12 @@ fn random_and_damaged_tables() {
         }
     }
     let counts = &hammer.counts;
-    let due = (1..14).filter(|&n| n != 2);
+    let due = (1..15).filter(|&n| n != 2);
     let missing: Vec<usize> = due.filter(|&n| counts.refused[n] == 0).collect();
     assert_eq!(missing, [0; 0], "refusals that no call gave");
+    assert!(counts.refused[14] > 1_000, "{}", counts.refused[14]);
     say(&format!(
-        "60,000 calls, refused: {:?}",
+        "60,000 calls, refused by 1 to 14: {:?}",
         &counts.refused[1..]
     ));
     match engine::goscript() {

@@ -1,13 +1,14 @@
-//! Random tables load, are read as they are written, and give answers of every form.
+//! Random tables load, are read as they are written, are refused where their packages are put out of order, and give
+//! answers of every form.
 
 mod said;
 
-use compare::engine;
+use compare::damage::disorder;
 use compare::prng::Prng;
 use compare::random::{self, Shape};
-use compare::refusals;
 use compare::table::Table;
 use compare::tables::cases;
+use compare::{engine, refusals};
 use said::say;
 use std::collections::BTreeMap;
 
@@ -25,6 +26,29 @@ fn random_tables_load() {
         assert_eq!(Table::parse(&text), Some(table.clone()), "seed {seed}");
         assert_eq!(refusals::table(text.as_bytes()), Ok(table), "seed {seed}");
     }
+}
+
+/// Random tables of some packages, with these put out of order.
+#[test]
+fn disordered_tables_are_refused() {
+    let mut count = 0;
+    for seed in 0..600 {
+        let mut prng = Prng::new(seed);
+        let shape = Shape {
+            packages: 20,
+            ..Shape::small()
+        };
+        let table = random::table(&mut prng, &shape);
+        if table.packages.is_empty() {
+            continue;
+        }
+        let mut text = table.to_string().into_bytes();
+        disorder(&mut prng, &mut text);
+        let refused = refusals::table(&text).expect_err("out of order");
+        assert_eq!(refused.number, 14, "seed {seed}: {refused:?}");
+        count += 1;
+    }
+    assert!(count > 400, "{count} of 600 tables");
 }
 
 #[test]

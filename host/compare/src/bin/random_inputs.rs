@@ -1,5 +1,5 @@
-//! Inputs of `typeask`, each a random or damaged table with a question, and what it prints for each by document 01's
-//! refusals and goscript's answers, method sets without the two departures of document 02: `random_inputs SEED COUNT`.
+//! Inputs of `typeask`, each a random or damaged table with a question, and what it prints for each by the papers' refusals
+//! and goscript's answers, method sets without the two departures of document 02: `random_inputs SEED COUNT`.
 //! Inputs with the answer `ambiguous` are left out, since goscript knows one of the two ways that are due. Each input
 //! and each print stands behind its length, five digits and a newline.
 

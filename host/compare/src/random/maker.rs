@@ -4,8 +4,9 @@
 use super::Shape;
 use crate::prng::Prng;
 use crate::table::{Kind, Member, Table};
+use std::collections::BTreeSet;
 
-/// Paths that recur, and that sort before, between and behind exported names.
+/// What paths begin with: they sort before, between and behind exported names, and one is the front of another.
 const PATHS: [&str; 8] = ["a", "b", "office/cat", "Open", "X", "z", "_a", "a.b"];
 
 /// The kinds, each as often as it is planned among a hundred.
@@ -67,10 +68,22 @@ impl<'a> Maker<'a> {
         }
     }
 
+    /// Packages whose paths ascend by their bytes.
     pub fn packages(&mut self) {
-        for _ in 0..self.prng.below(self.shape.packages + 1) {
-            let path = PATHS[self.prng.below(PATHS.len())];
-            self.packages.push(path.to_owned());
+        let count = self.prng.below(self.shape.packages + 1);
+        let mut paths = BTreeSet::new();
+        while paths.len() < count {
+            paths.insert(self.path());
+        }
+        self.packages = paths.into_iter().collect();
+    }
+
+    /// One of some 800 paths: half of them end in a number, so that `a10` comes before `a9`.
+    fn path(&mut self) -> String {
+        let path = PATHS[self.prng.below(PATHS.len())].to_owned();
+        match self.prng.below(200) {
+            number @ 0..100 => format!("{path}{number}"),
+            _ => path,
         }
     }
 

@@ -2,6 +2,7 @@
 
 use super::maker::{Maker, Plan};
 use crate::table::{Kind, Member};
+use go_parser::ast::is_exported;
 
 /// Few names, so that they meet; exported or not, and the blank one.
 const NAMES: [&str; 12] = [
@@ -45,13 +46,13 @@ impl Maker<'_> {
         }
     }
 
-    /// Gives a field a twin of its type and another package of the same path, seldom another name.
+    /// Gives a field a twin of its type and a package that leaves its identity, seldom another name.
     fn alter(&mut self, t: usize, field: &mut Member) {
         let twin = self.twin(t, field.typ);
         if !field.mark || self.embeds(twin) {
             field.typ = twin;
         }
-        field.package = self.same_path(field.package);
+        field.package = self.twin_package(field);
         if self.prng.chance(4) {
             field.name = self.any_name();
         }
@@ -123,7 +124,7 @@ impl Maker<'_> {
     fn implemented(&mut self, iface: usize) -> Vec<Member> {
         let mut methods = self.members[iface].clone();
         for method in &mut methods {
-            method.package = self.same_path(method.package);
+            method.package = self.twin_package(method);
             method.typ = if self.prng.chance(4) {
                 self.func()
             } else {
@@ -183,11 +184,11 @@ impl Maker<'_> {
         self.prng.below(self.packages.len() + 1).checked_sub(1)
     }
 
-    /// A package of the same path.
-    fn same_path(&mut self, package: Option<usize>) -> Option<usize> {
-        let path = &self.packages[package?];
-        let same = |p: &usize| self.packages[*p] == *path;
-        let found: Vec<usize> = (0..self.packages.len()).filter(same).collect();
-        self.prng.pick(&found).copied()
+    /// A package with which a member's identity stays: any for an exported name, otherwise its own.
+    fn twin_package(&mut self, member: &Member) -> Option<usize> {
+        if is_exported(&member.name) && self.prng.chance(50) {
+            return self.any_package();
+        }
+        member.package
     }
 }

@@ -1,5 +1,5 @@
 //! Random tables that load, and questions on them, from a seed alone. They are rich in diamonds, identical
-//! unnamed types, recursive interfaces, unexported names across packages and paths that recur.
+//! unnamed types, recursive interfaces, and names across packages, exported and not.
 
 mod maker;
 mod members;
