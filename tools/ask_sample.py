@@ -5,25 +5,27 @@
     ask_sample.py VECTORS VECTORS02 RANDOM CRATES
 
 VECTORS has the base's small, mixed and damaged (.in and .out): inputs of typeask with what it prints. Every k-th is taken of those that document 02 leaves as
-they are; what a bound refused is not among them. VECTORS02 has the pairs 1, 2 and 4, with points 1 to that number in force: the first cases of 4, worked out by
-hand, are all taken, then every k-th and those with two ways of all three, where points after their own leave them as they are. The edges of document 01 are
-added, at the bounds of document 02; what is due for them is said here, with the sentence of document 01 or 02 that decides it, and no program is asked. RANDOM
-has random and damaged tables with one question each, and what goscript's answers without the two departures of a method set and document 01's refusals give for
-them, none of it `ambiguous`. CRATES/typeask_run gets all of it, each input behind its length and each print behind its number; CRATES/typeask gets the example
-of document 01 alone.
+they are or refuses by 14; what a bound refused is not among them. VECTORS02 has the pairs 1, 2, 4 and 5, with points 1 to that number in force: the first cases of
+5, worked out by hand, are all taken, then every k-th and those with two ways of all four, where points after their own leave them as they are or refuse them by 14.
+The edges of document 01 are added, at the bounds of document 02, and tables of packages in order and out of it; what is due for them is said here, with the sentence
+of document 01 or 02 that decides it, and no program is asked. RANDOM has random and damaged tables with one question each, and what goscript's answers without the
+two departures of a method set and the papers' refusals give for them, none of it `ambiguous`. CRATES/typeask_run gets all of it, each input behind its length and
+each print behind its number; CRATES/typeask gets the example of document 01 alone.
 """
 import sys
 
-from bounds import ANSWER, MEMBERS, OF_ONE, PACKAGES, QUESTION, TEXT, TYPES, full_structs
+from bounds import MEMBERS, OF_ONE, PACKAGES, QUESTION, TEXT, TYPES, full_structs
+from inputs import HEAD, asked, lines, refused, table
+from orders import orders
+from sets import set_edges, set_of
 from vectors import BY_HAND, base, of_points, read
 
-HEAD = b'typetable\t1\n'
 INT = b'T\tbasic\t2'
 
 
 def sample(vectors, vectors02):
     chosen = []
-    for name, step in [('small', 5), ('mixed', 3), ('damaged', 12)]:
+    for name, step in [('small', 5), ('mixed', 3), ('damaged', 10)]:
         chosen += base(vectors, name)[::step]
     for k, case in enumerate(of_points(vectors02)):
         if k < BY_HAND or k % 4 == 0 or b'\nand\t' in case[1]:
@@ -39,18 +41,6 @@ def random(path):
         parts.append(data[6:6 + n])
         data = data[6 + n:]
     return list(zip(parts[::2], parts[1::2]))
-
-
-def lines(*ls):
-    return b''.join(l + b'\n' for l in ls)
-
-
-def table(*ls):
-    return HEAD + lines(*ls)
-
-
-def asked(text, *questions):
-    return text + b'Q\n' + lines(*questions)
 
 
 def tabs(text):
@@ -104,10 +94,6 @@ EXAMPLE_TABLE = EXAMPLE[:EXAMPLE.index(b'Q\n')]
 EXAMPLE_COUNTS = b'ok\t1\t8\t3\n'
 
 
-def refused(number, line):
-    return b'refused\t%d\t%d\n' % (number, line)
-
-
 def input_edges():
     """Where the table ends and what a question is."""
     wrong = refused(11, 0)
@@ -156,7 +142,7 @@ def input_edges():
 def bound_edges():
     """The bounds of members, names, types, packages and paths: the last that there is room for and the next."""
     fields = [b'F\tX%d\t-\t0\t0' % i for i in range(OF_ONE + 1)]
-    packages = [b'P\tp%d' % i for i in range(PACKAGES + 1)]
+    packages = [b'P\tp%02d' % i for i in range(PACKAGES + 1)]
     name = b'n' * 64
     structs, count = full_structs(fields)
     full, last = [INT] + structs, MEMBERS % OF_ONE - 1
@@ -184,32 +170,6 @@ def bound_edges():
         (asked(table(b'P\t' + b'p' * 128), b'V'), b'ok\t1\t0\t0\n'),
         (asked(table(b'P\t' + b'p' * 129), b'V'), refused(4, 2)),
     ]
-
-
-def set_of(count, depth, before):
-    """A table whose last type embeds, `depth` structs deep, a named type of `count` methods, behind a struct of `before` fields; the question M of it; and
-    the set that is due: each method with flag 0 (no pointer is removed), places 0 .. 0 and its own. The names ascend as they come, so the members do."""
-    fields = [b'F\tF%d\t-\t1\t0' % k for k in range(before)]
-    methods = [b'M\tM%03d\t-\t1\t0' % k for k in range(count)]
-    structs = []
-    for k in range(depth):
-        structs += [b'T\tstruct', b'F\tE\t-\t%d\t1' % (4 + k)]
-    text = table(b'T\ttuple', b'T\tfunc\t0\t0\t0', b'T\tstruct', *fields, b'T\tstruct', b'T\tnamed\t3', *methods, *structs)
-    due = b'set\t%d\n' % count + b''.join(b'sel\t%d\t0' % (before + k) + b'\t0' * depth + b'\t%d\n' % k for k in range(count))
-    return text, b'M\t%d' % (4 + depth), due
-
-
-def set_edges():
-    """"with a 16,384-byte answer buffer": a set that fills it is given; one that has a byte more is 13, and the questions behind it are answered."""
-    rows = []
-    for length in range(ANSWER - 1, ANSWER + 3):
-        # 251 methods 26 structs deep and no field before: 16,354 bytes; each field before, up to 100, makes a member's number longer
-        before = next(b for b in range(100) if len(set_of(251, 26, b)[2]) == length)
-        text, question, due = set_of(251, 26, before)
-        counts = b'ok\t0\t31\t%d\n' % (before + 251 + 26)
-        rows.append((asked(text, question, b'V', question), (due + counts + due if length <= ANSWER else refused(13, 0) + counts + refused(13, 0))))
-    text, question, due = set_of(OF_ONE, 30, 0)
-    return rows + [(asked(text, question, b'M\t4', question), refused(13, 0) + set_of(OF_ONE, 0, 0)[2] + refused(13, 0))]
 
 
 def chain(structs):
@@ -344,6 +304,25 @@ def refusal_edges():
     ]
 
 
+def order_edges():
+    """Packages in order and out of it; a refused table gets its refusal "once and alone"."""
+    rows = []
+    for ls, due in orders():
+        text = table(*ls)
+        if due:
+            rows.append((asked(text, b'V', b'C\t0', b'x'), refused(*due)))
+            continue
+        count = sum(l.startswith(b'P\t') for l in ls)
+        types, members = (sum(l[:1] in letters for l in ls) for letters in (b'T', b'FM'))
+        # a package of the table may ask; the number behind the last is one that it lacks, and so is type 0 of a table without types
+        rows.append((asked(text, b'V', b'C\t0', b'S\t0\t0\t%d\tx' % count),
+                     b'ok\t%d\t%d\t%d\n' % (count, types, members) + (b'yes\n' if types else refused(11, 0)) + refused(11, 0)))
+    # "an old package is then known by its path": x of 0 is not the x that 1 asks for, in whatever package the struct's fields are
+    named = table(b'P\ta', b'P\tb', INT, b'T\tstruct', b'F\tx\t0\t0\t0', b'F\tx\t1\t0\t0', b'F\tX\t1\t0\t0')
+    questions = [b'S\t1\t0\t%b\t%b' % (pkg, name) for name in (b'x', b'X') for pkg in (b'0', b'1', b'-')]
+    return rows + [(asked(named, *questions), b'entry\t0\t0\t0\nentry\t1\t0\t1\nnotfound\n' + b'entry\t2\t0\t2\n' * 3)]
+
+
 def more_edges():
     """"More": what document 01 says of Byte, document 02 of two ways of one length and of a method set, and one answer of each word of N."""
     embeds = lambda *ts: [b'T\tstruct'] + [b'F\tE%d\t-\t%d\t1' % (t, t) for t in ts]
@@ -384,7 +363,7 @@ def words(rows):
 
 def main():
     vectors, vectors02, stored, crates = sys.argv[1:5]
-    edges = input_edges() + bound_edges() + set_edges() + way_edges() + number_edges() + put_off_edges() + refusal_edges() + more_edges()
+    edges = input_edges() + bound_edges() + set_edges() + way_edges() + number_edges() + put_off_edges() + refusal_edges() + order_edges() + more_edges()
     rows = edges + sample(vectors, vectors02) + random(stored)
     with open(f'{crates}/typeask_run/stdin', 'wb') as inputs, open(f'{crates}/typeask_run/stdout', 'wb') as prints:
         for k, (text, print_) in enumerate(rows):

@@ -3,19 +3,21 @@
 
     host_sample.py VECTORS VECTORS02 HOST
 
-VECTORS has the base's vectors: small, mixed and damaged (.in and .out), and calls (entry.txt); VECTORS02 those of document 02, of which the pairs 1, 2 and 4 have
-the points up to their number in force. What later points leave as it is is taken, and nothing that an old bound refused. Sample by sample:
+VECTORS has the base's vectors: small, mixed and damaged (.in and .out), and calls (entry.txt); VECTORS02 those of document 02, of which the pairs 1, 2, 4 and 5 have
+the points up to their number in force. What later points leave as it is or refuse by 14 is taken, and nothing that an old bound refused. Sample by sample:
 
-HOST/testdata/sample: some cases with each word that is printed, and with each refusal.
-HOST/testdata/entry.txt: some calls with each refusal and each word of an answer, and the questions of the first cases of 4 in buffers that have just the room
+HOST/testdata/sample: some cases with each word that is printed, and with each refusal; a method set that is longer than the answer buffer, of which the vectors
+have none in a table that loads.
+HOST/testdata/entry.txt: some calls with each refusal and each word of an answer, and the questions of the first cases of 5 in buffers that have just the room
 for the answer, a byte less, room for its first line alone, and none.
-HOST/compare/testdata/sample: document 01's example, the first cases of 4 and every k-th other case, of tables that load.
+HOST/compare/testdata/sample: document 01's example, the first cases of 5 and every k-th other case, of tables that load, and that method set.
 """
 import sys
 from collections import Counter
 
 from bounds import ANSWER
-from vectors import BY_HAND, base, left_as_is, of_points, past_bound, read, write
+from sets import set_edges
+from vectors import BY_HAND, base, in_order, left_as_is, of_points, read, refused_by, write
 
 NO_ROOM = -13 * 65536
 
@@ -80,11 +82,25 @@ def calls_of(case):
     return calls
 
 
+def returned(print_):
+    """What comes back for a refusal that typeask prints: "minus (refusal × 65,536 + line)"."""
+    number, line = map(int, print_.split(b'\t')[1:])
+    return -(number * 65536 + line)
+
+
 def refused_call(case):
-    """A call on a case with one question, whose table is refused: "minus (refusal × 65,536 + line)"."""
+    """A call on a case with one question, whose table is refused."""
     table, question = case[0].split(b'Q\n')
-    number, line = map(int, case[1].split(b'\t')[1:])
-    return call(table, question.rstrip(b'\n'), ANSWER, -(number * 65536 + line), b'')
+    return call(table, question.rstrip(b'\n'), ANSWER, returned(case[1]), b'')
+
+
+def call_in_order(stored):
+    """A call of the base with what is due with point 5 in force."""
+    table, question, room = stored.split(b' ')[:3]
+    due = in_order(bytes.fromhex(table.decode().strip('-')), printed(stored))[1]
+    if due == printed(stored):
+        return stored
+    return b' '.join([table, question, room, b'%d' % returned(due), b'-'])
 
 
 def loads(case, most):
@@ -96,20 +112,22 @@ def main():
     vectors, vectors02, host = sys.argv[1:4]
     points = of_points(vectors02)
     small, mixed, damaged = (base(vectors, name) for name in ('small', 'mixed', 'damaged'))
-    library = of_each(points + damaged + small + mixed, lambda case: len(case[0]), printed_words, 2000, 8)
+    # a byte longer than the buffer
+    long_set = set_edges()[2]
+    library = of_each(points + damaged + small + mixed, lambda case: len(case[0]), printed_words, 2000, 8) + [long_set]
     write(f'{host}/testdata', 'sample', library)
-    calls = [call for call in read(f'{vectors}/entry.txt').splitlines() if left_as_is(printed(call))]
-    stored = of_each(calls, len, call_words, 4000, 6)
+    calls = map(call_in_order, read(f'{vectors}/entry.txt').splitlines())
+    stored = of_each([call for call in calls if left_as_is(printed(call))], len, call_words, 4000, 6)
     by_hand = points[:BY_HAND]
     for case in by_hand[:9]:
         stored += calls_of(case)
-    stored += [refused_call(case) for case in by_hand if past_bound(case[1]) and len(case[0]) < 5000]
+    stored += [refused_call(case) for case in by_hand if refused_by(case[1], 2, 6, 14) and len(case[0]) < 5000]
     with open(f'{host}/testdata/entry.txt', 'wb') as file:
         file.write(b''.join(call + b'\n' for call in stored))
     example = tuple(read(f'{host}/../crates/typeask/{name}') for name in ('stdin', 'stdout'))
     loading = [case for case in points[BY_HAND:] if loads(case, 6000)]
-    # from these places on a set that is longer than the answer buffer is among each
-    goscript = [example] + [case for case in by_hand if loads(case, 11000)] + loading[::4] + small[3::6] + mixed[1::6]
+    small, mixed = ([case for case in cases if not refused_by(case[1], 14)] for cases in (small, mixed))
+    goscript = [example] + [case for case in by_hand if loads(case, 11000)] + loading[::4] + small[::3] + mixed[::3] + [long_set]
     write(f'{host}/compare/testdata', 'sample', goscript)
     print(len(library), 'cases for the library,', len(stored), 'calls,', len(goscript), 'cases for goscript')
 

@@ -3,15 +3,18 @@
 
     load_sample.py VECTORS VECTORS02 CRATE
 
-VECTORS has the base's small, mixed and damaged (.in and .out), and VECTORS02 the pair 4 of document 02, with points 1 to 4 in force: inputs of typeask with what
-it prints. Of the base's a sample is taken that has every refusal from 3 to 10 but 6 and every form of line, and none that a bound refused; of the pair 4 the
-cases worked out by hand, and every k-th other. The edges of document 01 are added, at the bounds of document 02. A table that loads gives `ok` and the counts of
-its P, T, and F and M lines; a refused one gives `refused`, the number and the line, as typeask prints it.
+VECTORS has the base's small, mixed and damaged (.in and .out), and VECTORS02 the pair 5 of document 02, with points 1 to 5 in force: inputs of typeask with what
+it prints. Of the base's a sample is taken that has every refusal from 3 to 10 but 6 and every form of line, and none that a bound refused; those whose packages are
+out of order are taken with refusal 14. Of the pair 5 the cases worked out by hand are taken, and every k-th other. The edges of document 01 are added, at the bounds
+of document 02, and tables of packages in order and out of it. A table that loads gives `ok` and the counts of its P, T, and F and M lines; a refused one gives
+`refused`, the number and the line, as typeask prints it.
 """
 import sys
 
 from bounds import MEMBERS, OF_ONE, PACKAGES, TEXT, TYPES, full_structs
-from vectors import BY_HAND, cases, past_bound
+from inputs import HEAD, refused, table
+from orders import orders
+from vectors import BY_HAND, cases, in_order, past_bound, refused_by
 
 
 def table_of(text):
@@ -38,36 +41,31 @@ def counts(table):
 def loading(case, out):
     """The table of a case and what loading it gives, where the input as a whole is not too long."""
     table = table_of(case)
-    first = out.split(b'\n')[0]
-    if first.startswith(b'refused\t') and first.split(b'\t')[1] in [b'2', b'3', b'4', b'5', b'6', b'7', b'8', b'9', b'10']:
-        return table, first + b'\n'
+    if refused_by(out, *range(2, 11), 14):
+        return table, out
     return table, counts(table)
 
 
 def sample(vectors, vectors02):
-    fourth = cases(vectors02, '4')
-    others = fourth[BY_HAND::4]
-    for name, step in [('small', 9), ('mixed', 9), ('damaged', 4)]:
-        others += [case for case in cases(vectors, name)[::step] if not past_bound(case[1])]
-    chosen = fourth[:BY_HAND] + [case for case in others if len(table_of(case[0])) < 9000]
+    fifth = cases(vectors02, '5')
+    others = fifth[BY_HAND::2]
+    for name, step in [('small', 9), ('mixed', 9), ('damaged', 3)]:
+        others += [in_order(*case) for case in cases(vectors, name)[::step] if not past_bound(case[1])]
+    chosen = fifth[:BY_HAND] + [case for case in others if len(table_of(case[0])) < 9000]
     return [loading(*case) for case in chosen if len(case[0]) <= TEXT]
 
 
-HEAD = b'typetable\t1\n'
-
-
-def refused(number, line):
-    return b'refused\t%d\t%d\n' % (number, line)
+def order_edges():
+    """Tables of packages in order and out of it."""
+    tables = [(table(*lines), due) for lines, due in orders()]
+    return [(text, refused(*due) if due else counts(text)) for text, due in tables]
 
 
 def edges():
     """The bounds of document 01, one below or at and one above."""
-    def table(*lines):
-        return HEAD + b''.join(l + b'\n' for l in lines)
-
     int_type = b'T\tbasic\t2'
     fields = [b'F\tX%d\t-\t0\t0' % i for i in range(OF_ONE + 1)]
-    packages = [b'P\tp%d' % i for i in range(PACKAGES + 1)]
+    packages = [b'P\tp%02d' % i for i in range(PACKAGES + 1)]
     long_name = b'F\t' + b'n' * 65 + b'\t-\t0\t0'
     structs, count = full_structs(fields)
     full = [int_type] + structs
@@ -104,7 +102,7 @@ def edges():
 
 def main():
     vectors, vectors02, crate = sys.argv[1:4]
-    rows = sample(vectors, vectors02) + edges()
+    rows = sample(vectors, vectors02) + edges() + order_edges()
     with open(f'{crate}/stdin', 'wb') as tables, open(f'{crate}/stdout', 'wb') as results:
         for table, result in rows:
             tables.write(b'%05d\n' % len(table) + table)

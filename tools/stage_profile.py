@@ -4,9 +4,9 @@
     stage_profile.py ARCHIVE TABLE..
 
 ARCHIVE is target/staticlib/libyifgrun.a; each TABLE is a file with a table that loads. Of each table variants are made that differ in one field of
-one of the last lines and are refused there by 4, 7, 8 or 9: all that is done up to that refusal is counted (valgrind), and what lies between two of them is
-the stage. A stage that no variant ends is counted with the next one. Prints instructions and shares: `clear` is a text refused at its header, the last stage
-also holds the answer to V.
+one of the last lines, or of the last P line, and are refused there by 4, 14, 7, 8 or 9: all that is done up to that refusal is counted (valgrind), and what
+lies between two of them is the stage. A stage that no variant ends is counted with the next one. Prints instructions and shares: `clear` is a text refused at its
+header, the last stage also holds the answer to V.
 """
 import ctypes
 import os
@@ -63,10 +63,11 @@ class Library:
 
 
 def variants(table):
-    """The table with one field of one of its last lines replaced by a number, or by that field of the line above."""
+    """The table with one field of one of its last lines, or of its last P line, replaced by a number, or by that field of the line above."""
     lines = table.split(b'\n')[:-1]
     numbers = [b'x', b'9999', b'9'] + [b'%d' % n for n in range(0, TYPES, 5)]
-    for at in range(len(lines) - 1, max(0, len(lines) - LAST_LINES), -1):
+    last_package = [at for at in range(len(lines)) if lines[at].startswith(b'P\t')][-1:]
+    for at in [*range(len(lines) - 1, max(0, len(lines) - LAST_LINES), -1), *last_package]:
         fields = lines[at].split(b'\t')
         above = lines[at - 1].split(b'\t')
         for i in range(len(fields) - 1, max(0, len(fields) - 6), -1):
@@ -80,11 +81,11 @@ def profile(library, table):
     lines = {}
     for variant in variants(table):
         number, line = library.refusal(variant)
-        if number in (4, 7, 8, 9) and line > lines.get(number, 0):
+        if number in (4, 14, 7, 8, 9) and line > lines.get(number, 0):
             found[number], lines[number] = variant, line
     total = library.instructions(table)
     last, names, rows = 0, [], []
-    for number, name in ((3, 'clear'), (4, 'read'), (7, '7'), (8, '8'), (9, '9'), (10, '10')):
+    for number, name in ((3, 'clear'), (4, 'read'), (14, '14'), (7, '7'), (8, '8'), (9, '9'), (10, '10')):
         names.append(name)
         upto = library.instructions(found[number]) if number in found else total
         # a variant that costs more than the table itself, as where a name is compared with many, ends no stage

@@ -1,4 +1,6 @@
-"""Stored inputs of typeask with what it prints: pairs of files .in and .out. A line BATCH stands before the inputs, and a line --- ends each of both."""
+"""Stored inputs of typeask with what it prints: pairs of files .in and .out. A line BATCH stands before the inputs, and a line --- ends each of both. Each pair was
+stored with the first points of document 02 in force, or none; what is due with those behind them is told from it here, where it can be."""
+from itertools import takewhile
 
 
 def cases(folder, name):
@@ -13,33 +15,55 @@ def lists(print_):
     return b'\nsel\t' in print_
 
 
+def refused_by(print_, *numbers):
+    """Whether the table, or the input as a whole, was refused by one of these."""
+    return print_.startswith(tuple(b'refused\t%d\t' % number for number in numbers))
+
+
 def past_bound(print_):
-    """Whether the table, or the input as a whole, was refused by 2 or 6: point 4 of document 02 moves these bounds."""
-    return print_.startswith((b'refused\t2\t', b'refused\t6\t'))
+    """Whether it was refused by 2 or 6: point 4 of document 02 moves these bounds."""
+    return refused_by(print_, 2, 6)
+
+
+def disorder(text):
+    """The first P line, of those right behind the first line, whose path is not above the one before; None if there is none."""
+    lines = list(takewhile(lambda line: line.startswith(b'P\t'), text.split(b'\n')[1:]))
+    return next((k + 2 for k in range(1, len(lines)) if lines[k] <= lines[k - 1]), None)
+
+
+def in_order(text, print_):
+    """A case with what is due with point 5 in force: a table whose lines have all passed 4, 5 and 6 is refused by 14 where its packages are out of order, whatever
+    was printed for it before."""
+    line = disorder(text)
+    if line is None or refused_by(print_, 2, 3, 4, 5, 6):
+        return text, print_
+    return text, b'refused\t14\t%d\n' % line
 
 
 def left_as_is(print_):
-    """Whether document 02 leaves as it is what the base gave: no answer `ambiguous`, which point 1 changes, no method set that lists something, and no table that a
+    """Whether points 1 to 4 leave as it is what the base gave: no answer `ambiguous`, which point 1 changes, no method set that lists something, and no table that a
     bound refused, also where that bound is one that stays."""
     return b'\nambiguous\t' not in b'\n' + print_ and not lists(print_) and not past_bound(print_)
 
 
 def base(vectors, name):
-    """The base's cases that document 02 leaves as they are."""
-    return [case for case in cases(vectors, name) if left_as_is(case[1])]
+    """The base's cases with what is due for them, where that can be told."""
+    ordered = [in_order(*case) for case in cases(vectors, name)]
+    return [case for case in ordered if left_as_is(case[1])]
 
 
-# the first cases of the pair 4, which were worked out by hand
-BY_HAND = 33
+# the first cases of the pair 5, which were worked out by hand
+BY_HAND = 44
 
 
 def of_points(vectors02):
-    """The cases of the pair 4, with points 1 to 4 in force, those worked out by hand first; then those of the pairs 2 and 1 that the points after them leave as
-    they are."""
-    chosen = dict(cases(vectors02, '4'))
-    for name in '2', '1':
+    """The cases of the pair 5, with points 1 to 5 in force, those worked out by hand first; then those of the pairs 4, 2 and 1 with what is due for them, where that
+    can be told."""
+    chosen = dict(cases(vectors02, '5'))
+    for name in '4', '2', '1':
         for text, print_ in cases(vectors02, name):
-            if not past_bound(print_) and (name == '2' or not lists(print_)):
+            text, print_ = in_order(text, print_)
+            if name == '4' or not past_bound(print_) and (name == '2' or not lists(print_)):
                 chosen.setdefault(text, print_)
     return list(chosen.items())
 
