@@ -1,10 +1,11 @@
 //! Tables that take long to load.
 
 use super::{field, Case};
+use crate::bounds;
 use crate::table::{Kind, Table};
 
 /// Texts that take long to load, with the question V.
-pub fn long_loads() -> [Case; 3] {
+pub fn long_loads() -> [Case; 4] {
     let counts = || vec!["V".to_owned()];
     let mut alike = Table::default();
     let int = alike.put(Kind::Basic(2), []);
@@ -15,6 +16,11 @@ pub fn long_loads() -> [Case; 3] {
     for _ in 0..4 {
         many.put_struct((0..255).map(|k| field(format!("f{k}"), int, false)));
     }
+    let mut paths = Table::default();
+    let common = "p".repeat(126);
+    paths.packages = (0..bounds::PACKAGES)
+        .map(|k| format!("{common}{k:02}"))
+        .collect();
     // Each named type stands for the array behind it, which has the next named type in it.
     let mut rising = Table::default();
     for k in 0..127 {
@@ -26,6 +32,11 @@ pub fn long_loads() -> [Case; 3] {
     [
         Case::new("255 fields whose names share 61 bytes, V", &alike, counts()),
         Case::new("four structs of 255 fields, V", &many, counts()),
+        Case::new(
+            "64 packages whose paths share 126 bytes, V",
+            &paths,
+            counts(),
+        ),
         Case::new("a chain by value of rising numbers, V", &rising, counts()),
     ]
 }
