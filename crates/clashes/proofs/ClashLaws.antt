@@ -1,32 +1,30 @@
 -- Refusal 9 of one line by the kind of the type above it, over the rows of a table; and the walk over the lines.
 use mathlib.Core.Path.{_≡_, refl, sym, ap, _∙_}
 use mathlib.Core.Bool.{Bool, true, false, not, _&&_, _||_}
-use mathlib.Core.List.{List, [], _∷_}
+use mathlib.Core.List.{List}
 use mathlib.Core.Option.{Option, none, some}
 use Prim.Native.Nat.{ℕ, _+_, _≤_, _<_}
 use native.Mathlib.Numerals.{add-one}
 use native.Mathlib.Omega.{arith}
-use lib.Dec.{eqb}
 use lib.ListN.{length, take}
 use borrow.Author.Tests.{eq-eqb, ne-eqb, not-false}
 use Rattle.objects.specs.declared.TypeKey.{TypeKey}
-use Rattle.objects.specs.declared.ObjKey.{ObjKey}
 use Rattle.objects.specs.declared.Stage.{Stage}
 use Rattle.objects.specs.Lists.{Bytes, any, In, Sorted}
 use Rattle.objects.specs.Table.{Table, Member, Kind, Named, typeKey, objKey, size, kindNumber, isIface, membersOf, fieldsOf, hasType, hasPackage, kindAt}
 use Rattle.objects.specs.Rows.{Words, typeCount, typeWord, memberWord, memberAt, membersFrom, tableOf}
 use Rattle.objects.specs.Types.{numberRead, firstRead, totalRead, found}
 use Rattle.objects.specs.Laid.{Laid}
-use Rattle.objects.proofs.ListLaws.{cases, clash, either, or-false, or-true, or-l, or-r, and-r}
+use Rattle.objects.proofs.ListLaws.{cases, or-false, or-true, or-l, or-r, and-r}
 use Rattle.objects.proofs.PartLaws.{parted}
 use Rattle.objects.proofs.RowLaws.{size-read, number-read, fields-read, kind-beyond, members-have, members-more}
 use Rattle.text.specs.Bytes.{isBlank}
 use Rattle.rules.specs.Members.{sameMember}
-use Rattle.rules.specs.Checks.{PathItem, pathItems, unordered, Item, memberItem, items, lineOfItem, lacking, ascends, equalsField, clashing}
+use Rattle.rules.specs.Checks.{Item, memberItem, items, lineOfItem, lacking, ascends, equalsField, clashing}
 use Rattle.rules.specs.Stages.{firstUnordered, firstItem, linesUnder, linesOf}
 use Rattle.rules.specs.Sound.{Lower}
 use Rattle.rules.proofs.StageLaws.{none-fails}
-use Rattle.rules.proofs.PathLaws.{ordered-of}
+use Rattle.rules.proofs.PathLaws.{found-ordered}
 use Rattle.rules.proofs.CheckLaws.{member-item}
 use Rattle.rules.proofs.ItemLaws.{lines-on, membersLeft, members-on, members-stop}
 use Rattle.references.specs.Lines.{linesRead}
@@ -193,8 +191,8 @@ lacking-none : (T : Table) (t : TypeKey) (k : Kind) (before : List Member) (m : 
 unfolding lacking
 lacking-none T t k before m z = and-r (hasType T (m .type)) (hasPackage T (m .pkg)) (not-false (hasType T (m .type) && hasPackage T (m .pkg)) z)
 
-pub packaged-of : (text : Bytes) (rows : Words) → firstUnordered (tableOf text rows) ≡ none → firstItem (tableOf text rows) (lacking (tableOf text rows)) (items (tableOf text rows)) ≡ none → Packaged text rows
-packaged-of text rows o e = record { ordered = ordered-of (tableOf text rows .packages) (none-fails (λ (i : PathItem). i .line) unordered (pathItems (tableOf text rows .packages)) o); under = here }
+pub packaged-of : (text : Bytes) (rows : Words) → firstUnordered (tableOf text rows .packages) ≡ none → firstItem (tableOf text rows) (lacking (tableOf text rows)) (items (tableOf text rows)) ≡ none → Packaged text rows
+packaged-of text rows o e = record { ordered = found-ordered (tableOf text rows .packages) o; under = here }
   where
     here : (t : TypeKey) → t .0 < typeCount rows → PackagedFrom text rows (firstRead rows t) (linesRead rows t)
     here t h i l =

@@ -256,7 +256,7 @@ fn first_of(text: &[u8], rows: &[u32], marks: &mut [u32], done: &mut [u8]) -> St
 
 // 9, of a table that passed 14 and 7
 pub fn clashing(text: &[u8], rows: &[u32]) -> Stage
-    requires { ⌜ Laid (now rows) × (firstUnordered (tableOf (now text) (now rows)) ≡ none) × (firstItem (tableOf (now text) (now rows)) (lacking (tableOf (now text) (now rows))) (items (tableOf (now text) (now rows))) ≡ none) ⌝ }
+    requires { ⌜ Laid (now rows) × (firstUnordered (tableOf (now text) (now rows) .packages) ≡ none) × (firstItem (tableOf (now text) (now rows)) (lacking (tableOf (now text) (now rows))) (items (tableOf (now text) (now rows))) ≡ none) ⌝ }
     ensures { λ r. ⌜ found r ≡ firstItem (tableOf (now (text .entry)) (now (rows .entry))) (clashing (tableOf (now (text .entry)) (now (rows .entry)))) (items (tableOf (now (text .entry)) (now (rows .entry)))) ⌝ }
 {
     let mut marks = [0u32; BIT_WORDS];

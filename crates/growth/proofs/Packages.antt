@@ -1,6 +1,6 @@
 -- Old packages in a library that grew (specs/Grown.antt): each is there under its path, in the old order, and no number but one has that path.
-use mathlib.Core.Path.{_≡_, refl, sym, ap, subst, _∙_}
-use mathlib.Core.Bool.{true, false}
+use mathlib.Core.Path.{_≡_, sym, ap, subst, _∙_}
+use mathlib.Core.Bool.{false}
 use mathlib.Core.List.{List, [], _∷_}
 use mathlib.Core.Logic.{inl, inr}
 use Prim.Native.Nat.{_≤_, _<_}
@@ -12,11 +12,11 @@ use Rattle.objects.specs.declared.PackageKey.{PackageKey}
 use Rattle.objects.specs.Lists.{Bytes, In}
 use Rattle.objects.specs.Table.{Table, packageKey}
 use Rattle.objects.proofs.ListLaws.{cases, clash}
-use Rattle.text.specs.Bytes.{sameBytes, belowBytes}
+use Rattle.text.specs.Bytes.{sameBytes}
 use Rattle.text.proofs.ByteLaws.{same-refl, same-true, below-irrefl, below-trans}
 use Rattle.rules.specs.Sound.{Below, Ordered}
 use Rattle.rules.proofs.PathLaws.{paths-ascend, path-once}
-use Rattle.growth.specs.Grown.{Numbers, Grown, placeAmong, pathAt, knownAs}
+use Rattle.growth.specs.Grown.{Numbers, Grown, placeAmong, pathAt}
 
 place-in : (paths : List Bytes) (path : Bytes) → In path paths → (placeAmong paths path < length paths) × (getD paths (placeAmong paths path) [] ≡ path)
 place-in (p ∷ ps) path i =

@@ -12,13 +12,13 @@ use Rattle.objects.specs.declared.ObjKey.{ObjKey}
 use Rattle.objects.specs.declared.PackageKey.{PackageKey}
 use Rattle.objects.specs.declared.«Package».{«Package»}
 use Rattle.objects.specs.Table.{Table, hasPackage, pathOf}
-use Rattle.objects.specs.Rows.{Words, packageCount, packageWord, memberWord, bytesAt, packageMeant, memberAt, pathRead, tableOf}
+use Rattle.objects.specs.Rows.{Words, packageCount, memberWord, bytesAt, packageMeant, memberAt, pathRead, tableOf}
 use Rattle.objects.specs.Types.{packageRead}
 use Rattle.objects.proofs.ListLaws.{cases}
 use Rattle.objects.proofs.RowLaws.{package-count-read, path-read, member-package-meant}
 use Rattle.text.specs.Bytes.{ascii, sameBytes, between, exported, isBlank}
 use Rattle.text.proofs.ByteLaws.{same-refl, same-true}
-use Rattle.rules.specs.Members.{Identity, identityFrom, identityOf, samePath, sameId}
+use Rattle.rules.specs.Members.{identityFrom, identityOf, samePath, sameId}
 use Rattle.rules.specs.Sound.{Ordered}
 use Rattle.rules.proofs.PathLaws.{path-once}
 use Rattle.obj.specs.Ids.{samePackage, askedId}

@@ -44,7 +44,7 @@ fn ascends(text: &[u8], rows: &[u32], p: u32) -> bool
 // The first P line that does not ascend. The first line of the text is no P line, so that package p stands on line p + 2.
 pub fn unordered(text: &[u8], rows: &[u32]) -> Stage
     requires { ⌜ Laid (now rows) ⌝ }
-    ensures { λ r. ⌜ found r ≡ firstUnordered (tableOf (now (text .entry)) (now (rows .entry))) ⌝ }
+    ensures { λ r. ⌜ found r ≡ firstUnordered (tableOf (now (text .entry)) (now (rows .entry)) .packages) ⌝ }
 {
     let n = package_count(rows);
     let mut p = 1;

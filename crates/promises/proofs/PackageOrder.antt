@@ -1,6 +1,6 @@
 -- Document 02, point 5, for every text whose lines pass 2 to 6: 14 is due at the first P line that does not ascend and nowhere else, and names the line on which
 -- that package stands. What the stage finds goes one package after the other (rules' PathLaws).
-use mathlib.Core.Path.{_≡_, refl, sym, ap, _∙_, subst}
+use mathlib.Core.Path.{_≡_, refl, sym, ap, _∙_}
 use mathlib.Core.Bool.{Bool, true, false}
 use mathlib.Core.List.{List, [], _∷_, _++_, append-nil, append-assoc}
 use mathlib.Core.Logic.{_⊎_, inl, inr}
@@ -12,57 +12,51 @@ use lib.ListN.{length, getD}
 use borrow.Author.Tests.{ltb-true, ltb-false, le-ltb}
 use Rattle.objects.specs.Bounds.{maxText, Bounds, bounds}
 use Rattle.objects.specs.Lists.{Bytes, Sorted, empty, lastOr, onLast}
-use Rattle.objects.specs.Table.{Table, Entity, Field, Method, Kind, Basic, noTable, plusPackage, plusType, plusMember, withMember}
+use Rattle.objects.specs.Table.{Table, Entity, Field, Method, Kind, Basic, noTable, plusPackage, plusType, plusMember}
 use Rattle.objects.proofs.ListLaws.{cases, clash}
-use Rattle.text.specs.Bytes.{ascii, belowBytes}
+use Rattle.text.specs.Bytes.{belowBytes}
 use Rattle.text.specs.Lines.{pieces, fields}
 use Rattle.rules.specs.Forms.{Line, packageLine, typeLine, memberLine, lineOf}
-use Rattle.rules.specs.Checks.{PathItem, pathItems, unordered}
+use Rattle.rules.specs.Checks.{pathItems}
 use Rattle.rules.specs.Stages.{firstLine, firstUnordered}
-use Rattle.rules.specs.Load.{Loaded, refused, loaded, added, stands, inPlace, hasRoom, lineAdded, linesFrom, staged, checked, thenChecked, loadWithin, load}
+use Rattle.rules.specs.Load.{Loaded, refused, loaded, added, stands, inPlace, hasRoom, linesFrom, staged, checked, loadWithin, load}
 use Rattle.rules.specs.Sound.{Below, Ordered}
-use Rattle.rules.proofs.StageLaws.{none-fails}
-use Rattle.rules.proofs.PathLaws.{ordered-of, foundFrom, paths-start, paths-on, paths-stop, paths-end, paths-ascend}
-use Rattle.promises.specs.Demands.{Reads, formerly, Falls, InOrder}
+use Rattle.rules.proofs.PathLaws.{found-ordered, foundFrom, paths-start, paths-on, paths-stop, paths-end, paths-ascend}
+use Rattle.promises.specs.Demands.{Reads, Falls, InOrder}
 
 -- ---- the lines that passed are judged
 
 reads-load : (text : Bytes) (T : Table) → Reads text T → load text ≡ checked T
 unfolding loadWithin
-reads-load text T r =
-    rw (le-ltb maxText (length text) (r .bytes), r .header, r .lines)
+reads-load text T r = rw (le-ltb maxText (length text) (r .bytes), r .header, r .lines)
 
 -- ---- what the stage finds
 
 module _ (paths : List Bytes) where
-  abbrev finds : Option ℕ
-  finds = firstLine (λ (i : PathItem). i .line) unordered (pathItems paths)
-
   -- each path before package p is above the one before it
   abbrev Rises : ℕ → Type 0
   Rises p = (q : ℕ) → 0 < q → q < p → Below (getD paths (q - 1) []) (getD paths q [])
 
-  found-at : (p : ℕ) → 0 < p → p ≤ length paths → Rises p → finds ≡ foundFrom paths p
+  found-at : (p : ℕ) → 0 < p → p ≤ length paths → Rises p → firstUnordered paths ≡ foundFrom paths p
   found-at zero h k r = absurd (omega arith)
   found-at (suc zero) h k r = paths-start paths
   found-at (suc (suc p)) h k r =
       let one : suc p + 1 ≡ suc (suc p) = omega arith in
       found-at (suc p) (omega arith) (omega arith) (λ q a b. r q a (omega arith)) ∙ rw (← one) (paths-on paths (suc p) (omega arith) (r (suc p) (omega arith) (omega arith)))
 
-  none-found : Rises (length paths) → finds ≡ none
+  none-found : Rises (length paths) → firstUnordered paths ≡ none
   unfolding pathItems firstLine
-  none-found r = go (length paths) refl
+  none-found r = cases (ltb 0 (length paths)) (λ e. at-end (ltb-true 0 (length paths) e)) (λ e. nowhere paths (ltb-false 0 (length paths) e))
     where
-      go : (n : ℕ) → length paths ≡ n → finds ≡ none
-      go zero e = subst (λ l. firstLine (λ (i : PathItem). i .line) unordered (pathItems l) ≡ none) (sym (no-paths paths e)) refl
-        where
-          no-paths : (l : List Bytes) → length l ≡ 0 → l ≡ []
-          no-paths [] q = refl
-          no-paths (x ∷ l) q = absurd (omega arith)
-      go (suc n) e = found-at (length paths) (omega arith) (omega arith) r ∙ paths-end paths (length paths) (omega arith)
+      at-end : 0 < length paths → firstUnordered paths ≡ none
+      at-end h = found-at (length paths) h (omega arith) r ∙ paths-end paths (length paths) (omega arith)
+
+      nowhere : (l : List Bytes) → length l ≤ 0 → firstUnordered l ≡ none
+      nowhere [] h = refl
+      nowhere (x ∷ l) h = absurd (omega arith)
 
   rises-ordered : Rises (length paths) → Sorted Below paths
-  rises-ordered r = ordered-of paths (none-fails (λ (i : PathItem). i .line) unordered (pathItems paths) (none-found r))
+  rises-ordered r = found-ordered paths (none-found r)
 
   ordered-rises : Sorted Below paths → Rises (length paths)
   ordered-rises s q h k = paths-ascend paths s (q - 1) q (omega arith) k

@@ -1,6 +1,6 @@
 -- The paths of a table that passes 14 (specs/Checks.antt) ascend, and so a package is known by its path: none recurs.
-use mathlib.Core.Path.{_≡_, refl, sym, ap, subst, _∙_}
-use mathlib.Core.Bool.{Bool, true, false, not}
+use mathlib.Core.Path.{_≡_, refl, sym, ap, _∙_}
+use mathlib.Core.Bool.{Bool, true, false}
 use mathlib.Core.List.{List, [], _∷_}
 use mathlib.Core.Logic.{_↔_, inl, inr}
 use mathlib.Core.Option.{Option, none, some}
@@ -19,9 +19,9 @@ use Rattle.objects.proofs.PartLaws.{getD-In}
 use Rattle.text.specs.Bytes.{belowBytes}
 use Rattle.text.proofs.ByteLaws.{below-irrefl, below-trans}
 use Rattle.rules.specs.Checks.{PathItem, pathsBehind, pathItems, unordered}
-use Rattle.rules.specs.Stages.{firstLine}
+use Rattle.rules.specs.Stages.{firstLine, firstUnordered}
 use Rattle.rules.specs.Sound.{Below, Ordered}
-use Rattle.rules.proofs.StageLaws.{first-here, first-later}
+use Rattle.rules.proofs.StageLaws.{first-here, first-later, none-fails}
 
 -- ---- 14 passed
 
@@ -41,6 +41,10 @@ pub ordered-of : (paths : List Bytes) → ((i : PathItem) → In i (pathItems pa
 unfolding pathItems
 ordered-of [] h = tt
 ordered-of (path ∷ rest) h = behind-ordered 2 path rest h
+
+-- where 14 finds nothing the paths ascend
+pub found-ordered : (paths : List Bytes) → firstUnordered paths ≡ none → Sorted Below paths
+found-ordered paths e = ordered-of paths (none-fails (λ (i : PathItem). i .line) unordered (pathItems paths) e)
 
 -- each P line is on one of the lines from the second on, as many as there are paths
 behind-lines : (line : ℕ) (path : Bytes) (rest : List Bytes) (i : PathItem) → In i (pathsBehind line path rest) → i .line < line + suc (length rest)
@@ -62,11 +66,11 @@ module _ (paths : List Bytes) where
   abbrev pub foundFrom : ℕ → Option ℕ
   foundFrom i = firstLine (λ (p : PathItem). p .line) unordered (pathsLeft paths i)
 
-  pub paths-start : firstLine (λ (p : PathItem). p .line) unordered (pathItems paths) ≡ foundFrom 1
+  pub paths-start : firstUnordered paths ≡ foundFrom 1
   unfolding pathsLeft pathItems
   paths-start = go paths
     where
-      go : (ps : List Bytes) → firstLine (λ (p : PathItem). p .line) unordered (pathItems ps) ≡ firstLine (λ (p : PathItem). p .line) unordered (pathsBehind 2 (getD ps 0 []) (drop 1 ps))
+      go : (ps : List Bytes) → firstUnordered ps ≡ firstLine (λ (p : PathItem). p .line) unordered (pathsBehind 2 (getD ps 0 []) (drop 1 ps))
       go [] = refl
       go (p ∷ ps) = refl
 

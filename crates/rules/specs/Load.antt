@@ -1,13 +1,13 @@
 -- Loading: the table that a text holds, or the refusal (2 to 10, 14) with its line.
-use mathlib.Core.Bool.{Bool, true, false, cond, _&&_, _||_}
-use mathlib.Core.List.{List, [], _∷_, _++_}
+use mathlib.Core.Bool.{Bool, true, cond, _&&_, _||_}
+use mathlib.Core.List.{List, [], _∷_}
 use mathlib.Core.Option.{Option, none, some}
 use Prim.Native.Nat.{ℕ, suc, _≤_}
 use lib.Dec.{ltb}
 use lib.ListN.{length}
 use Rattle.objects.specs.Bounds.{maxPackages, maxPerType, Bounds, bounds}
 use Rattle.objects.specs.Lists.{Bytes, empty, lastOr}
-use Rattle.objects.specs.Table.{Table, size, memberCount, objKey, Entity, Field, Method, Member, Kind, Basic, isStruct, isIface, isNamed, membersOf, noTable, plusPackage, plusType, plusMember}
+use Rattle.objects.specs.Table.{Table, size, memberCount, objKey, Entity, Field, Method, Kind, Basic, isStruct, isIface, isNamed, membersOf, noTable, plusPackage, plusType, plusMember}
 use Rattle.text.specs.Bytes.{ascii, sameBytes}
 use Rattle.text.specs.Lines.{pieces, fields}
 use Rattle.rules.specs.Forms.{Line, packageLine, typeLine, memberLine, lineOf}
@@ -79,7 +79,7 @@ staged n (some line) rest = refused n line
 unfoldable pub checked : Table → Loaded
 checked T =
     let finds : (Item → Bool) → Option ℕ = λ bad. firstItem T bad (items T) in
-    staged 14 (firstUnordered T)
+    staged 14 (firstUnordered (T .packages))
     (staged 7 (finds (lacking T))
     (staged 8 (finds (forbidden T))
     (staged 9 (finds (clashing T))

@@ -2,15 +2,14 @@
 -- tables and every contract over rows takes this record. A number that the table lacks has no members and refers to nothing, so no clause asks for `t` in range.
 use mathlib.Core.Path.{_≡_}
 use mathlib.Core.Bool.{true, false}
-use mathlib.Core.List.{List, [], _∷_, map}
+use mathlib.Core.List.{List, [], map}
 use mathlib.Core.Logic.{_⊎_}
-use mathlib.Core.Option.{Option, some}
 use Prim.Native.Nat.{ℕ, _≤_, _<_}
-use lib.ListN.{length, getD}
+use lib.ListN.{length}
 use Rattle.objects.specs.Bounds.{maxTypes, maxPackages, maxMembers, maxPerType, maxBasic, maxArray}
 use Rattle.objects.specs.Lists.{Bytes, In, Sorted, flat, upTo}
 use Rattle.objects.specs.declared.TypeKey.{TypeKey}
-use Rattle.objects.specs.Table.{Table, size, memberCount, sameType, Member, isMethod, tagOf, Kind, Basic, Array, refs, membersOf, fieldsOf, declaredOf, allMethodsOf, hasPackage, kindAt, under}
+use Rattle.objects.specs.Table.{Table, size, memberCount, sameType, Member, isMethod, tagOf, Basic, Array, refs, membersOf, fieldsOf, declaredOf, allMethodsOf, hasPackage, kindAt, under}
 use Rattle.text.specs.Bytes.{belowBytes, isName, isBlank, isPath, isTag}
 use Rattle.rules.specs.Members.{identityOf, sameMember, idBytes}
 use Rattle.rules.specs.Chains.{Chain}

@@ -4,6 +4,7 @@ use mathlib.Core.Bool.{Bool, true, false}
 use mathlib.Core.List.{List, [], _∷_}
 use mathlib.Core.Option.{Option, none, some}
 use Prim.Native.Nat.{ℕ}
+use Rattle.objects.specs.Lists.{Bytes}
 use Rattle.objects.specs.declared.TypeKey.{TypeKey}
 use Rattle.objects.specs.Table.{Table, Kind, membersOf}
 use Rattle.rules.specs.Checks.{unordered, pathItems, Item, typeItem, memberItems, lineOfItem}
@@ -24,8 +25,8 @@ orElse (some a) b = some a
 -- ---- P lines
 
 -- "at the first line that fails to ascend"
-abbrev pub firstUnordered : Table → Option ℕ
-firstUnordered T = firstLine (λ i. i .line) unordered (pathItems (T .packages))
+abbrev pub firstUnordered : List Bytes → Option ℕ
+firstUnordered paths = firstLine (λ i. i .line) unordered (pathItems paths)
 
 -- ---- T, F and M lines
 

@@ -1,17 +1,16 @@
 -- The stages of loading in order: what each return of the code says.
 use mathlib.Core.Path.{_≡_, refl, sym, ap, _∙_}
 use mathlib.Core.Bool.{Bool, true, false, true≢false}
-use mathlib.Core.Option.{Option, none, some}
+use mathlib.Core.Option.{Option, none}
 use Prim.Native.Nat.{ℕ}
 use Rattle.objects.specs.Lists.{Bytes}
 use Rattle.objects.specs.declared.Stage.{Stage}
 use Rattle.objects.specs.Types.{found}
 use Rattle.objects.specs.Table.{Table}
 use Rattle.objects.specs.Rows.{Words, tableOf}
-use Rattle.objects.specs.Laid.{Laid, Holds}
+use Rattle.objects.specs.Laid.{Laid}
 use Rattle.rules.specs.Checks.{Item, items, lacking, forbidden, clashing, containing}
 use Rattle.rules.specs.Load.{Loaded, refused, loaded, staged, checked}
-use Rattle.rules.specs.Library.{Ranked}
 use Rattle.rules.specs.Stages.{firstUnordered, firstItem}
 use Rattle.cycles.specs.Contained.{Contained}
 use Rattle.table.specs.declared.Loading.{Loading}
@@ -65,7 +64,7 @@ module _ (text : Bytes) (rows : Words) (laid : Laid rows) where
   from7 = staged 7 (finds lacking) from8
 
   -- the stages that pass, one after the other
-  pub to-7 : {s : Stage} → found s ≡ firstUnordered T → s ≡ Stage.Passed → checked T ≡ from7
+  pub to-7 : {s : Stage} → found s ≡ firstUnordered (T .packages) → s ≡ Stage.Passed → checked T ≡ from7
   unfolding checked
   to-7 p q = after-passed 14 from7 refl p q
 
@@ -79,7 +78,7 @@ module _ (text : Bytes) (rows : Words) (laid : Laid rows) where
   to-10 due p q = after-passed 9 from10 due p q
 
   -- and the one that finds a line
-  pub refused-14 : {s : Stage} {line : ℕ} → found s ≡ firstUnordered T → s ≡ Stage.Bad line → Passes text (checked T) (Loading.Refused 14 line) rows
+  pub refused-14 : {s : Stage} {line : ℕ} → found s ≡ firstUnordered (T .packages) → s ≡ Stage.Bad line → Passes text (checked T) (Loading.Refused 14 line) rows
   unfolding checked
   refused-14 p q = refusal-passes text _ rows 14 _ (after-bad 14 from7 refl p q) laid
 

@@ -1,5 +1,4 @@
 -- `packages::ascends` meets its contract: the order of the two paths says whether one is below the other.
-use mathlib.Core.Path.{_≡_}
 use Rattle.text.proofs.CompareLaws.{below-less, below-equal, below-greater}
 use borrow.Author.Needs.{needs}
 use Rattle.packages.proofs.ascends.Statement.{statement}

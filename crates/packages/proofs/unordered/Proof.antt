@@ -1,5 +1,5 @@
 -- `packages::unordered` meets its contract: up to package p the paths ascend, and what 14 finds is what it finds from p on.
-use mathlib.Core.Path.{_≡_, refl, sym, _∙_}
+use mathlib.Core.Path.{_≡_, sym, _∙_}
 use Prim.Native.Nat.{_-_, _<_}
 use native.Mathlib.Omega.{arith}
 use Rattle.objects.specs.Rows.{tableOf}
@@ -12,7 +12,7 @@ use Rattle.packages.proofs.unordered.Statement.{statement}
 use Rattle.packages.proofs.unordered.Tie as tie
 
 abbrev Inv-loop : tie.InvT-loop
-Inv-loop text rows n p₀ p = (0 < p) × (firstUnordered (tableOf text rows) ≡ foundFrom (tableOf text rows .packages) p)
+Inv-loop text rows n p₀ p = (0 < p) × (firstUnordered (tableOf text rows .packages) ≡ foundFrom (tableOf text rows .packages) p)
 
 abbrev μ-loop : tie.MeasureT-loop
 μ-loop text rows n p₀ p = n - p

@@ -2,10 +2,10 @@
 
 use super::{field, Case};
 use crate::bounds;
-use crate::table::{Kind, Table};
+use crate::table::{Kind, Member, Table};
 
 /// Texts that take long to load, with the question V.
-pub fn long_loads() -> [Case; 4] {
+pub fn long_loads() -> [Case; 5] {
     let counts = || vec!["V".to_owned()];
     let mut alike = Table::default();
     let int = alike.put(Kind::Basic(2), []);
@@ -37,8 +37,30 @@ pub fn long_loads() -> [Case; 4] {
             &paths,
             counts(),
         ),
+        Case::new(
+            "31 structs of 64 fields x of 64 packages, V",
+            &shared_names(),
+            counts(),
+        ),
         Case::new("a chain by value of rising numbers, V", &rising, counts()),
     ]
+}
+
+/// Structs with a field `x` of each of 64 packages, whose paths part near their ends.
+fn shared_names() -> Table {
+    let mut table = Table::default();
+    let (front, back) = ("p".repeat(120), "p".repeat(4));
+    table.packages = (0..bounds::PACKAGES)
+        .map(|k| format!("{front}{k:02}{back}"))
+        .collect();
+    let int = table.put(Kind::Basic(2), []);
+    for _ in 0..31 {
+        table.put_struct((0..bounds::PACKAGES).map(|k| Member {
+            package: Some(k),
+            ..field("x".to_owned(), int, false)
+        }));
+    }
+    table
 }
 
 /// One tuple of so many elements.
