@@ -8,7 +8,7 @@ mod said;
 
 use compare::refusals::{self, Refused};
 use compare::{bounds, typeask};
-use due::Due;
+use due::{ordered, Due};
 use said::say;
 use std::path::Path;
 
@@ -40,27 +40,31 @@ fn refusals_agree_with_the_stored_samples() {
     all_agree(&library, "sample", due::of_point_5);
 }
 
-/// Every case of a pair of files with the output that is due now, where that can be told. Refusals alone are compared, so
-/// that answers which points 1 and 2 change are no matter.
+/// Every case of a pair of files with the output that is due now, where that can be told, and those that are refused by 14
+/// also put in order. Refusals alone are compared, so that answers which points 1 and 2 change are no matter.
 fn all_agree(folder: &Path, name: &str, due: Due) {
     let cases = batches::cases(folder, name);
-    let (mut told, mut disordered) = (0, 0);
+    let (mut told, mut disordered, mut in_order) = (0, 0, 0);
     for (n, (input, output)) in cases.iter().enumerate() {
-        let Some(output) = due(input, output.as_bytes()) else {
-            continue;
-        };
-        let output = String::from_utf8(output).expect("text");
-        agrees(input, &output, &format!("case {n} of {name}"));
-        told += 1;
-        disordered += usize::from(output.starts_with("refused\t14\t"));
+        let (output, case) = (output.as_bytes(), format!("case {n} of {name}"));
+        if let Some((input, output)) = ordered::case(input, output) {
+            agrees(&input, &output, &format!("{case}, in order"));
+            in_order += 1;
+        }
+        if let Some(output) = due(input, output) {
+            agrees(input, &output, &case);
+            told += 1;
+            disordered += usize::from(output.starts_with(b"refused\t14\t"));
+        }
     }
     let count = cases.len();
     say(&format!(
-        "{name}: {told} of {count} cases, {disordered} refused by 14"
+        "{name}: {told} of {count} cases, {disordered} refused by 14; {in_order} put in order"
     ));
 }
 
-fn agrees(input: &[u8], output: &str, case: &str) {
+fn agrees(input: &[u8], output: &[u8], case: &str) {
+    let output = str::from_utf8(output).expect("text");
     if input.len() > bounds::TEXT {
         assert_eq!(output, "refused\t2\t0\n", "{case}");
         return;

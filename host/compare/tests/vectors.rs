@@ -10,7 +10,7 @@ use compare::departures;
 use compare::engine::{self, Engine};
 use compare::refusals;
 use compare::{bounds, typeask};
-use due::Due;
+use due::{ordered, Due};
 use said::say;
 use std::path::Path;
 
@@ -48,7 +48,17 @@ fn the_stored_sample_agrees() {
     agree(&batches::sample(), "sample", due::of_point_5);
 }
 
-/// Every answer of a pair of files that is due now as it is stored must agree with goscript's. Every way to agree is met.
+/// An input of `typeask` and what it prints.
+type Stored = (Vec<u8>, String);
+
+/// A case that is refused by 14, put in order.
+fn in_order((input, output): &Stored) -> Option<Stored> {
+    let (input, output) = ordered::case(input, output.as_bytes())?;
+    Some((input, String::from_utf8(output).expect("text")))
+}
+
+/// Every answer of a pair of files that is due now as it is stored must agree with goscript's, that of cases put in order
+/// too. Every way to agree is met.
 fn agree(folder: &Path, name: &str, due: Due) {
     let Some(mut goscript) = engine::goscript() else {
         say(engine::NOT_AT_HAND);
@@ -56,15 +66,22 @@ fn agree(folder: &Path, name: &str, due: Due) {
     };
     let mut agreed = Agreed::default();
     let mut cases = batches::cases(folder, name);
-    cases.retain(|(input, output)| {
+    let ordered: Vec<Stored> = cases.iter().filter_map(in_order).collect();
+    let stays = |(input, output): &Stored| {
         due(input, output.as_bytes()) == Some(output.clone().into_bytes())
-    });
+    };
+    cases.retain(stays);
+    let count = cases.len();
+    cases.extend(ordered.into_iter().filter(stays));
     for (n, (input, output)) in cases.iter().enumerate() {
         if let Err(difference) = case(goscript.as_mut(), input, output, &mut agreed) {
             panic!("case {n} of {name}: {difference}");
         }
     }
-    say(&format!("{name}, {} cases: {agreed}", cases.len()));
+    let ordered = cases.len() - count;
+    say(&format!(
+        "{name}, {count} cases and {ordered} put in order: {agreed}"
+    ));
     assert!(agreed.all_met(), "{agreed}");
 }
 

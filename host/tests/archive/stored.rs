@@ -1,7 +1,7 @@
 //! Stored inputs of the program `typeask` with what it prints, and stored calls: the sample in `testdata`, which
 //! tools/host_sample.py makes, and the vectors where they are at hand.
 
-use crate::due::{self, Due};
+use crate::due::{self, ordered, Due};
 use std::io::{self, Write};
 use std::path::{Path, PathBuf};
 use std::{env, fs};
@@ -11,6 +11,31 @@ pub struct Case {
     pub input: Vec<u8>,
     pub output: Vec<u8>,
     pub name: String,
+}
+
+impl Case {
+    /// The case with what is due now, where that can be told.
+    fn now(self, due: Due) -> Option<Case> {
+        let output = due(&self.input, &self.output)?;
+        Some(Case { output, ..self })
+    }
+
+    /// The case put in order, if its packages are not.
+    fn ordered(&self) -> Option<Case> {
+        let (input, output) = ordered::case(&self.input, &self.output)?;
+        let name = format!("{}, in order", self.name);
+        Some(Case {
+            input,
+            output,
+            name,
+        })
+    }
+
+    /// Whether something else than refusals is printed.
+    fn is_answered(&self) -> bool {
+        let mut lines = self.output.split_inclusive(|&b| b == b'\n');
+        lines.any(|line| !line.starts_with(b"refused\t"))
+    }
 }
 
 /// The folder of the base's vectors, if it is at hand: `TYPEASK_VECTORS`, or `../shared/vectors`.
@@ -68,24 +93,25 @@ pub fn cases() -> Vec<Case> {
     cases
 }
 
-/// The cases of a pair of files with what is due now, where that can be told; says how many these are.
+/// The cases of a pair of files with what is due now, where that can be told, and those that are refused by 14 also put in
+/// order; says how many these are.
 fn due_of(folder: &Path, name: &str, due: Due) -> Vec<Case> {
     let stored = cases_of(folder, name);
     let count = stored.len();
-    let now = |case: Case| {
-        let output = due(&case.input, &case.output)?;
-        Some(Case { output, ..case })
-    };
-    let cases: Vec<Case> = stored.into_iter().filter_map(now).collect();
-    let order = cases
-        .iter()
-        .filter(|case| case.output.starts_with(b"refused\t14\t"));
+    let in_order = stored.iter().filter_map(Case::ordered);
+    let in_order: Vec<Case> = in_order.filter_map(|case| case.now(due)).collect();
+    let cases = stored.into_iter().filter_map(|case| case.now(due));
+    let cases: Vec<Case> = cases.collect();
+    let refused = |case: &&Case| case.output.starts_with(b"refused\t14\t");
+    let answered = |case: &&Case| case.is_answered();
     say(&format!(
-        "{name}: {} of {count} cases, {} refused by 14",
+        "{name}: {} of {count} cases, {} refused by 14; {} put in order, {} of them answered",
         cases.len(),
-        order.count()
+        cases.iter().filter(refused).count(),
+        in_order.len(),
+        in_order.iter().filter(answered).count(),
     ));
-    cases
+    cases.into_iter().chain(in_order).collect()
 }
 
 /// The stored calls of the sample, a line each.

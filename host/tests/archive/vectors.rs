@@ -1,6 +1,6 @@
 //! What `typeask` prints, put together from calls, against what is stored.
 
-use crate::due;
+use crate::due::{self, ordered::Order};
 use crate::lent::asked;
 use crate::stored::{base_calls, calls, cases, say};
 use crate::typeask;
@@ -20,6 +20,39 @@ fn typeask_prints_what_is_stored() {
     say(&format!("{} cases: {words:?}", cases.len()));
     let all = words.iter().eq(&typeask::WORDS);
     assert!(all, "not every answer and refusal");
+}
+
+/// Lines that `/` ends each, with blanks for tabs.
+fn text(lines: &str) -> Vec<u8> {
+    let text = lines.replace(' ', "\t").replace('/', "\n");
+    text.into_bytes()
+}
+
+/// Paths that recur, members with and without a package, questions with one of the table, none, one that it lacks, and one of
+/// wrong form.
+#[test]
+fn a_case_is_put_in_order_as_it_is_meant() {
+    let input = text(
+        "typetable 1/P b/P a/P b/T basic 2/T struct/F x 0 0 0/F x 1 0 0 tag/F Y - 0 0/\
+        T tuple/T func 0 2 2/T named 1/M m 2 3 0/\
+        Q/S 1 0 2 x/S 1 0 1 x/S 4 0 0 m/S 1 0 - Y/S 1 0 3 x/S 1 0 01 x/V",
+    );
+    let ordered = text(
+        "typetable 1/P a/P b/T basic 2/T struct/F x 1 0 0/F x 0 0 0 tag/F Y - 0 0/\
+        T tuple/T func 0 2 2/T named 1/M m 1 3 0/\
+        Q/S 1 0 1 x/S 1 0 0 x/S 4 0 1 m/S 1 0 - Y/S 1 0 2 x/S 1 0 01 x/V",
+    );
+    let answers = "entry 0 0 0/entry 1 0 1/entry 3 0 0/entry 2 0 2/refused 11 0/refused 11 0/";
+    let [output, due] =
+        ["ok 3 5 4/", "ok 2 5 4/"].map(|counts| text(&format!("{answers}{counts}")));
+    let order = Order::of(&input, &output).expect("it is out of order");
+    assert_eq!(order.input(&input), ordered);
+    assert_eq!(order.output(&output), due);
+    assert_eq!(order.output(&text("refused 9 8/")), text("refused 9 7/"));
+    assert_eq!(typeask::print(&ordered, asked), due);
+    let known = |output| Order::of(&input, &text(output)).is_some();
+    let (sixth, fourteenth) = (known("refused 6 5/"), known("refused 14 3/"));
+    assert!(!sixth && !fourteenth && Order::of(&ordered, &due).is_none());
 }
 
 /// A stored call: table and question, the answer buffer's length, the number that comes back, the answer.
@@ -52,19 +85,38 @@ impl Call<'_> {
     fn due(self) -> Option<Self> {
         let printed = self.printed();
         let due = due::of_base(&self.table, &printed)?;
-        if due == printed {
-            return Some(self);
-        }
-        let fields = str::from_utf8(&due).expect("text").trim_end().split('\t');
-        let numbers: Vec<i64> = fields.skip(1).flat_map(str::parse).collect();
-        let [number, line] = numbers[..] else {
-            panic!("a refusal: {}", due.escape_ascii());
-        };
-        Some(Call {
-            number: -(number * 65_536 + line),
-            answer: Vec::new(),
-            ..self
+        Some(if due == printed {
+            self
+        } else {
+            self.giving(due)
         })
+    }
+
+    /// The call put in order, if its packages are not. What 13 refuses stays so: V's count may be shorter by a digit, but the
+    /// stored room that is too short for it is empty.
+    fn ordered(&self) -> Option<Self> {
+        let printed = self.printed();
+        let order = Order::of(&self.table, &printed)?;
+        let call = Call {
+            table: order.input(&self.table),
+            question: order.question(&self.question),
+            answer: Vec::new(),
+            ..*self
+        };
+        call.giving(order.output(&printed)).due()
+    }
+
+    /// The call with what comes back, as `typeask` prints it.
+    fn giving(self, printed: Vec<u8>) -> Self {
+        let (number, answer) = match printed.strip_prefix(b"refused\t") {
+            Some(fields) => (returned(fields), Vec::new()),
+            None => (printed.len() as i64, printed),
+        };
+        Call {
+            number,
+            answer,
+            ..self
+        }
     }
 
     /// What comes back, as `typeask` prints it.
@@ -96,6 +148,16 @@ impl Call<'_> {
     }
 }
 
+/// The number that comes back for a refusal, of its number and line with a tab between.
+fn returned(refusal: &[u8]) -> i64 {
+    let fields = str::from_utf8(refusal).expect("text").trim_end();
+    let numbers: Vec<i64> = fields.split('\t').flat_map(str::parse).collect();
+    let [number, line] = numbers[..] else {
+        panic!("a refusal: {fields}");
+    };
+    -(number * 65_536 + line)
+}
+
 /// The bytes that hexadecimal digits stand for; `-` for none.
 fn bytes(digits: &str) -> Vec<u8> {
     if digits == "-" {
@@ -108,7 +170,14 @@ fn bytes(digits: &str) -> Vec<u8> {
 #[test]
 fn stored_calls_return_what_is_stored() {
     let (sample, base) = (calls(), base_calls().unwrap_or_default());
-    let base = base.lines().map(Call::of).filter_map(Call::due);
+    let base: Vec<Call> = base.lines().map(Call::of).collect();
+    let in_order: Vec<Call> = base.iter().filter_map(Call::ordered).collect();
+    let (ordered, answered) = (in_order.len(), in_order.iter().filter(|c| c.number >= 0));
+    say(&format!(
+        "{ordered} calls put in order, {} of them answered",
+        answered.count()
+    ));
+    let base = base.into_iter().filter_map(Call::due).chain(in_order);
     let calls: Vec<Call> = base.chain(sample.lines().map(Call::of)).collect();
     calls.iter().for_each(Call::run);
     let answered = |by: &[u8]| {

@@ -4,6 +4,8 @@
 // Each test takes what it needs.
 #![allow(dead_code)]
 
+pub mod ordered;
+
 /// What is due for an input, given what was printed for it; nothing where that can't be told.
 pub type Due = fn(&[u8], &[u8]) -> Option<Vec<u8>>;
 
@@ -30,10 +32,9 @@ pub fn of_point_2(input: &[u8], output: &[u8]) -> Option<Vec<u8>> {
 /// With points 1 to 4. By point 5 a table whose lines have all passed 4, 5 and 6 is refused by 14 where its packages are out
 /// of order, whatever was printed for it before.
 pub fn of_point_4(input: &[u8], output: &[u8]) -> Option<Vec<u8>> {
-    let passed = !(2..=6).any(|number| is_refused_by(output, number));
-    match disorder(input) {
-        Some(line) if passed => Some(format!("refused\t14\t{line}\n").into_bytes()),
-        _ => of_point_5(input, output),
+    match disorder(input, output) {
+        Some(line) => Some(format!("refused\t14\t{line}\n").into_bytes()),
+        None => of_point_5(input, output),
     }
 }
 
@@ -42,13 +43,19 @@ pub fn of_point_5(_input: &[u8], output: &[u8]) -> Option<Vec<u8>> {
     Some(output.to_vec())
 }
 
-/// The first P line, of those that stand right behind the first line, whose path is not above the one before.
-fn disorder(input: &[u8]) -> Option<usize> {
-    let lines = input.split(|&b| b == b'\n').zip(1..).skip(1);
-    let packages = lines.map_while(|(line, n)| Some((line.strip_prefix(b"P\t")?, n)));
-    let packages: Vec<(&[u8], usize)> = packages.collect();
-    let falls = |pair: &&[(&[u8], usize)]| pair[1].0 <= pair[0].0;
-    packages.windows(2).find(falls).map(|pair| pair[1].1)
+/// The line that point 5 refuses, of a table that 2 to 6 do not: the first package whose path is not above the one before.
+fn disorder(input: &[u8], output: &[u8]) -> Option<usize> {
+    let passed = !(2..=6).any(|number| is_refused_by(output, number));
+    let paths = packages(input);
+    let fall = paths.windows(2).position(|pair| pair[1] <= pair[0]);
+    // the first two packages are on the lines 2 and 3
+    fall.filter(|_| passed).map(|before| before + 3)
+}
+
+/// The paths of the P lines that stand right behind the first line.
+fn packages(input: &[u8]) -> Vec<&[u8]> {
+    let lines = input.split(|&b| b == b'\n').skip(1);
+    lines.map_while(|line| line.strip_prefix(b"P\t")).collect()
 }
 
 fn is_refused_by(output: &[u8], number: usize) -> bool {
