@@ -7,15 +7,17 @@
 VECTORS has the base's small, mixed and damaged (.in and .out): inputs of typeask with what it prints. Every k-th is taken of those that document 02 leaves as
 they are or refuses by 14; what a bound refused is not among them. VECTORS02 has the pairs 1, 2, 4 and 5, with points 1 to that number in force: the first cases of
 5, worked out by hand, are all taken, then every k-th and those with two ways of all four, where points after their own leave them as they are or refuse them by 14.
-The edges of document 01 are added, at the bounds of document 02, and tables of packages in order and out of it; what is due for them is said here, with the sentence
-of document 01 or 02 that decides it, and no program is asked. RANDOM has random and damaged tables with one question each, and what goscript's answers without the
-two departures of a method set and the papers' refusals give for them, none of it `ambiguous`. CRATES/typeask_run gets all of it, each input behind its length and
-each print behind its number; CRATES/typeask gets the example of document 01 alone.
+Every k-th short case of both that 14 refuses is also taken with its packages put in order, where the points before 5 leave it as it is. The edges of document 01 are
+added, at the bounds of document 02, and tables of packages in order and out of it; what is due for them is said here, with the sentence of document 01 or 02 that
+decides it, and no program is asked. RANDOM has random and damaged tables with one question each, and what goscript's answers without the two departures of a method
+set and the papers' refusals give for them, none of it `ambiguous`. CRATES/typeask_run gets all of it, each input behind its length and each print behind its number;
+CRATES/typeask gets the example of document 01 alone.
 """
 import sys
 
 from bounds import MEMBERS, OF_ONE, PACKAGES, QUESTION, TEXT, TYPES, full_structs
 from inputs import HEAD, asked, lines, refused, table
+from ordered import ordered
 from orders import orders
 from sets import set_edges, set_of
 from vectors import BY_HAND, base, of_points, read
@@ -32,6 +34,11 @@ def sample(vectors, vectors02):
             chosen.append(case)
     # no more than a byte above the bound of an input is read
     return [(text[:TEXT + 1], print_) for text, print_ in chosen]
+
+
+def put_in_order(vectors, vectors02):
+    """Some short cases that 14 refuses as they are stored."""
+    return [case for case in ordered(vectors, vectors02) if len(case[0]) <= 900][::3]
 
 
 def random(path):
@@ -364,7 +371,7 @@ def words(rows):
 def main():
     vectors, vectors02, stored, crates = sys.argv[1:5]
     edges = input_edges() + bound_edges() + set_edges() + way_edges() + number_edges() + put_off_edges() + refusal_edges() + order_edges() + more_edges()
-    rows = edges + sample(vectors, vectors02) + random(stored)
+    rows = edges + sample(vectors, vectors02) + random(stored) + put_in_order(vectors, vectors02)
     with open(f'{crates}/typeask_run/stdin', 'wb') as inputs, open(f'{crates}/typeask_run/stdout', 'wb') as prints:
         for k, (text, print_) in enumerate(rows):
             inputs.write(b'%05d\n' % len(text) + text)

@@ -25,9 +25,14 @@ def past_bound(print_):
     return refused_by(print_, 2, 6)
 
 
+def packages(text):
+    """The P lines right behind the first line."""
+    return list(takewhile(lambda line: line.startswith(b'P\t'), text.split(b'\n')[1:]))
+
+
 def disorder(text):
-    """The first P line, of those right behind the first line, whose path is not above the one before; None if there is none."""
-    lines = list(takewhile(lambda line: line.startswith(b'P\t'), text.split(b'\n')[1:]))
+    """The first of these whose path is not above the one before, by its line; None if there is none."""
+    lines = packages(text)
     return next((k + 2 for k in range(1, len(lines)) if lines[k] <= lines[k - 1]), None)
 
 
@@ -44,6 +49,13 @@ def left_as_is(print_):
     """Whether points 1 to 4 leave as it is what the base gave: no answer `ambiguous`, which point 1 changes, no method set that lists something, and no table that a
     bound refused, also where that bound is one that stays."""
     return b'\nambiguous\t' not in b'\n' + print_ and not lists(print_) and not past_bound(print_)
+
+
+def stays(name, print_):
+    """Whether points up to 4, of those after a pair's own, leave as it is what the pair has."""
+    if name not in ('1', '2', '4'):
+        return left_as_is(print_)
+    return name == '4' or not past_bound(print_) and (name == '2' or not lists(print_))
 
 
 def base(vectors, name):
@@ -63,7 +75,7 @@ def of_points(vectors02):
     for name in '4', '2', '1':
         for text, print_ in cases(vectors02, name):
             text, print_ = in_order(text, print_)
-            if name == '4' or not past_bound(print_) and (name == '2' or not lists(print_)):
+            if stays(name, print_):
                 chosen.setdefault(text, print_)
     return list(chosen.items())
 
