@@ -11,8 +11,8 @@ use Rattle.objects.specs.Table.{Table, typeKey, objKey, packageKey, Field, Meth
 use Rattle.text.specs.Bytes.{ascii}
 use Rattle.rules.specs.Load.{load, loaded}
 use Rattle.rules.specs.Rows.{called}
-use Rattle.growth.specs.Grown.{pathAt, knownAs, Numbers, Grew, grew-tuple, grew-func, grew-iface, grew-pointer, grew-struct, grew-named, GrownTexts}
-use Rattle.growth.specs.Incident.{alone, both, three, elsewhere, own}
+use Rattle.growth.specs.Grown.{pathAt, knownAs, Numbers, Grew, grew-basic, grew-tuple, grew-func, grew-iface, grew-pointer, grew-struct, grew-named, GrownTexts}
+use Rattle.growth.specs.Incident.{alone, both, three, elsewhere, own, apart, between}
 use Rattle.growth.proofs.Shown.{free-by, shift, shift-in, member-own, of-one}
 use Rattle.growth.proofs.Disk.{line, writer, catalogue, writer-loads, catalogue-loads}
 
@@ -186,5 +186,62 @@ three-grown = record {
     memberOwn = λ m o h k e. member-own 4 1 m o e;
     paths = λ p h. of-one (λ q. In (pathAt catalogue q) (taping .packages)) p h (inl refl);
     grew = λ t h. taping-grew (t .0) h;
+  };
+}
+
+-- ---- a package between two old ones
+
+abbrev pub firstAndLast : Table
+firstAndLast =
+    withPackages (ascii "a" ∷ ascii "c" ∷ [])
+    (withTypes (Basic 2 ∷ Struct (line 0 "x" 1 0 (Field false []) ∷ []) ∷ [])
+    (withTypeLines (4 ∷ 5 ∷ [])
+    (withMemberLines (6 ∷ []) noTable)))
+
+abbrev pub allThree : Table
+allThree =
+    withPackages (ascii "a" ∷ ascii "b" ∷ ascii "c" ∷ [])
+    (withTypes (Basic 2 ∷ Struct (line 0 "x" 2 0 (Field false []) ∷ []) ∷ [])
+    (withTypeLines (5 ∷ 6 ∷ [])
+    (withMemberLines (7 ∷ []) noTable)))
+
+-- package 1 becomes package 2, as its path says; all other numbers stay
+abbrev pub byPath : Numbers
+byPath = record { pk = knownAs firstAndLast allThree; ty = λ t. t; mem = λ m. m }
+
+pub between-grew : (t : ℕ) → t < 2 → Grew byPath firstAndLast (typeKey t) (kindAt firstAndLast (typeKey t)) (kindAt allThree (typeKey t))
+unfolding kindAt
+between-grew zero h = grew-basic
+between-grew (suc zero) h = grew-struct [] refl (inl refl)
+between-grew (suc (suc t)) h = absurd (omega arith)
+
+pub between-paths : (p : ℕ) → p < 2 → In (pathAt firstAndLast (packageKey p)) (allThree .packages)
+between-paths zero h = inl refl
+between-paths (suc zero) h = inr (inr (inl refl))
+between-paths (suc (suc p)) h = absurd (omega arith)
+
+pub apart-loads : load apart ≡ loaded firstAndLast
+unfolding called
+apart-loads = refl
+
+pub between-loads : load between ≡ loaded allThree
+unfolding called
+between-loads = refl
+
+unfoldable pub between-grown : GrownTexts apart between
+between-grown = record {
+  old = firstAndLast;
+  new = allThree;
+  oldLoads = apart-loads;
+  newLoads = between-loads;
+  numbers = byPath;
+  grown = record {
+    packageKnown = λ p h. refl;
+    typeIn = λ t h. h;
+    typeOwn = λ t u h k e. e;
+    memberIn = λ m h. h;
+    memberOwn = λ m o h k e. e;
+    paths = λ p h. between-paths (p .0) h;
+    grew = λ t h. between-grew (t .0) h;
   };
 }

@@ -21,7 +21,7 @@ use Rattle.growth.specs.Calls.{carryQuestion, Lent, oldBytes, newBytes, 
 use Rattle.growth.specs.Incident.{Again, rows, noGrowth}
 use Rattle.growth.proofs.Promised.{grown-calls}
 use Rattle.growth.proofs.Disk.{disk-grown}
-use Rattle.growth.proofs.Growths.{elsewhere-grown, own-grown, three-grown}
+use Rattle.growth.proofs.Growths.{elsewhere-grown, own-grown, three-grown, between-grown}
 
 -- what the rows' calls are lent beside the table
 abbrev lent : Case → Lent
@@ -67,7 +67,7 @@ abbrev closes : (t i : ℕ) → Question
 closes t i = askN (typeKey t) (typeKey i) true
 
 pub instances : List Instance
-unfolding called elsewhere-grown disk-grown own-grown three-grown
+unfolding called elsewhere-grown disk-grown own-grown three-grown between-grown
 instances =
     put (row 0) elsewhere-grown (select 5 true "Close") refl refl refl refl refl
     ∷ put (row 1) elsewhere-grown (select 5 true "BlockWriter") refl refl refl refl refl
@@ -81,6 +81,7 @@ instances =
     ∷ put (row 9) elsewhere-grown (closes 6 7) refl refl refl refl refl
     ∷ put (row 10) own-grown (closes 6 7) refl refl refl refl refl
     ∷ put (row 11) disk-grown (closes 6 7) refl refl refl refl refl
+    ∷ put (row 12) between-grown (askS (typeKey 1) true (some (packageKey 1)) (ascii "x")) refl refl refl refl refl
     ∷ []
 
 -- EVERY ROW IS AN INSTANCE

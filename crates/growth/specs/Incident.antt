@@ -83,6 +83,25 @@ own =
     "T pointer 5" ⏎
     "T iface" ⏎ "M Close 0 1 0" ⏎ []
 
+-- a struct (1) with a field of the second of two packages
+abbrev pub apart : Bytes
+apart =
+    "typetable 1" ⏎
+    "P a" ⏎
+    "P c" ⏎
+    "T basic 2" ⏎
+    "T struct" ⏎ "F x 1 0 0" ⏎ []
+
+-- a package is put in between the two
+abbrev pub between : Bytes
+between =
+    "typetable 1" ⏎
+    "P a" ⏎
+    "P b" ⏎
+    "P c" ⏎
+    "T basic 2" ⏎
+    "T struct" ⏎ "F x 2 0 0" ⏎ []
+
 -- an old library and its growth, a question and what is due, the question put again and what is due
 pub record Again : Type 0 where
   pub before : Case
@@ -114,6 +133,8 @@ rows =
     ∷ again alone "N 6 7 1" ("satisfied" ⏎ []) elsewhere "N 7 8 1" ("satisfied" ⏎ [])
     ∷ again alone "N 6 7 1" ("satisfied" ⏎ []) own "N 6 7 1" ("satisfied" ⏎ [])
     ∷ again alone "N 6 7 1" ("satisfied" ⏎ []) both "N 8 9 1" ("missing 4 0" ⏎ [])
+    -- "an old package is then known by its path", also behind one that was put in between
+    ∷ again apart "S 1 1 1 x" ("entry 0 0 0" ⏎ []) between "S 1 1 2 x" ("entry 0 0 0" ⏎ [])
     ∷ []
 
 -- ---- why no old line may refer to a struct that gets fields
