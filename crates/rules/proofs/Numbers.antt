@@ -16,7 +16,7 @@ use Rattle.objects.proofs.ListLaws.{cases}
 use Rattle.rules.specs.Load.{Loaded, refused, loaded, load}
 use Rattle.rules.specs.Question.{Question, questionOf}
 use Rattle.rules.specs.Answer.{answer, answerBytes}
-use Rattle.rules.specs.Asked.{Outcome, refuse, say, fitted, wrongSecond, answered, outcomeOf, outcomeWithin, outcome, refusal, numberOf, written, askedWithin, asked}
+use Rattle.rules.specs.Asked.{Outcome, refuse, say, fitted, wrongSecond, repliedTo, replied, onTable, outcomeWithin, outcome, refusal, numberOf, written, given, askedWithin, asked}
 use Rattle.rules.proofs.CheckLaws.{OfTable, Right, load-right}
 
 -- ---- loading
@@ -43,23 +43,30 @@ abbrev Bounded : ℕ → Outcome → Type 0
 Bounded room (refuse n line) = (2 ≤ n) × (n ≤ lastRefusal) × (line < refusalUnit)
 Bounded room (say bytes) = length bytes ≤ room
 
-answered-bounded : (T : Table) (room : ℕ) (q : Option Question) → Bounded room (answered T room q)
-answered-bounded T room none = (omega arith, omega arith, omega arith)
-answered-bounded T room (some q) =
-    cases (wrongSecond T q)
-    (λ e. rw e (omega arith, omega arith, omega arith))
-    (λ e. rw e (fits (answerBytes (answer T q))))
+abbrev Refuses : Outcome → Type 0
+Refuses (refuse n line) = (2 ≤ n) × (n ≤ lastRefusal) × (line < refusalUnit)
+Refuses (say bytes) = Unit {0}
+
+replied-refuses : (T : Table) (q : Option Question) → Refuses (repliedTo T q)
+replied-refuses T none = (omega arith, omega arith, omega arith)
+replied-refuses T (some q) = cases (wrongSecond T q) (λ e. rw e (omega arith, omega arith, omega arith)) (λ e. rw e tt)
+
+fitted-bounded : (room : ℕ) (o : Outcome) → Refuses o → Bounded room (fitted room o)
+fitted-bounded room (refuse n line) h = h
+fitted-bounded room (say bytes) h = cases (ltb room (length bytes)) (λ e. rw e (omega arith, omega arith, omega arith)) (λ e. rw e (ltb-false room (length bytes) e))
+
+-- a table's refusal, or what is said of it
+table-refuses : (said : Table → Outcome) → ((T : Table) → Refuses (said T)) → (table : Bytes) → Refuses (onTable said (load table))
+unfolding onTable
+table-refuses said h table = go (load table) (load-right table)
   where
-    fits : (bytes : Bytes) → Bounded room (fitted room bytes)
-    fits bytes = cases (ltb room (length bytes)) (λ e. rw e (omega arith, omega arith, omega arith)) (λ e. rw e (ltb-false room (length bytes) e))
+    go : (L : Loaded) → Right bounds refusalUnit L → Refuses (onTable said L)
+    go (refused n line) r = let k = table-bound n (r .0) in (k .0, k .1, r .1)
+    go (loaded T) r = h T
 
 outcome-bounded : (table question : Bytes) (room : ℕ) → Bounded room (outcome table question room)
-unfolding outcomeWithin outcomeOf
-outcome-bounded table question room = go (load table) (load-right table)
-  where
-    go : (L : Loaded) → Right bounds refusalUnit L → Bounded room (outcomeOf L question room)
-    go (refused n line) r = let h = table-bound n (r .0) in (h .0, h .1, r .1)
-    go (loaded T) r = answered-bounded T room (questionOf T question)
+unfolding outcomeWithin
+outcome-bounded table question room = fitted-bounded room (onTable (replied question) (load table)) (table-refuses (replied question) (λ T. replied-refuses T (questionOf T question)) table)
 
 -- a call that reads the table refuses by 2 or more, up to the last
 pub outcome-bound : (table question : Bytes) (room n line : ℕ) → outcome table question room ≡ refuse n line → (2 ≤ n) × (n ≤ lastRefusal) × (line < refusalUnit)

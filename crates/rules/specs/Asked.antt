@@ -19,8 +19,9 @@ pub data Outcome : Type 0 where
   say : Bytes → Outcome
 
 -- 13: "The answer is longer than the answer buffer."
-abbrev pub fitted : ℕ → Bytes → Outcome
-fitted room bytes = cond (ltb room (length bytes)) (refuse 13 0) (say bytes)
+abbrev pub fitted : ℕ → Outcome → Outcome
+fitted room (refuse n line) = refuse n line
+fitted room (say bytes) = cond (ltb room (length bytes)) (refuse 13 0) (say bytes)
 
 -- 12: "The second type of an N question is not itself of kind iface."
 abbrev pub wrongSecond : Table → Question → Bool
@@ -31,18 +32,23 @@ wrongSecond T (askN t i s) = not (isIface (kindAt T i))
 wrongSecond T (askI x y) = false
 wrongSecond T askV = false
 
--- 11, 12, 13
-abbrev pub answered : Table → ℕ → Option Question → Outcome
-answered T room none = refuse 11 0
-answered T room (some q) = cond (wrongSecond T q) (refuse 12 0) (fitted room (answerBytes (answer T q)))
+-- 11, 12
+abbrev pub repliedTo : Table → Option Question → Outcome
+repliedTo T none = refuse 11 0
+repliedTo T (some q) = cond (wrongSecond T q) (refuse 12 0) (say (answerBytes (answer T q)))
 
-unfoldable pub outcomeOf : Loaded → Bytes → ℕ → Outcome
-outcomeOf (refused n line) question room = refuse n line
-outcomeOf (loaded T) question room = answered T room (questionOf T question)
+-- what is said to a question line, whatever the room
+abbrev pub replied : Bytes → Table → Outcome
+replied question T = repliedTo T (questionOf T question)
+
+-- the refusal of a table, or what is said of it
+unfoldable pub onTable : (Table → Outcome) → Loaded → Outcome
+onTable said (refused n line) = refuse n line
+onTable said (loaded T) = said T
 
 -- refusals 2 to 13, "in this order"
 unfoldable pub outcomeWithin : Bounds → Bytes → Bytes → ℕ → Outcome
-outcomeWithin b table question room = outcomeOf (loadWithin b table) question room
+outcomeWithin b table question room = fitted room (onTable (replied question) (loadWithin b table))
 
 abbrev pub outcome : Bytes → Bytes → ℕ → Outcome
 outcome table question room = outcomeWithin bounds table question room
@@ -66,12 +72,14 @@ pub record Asked : Type 0 where
   pub work : List ℕ
 
 -- 1: "The work area has fewer words than the number the team fixes". "The work area is zero on every return except after refusal 1, which leaves it unchanged."
-unfoldable pub askedWithin : Bounds → Bytes → Bytes → Bytes → List ℕ → Asked
-askedWithin b table question buffer work =
+abbrev pub given : Outcome → Bytes → List ℕ → Asked
+given o buffer work =
     cond (ltb (length work) workWords)
     (record { number = refusal 1 0; answer = buffer; work = work })
-    (let o = outcomeWithin b table question (length buffer) in
-    record { number = numberOf o; answer = written o buffer; work = replicate (length work) 0 })
+    (record { number = numberOf o; answer = written o buffer; work = replicate (length work) 0 })
+
+unfoldable pub askedWithin : Bounds → Bytes → Bytes → Bytes → List ℕ → Asked
+askedWithin b table question buffer work = given (outcomeWithin b table question (length buffer)) buffer work
 
 abbrev pub asked : Bytes → Bytes → Bytes → List ℕ → Asked
 asked table question buffer work = askedWithin bounds table question buffer work

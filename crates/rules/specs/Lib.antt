@@ -15,6 +15,7 @@ pub mod Missing
 pub mod Question
 pub mod Answer
 pub mod Asked
+pub mod AskedAll
 pub mod Typeask
 pub mod Rows
 pub mod Worked

@@ -5,7 +5,7 @@ use Prim.Native.String.{String}
 use lib.ListN.{replicate}
 use Rattle.objects.specs.Bounds.{maxPackages, maxTypes, maxPerType, maxText, Bounds}
 use Rattle.objects.specs.Lists.{Bytes}
-use Rattle.rules.specs.Typeask.{refusedBytes}
+use Rattle.rules.specs.AskedAll.{refusedBytes}
 use Rattle.rules.specs.Rows.{Run, run, whole, bad, table, _⏎_, spaced}
 use Rattle.rules.specs.Worked.{office}
 

@@ -25,8 +25,9 @@ use Rattle.rules.specs.MethodSet.{methodFlag, callable, onlyMethod, meth
 use Rattle.rules.specs.Missing.{unmet, missing}
 use Rattle.rules.specs.Question.{questionForm, questionOf}
 use Rattle.rules.specs.Answer.{answer, answerBytes}
-use Rattle.rules.specs.Asked.{Asked, outcomeOf, outcomeWithin, refusal, numberOf, written, askedWithin, asked}
-use Rattle.rules.specs.Typeask.{inputOf, typeaskWithin, typeask}
+use Rattle.rules.specs.Asked.{Asked, onTable, outcomeWithin, refusal, numberOf, written, askedWithin, asked}
+use Rattle.rules.specs.AskedAll.{questionLines, replyBytes, outcomeAllWithin, askedAllWithin, askedAll}
+use Rattle.rules.specs.Typeask.{inputOf, printedOne, typeaskWithin, typeask}
 
 -- ---- texts
 
@@ -46,7 +47,7 @@ table lines = "typetable 1" ⏎ lines
 
 -- Everything that is computed: what is opened here is open where `called` and `prints` are.
 unfoldable opened : Bytes → Bytes
-unfolding isName isBlank isPath isTag exported valueFrom isNumeral number digitsOn decimal split pieces fields kindAt pathOf under bare pointerAt ifaceUnder namedPointer allMethods identityFrom identityOf sameId idBytes kindForm lineForm lineOf leads realType ownNumber parts mismatch pairParts identical itemsFrom lineOfItem lacking forbidden clashing containing pathItems unordered added plusPackage plusType plusMember linesFrom firstLine staged checked loadWithin comparableKind comparableIn comparable owned onward walks ways shortestFrom shortest searched select methodFlag callable onlyMethod methodNames methodSet unmet missing questionForm questionOf answer answerBytes outcomeOf outcomeWithin refusal numberOf written askedWithin inputOf typeaskWithin
+unfolding isName isBlank isPath isTag exported valueFrom isNumeral number digitsOn decimal split pieces fields kindAt pathOf under bare pointerAt ifaceUnder namedPointer allMethods identityFrom identityOf sameId idBytes kindForm lineForm lineOf leads realType ownNumber parts mismatch pairParts identical itemsFrom lineOfItem lacking forbidden clashing containing pathItems unordered added plusPackage plusType plusMember linesFrom firstLine staged checked loadWithin comparableKind comparableIn comparable owned onward walks ways shortestFrom shortest searched select methodFlag callable onlyMethod methodNames methodSet unmet missing questionForm questionOf answer answerBytes onTable outcomeWithin refusal numberOf written askedWithin questionLines replyBytes outcomeAllWithin askedAllWithin inputOf printedOne typeaskWithin
 opened b = b
 
 -- ---- a call

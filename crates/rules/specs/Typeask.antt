@@ -1,27 +1,21 @@
 -- The program: all that it prints for all that it reads.
 use mathlib.Core.Bool.{true, false, cond}
 use mathlib.Core.List.{List, [], _∷_, _++_}
-use Prim.Native.Nat.{ℕ}
 use lib.Dec.{ltb}
 use lib.ListN.{length}
 use Rattle.objects.specs.Bounds.{programAnswer, Bounds, bounds}
-use Rattle.objects.specs.Lists.{Bytes, flat, empty}
-use Rattle.text.specs.Bytes.{ascii, decimal, sameBytes}
+use Rattle.objects.specs.Lists.{Bytes, flat}
+use Rattle.objects.specs.Table.{Table}
+use Rattle.text.specs.Bytes.{ascii, sameBytes}
 use Rattle.text.specs.Lines.{pieces}
 use Rattle.rules.specs.Load.{Loaded, refused, loaded, loadWithin}
-use Rattle.rules.specs.Answer.{lineBytes}
-use Rattle.rules.specs.Asked.{Outcome, refuse, say, outcomeOf}
+use Rattle.rules.specs.Asked.{fitted, replied}
+use Rattle.rules.specs.AskedAll.{questionsOf, refusedBytes, printed}
 
 -- table text and questions
 pub record Input : Type 0 where
   pub table : Bytes
   pub questions : List Bytes
-
--- "The last question may lack its newline": what stands behind the last newline is a question unless it is empty
-abbrev pub questionsOf : List Bytes → List Bytes
-questionsOf [] = []
-questionsOf (last ∷ []) = cond (empty last) [] (last ∷ [])
-questionsOf (q ∷ next ∷ rest) = q ∷ questionsOf (next ∷ rest)
 
 abbrev pub putLine : Bytes → Input → Input
 putLine l i = record { table = l ++ (10 ∷ i .table); questions = i .questions }
@@ -35,18 +29,14 @@ inputOf (line ∷ next ∷ rest) = elim (sameBytes line (ascii "Q")) [
   | false ↦ putLine line (inputOf (next ∷ rest))
 ]
 
-abbrev pub refusedBytes : ℕ → ℕ → Bytes
-refusedBytes n line = lineBytes (ascii "refused") (decimal n ∷ decimal line ∷ [])
-
--- "It prints the answers .. or `refused` number line"
-abbrev pub printed : Outcome → Bytes
-printed (refuse n line) = refusedBytes n line
-printed (say bytes) = bytes
+-- "It prints the answers, with a 16,384-byte answer buffer, or `refused` number line"
+unfoldable pub printedOne : Table → Bytes → Bytes
+printedOne T question = printed (fitted programAnswer (replied question T))
 
 -- "once and alone for a refused table, even without questions"
 abbrev pub printedAll : Loaded → List Bytes → Bytes
 printedAll (refused n line) questions = refusedBytes n line
-printedAll (loaded T) questions = flat (λ q. printed (outcomeOf (loaded T) q programAnswer)) questions
+printedAll (loaded T) questions = flat (printedOne T) questions
 
 abbrev pub answeredAll : Bounds → Input → Bytes
 answeredAll b i = printedAll (loadWithin b (i .table)) (i .questions)
