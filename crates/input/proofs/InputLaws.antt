@@ -18,7 +18,8 @@ use Rattle.text.specs.Runs.{other, runLength, runEnd}
 use Rattle.text.proofs.LineLaws.{split-first}
 use Rattle.text.proofs.LineEnds.{line-run, pieces-at, line-within}
 use Rattle.text.proofs.RunLaws.{run-left}
-use Rattle.rules.specs.Typeask.{Input, inputOf, putLine, questionsOf}
+use Rattle.rules.specs.AskedAll.{questionsOf, questionLines}
+use Rattle.rules.specs.Typeask.{Input, inputOf, putLine}
 use Rattle.input.specs.declared.Parts.{Parts}
 use Rattle.input.specs.declared.Next.{Next}
 use Rattle.input.specs.Parts.{questionsAt, partsMeant, nextMeant}
@@ -107,7 +108,7 @@ module _ (s : Bytes) (at : ℕ) (within : at ≤ length s) {end : ℕ} (p : end 
 
   module _ (n : end ≡ length s → ⊥) {t : Bool} (q : t ≡ sameBytes (part s at end) (ascii "Q")) where
     pub split-until : t ≡ true → front (take at s) (inputOf (pieces (drop at s))) ≡ partsMeant s (Parts.Until at (end + 1))
-    unfolding front partsMeant questionsAt
+    unfolding front partsMeant questionsAt questionLines
     split-until e =
         let r = pieces-first (drop (end + 1) s) in
         rw (piece-on n, r .2, input-until (part s at end) (r .0) (r .1) (sym q ∙ e), append-nil (take at s))
@@ -131,7 +132,7 @@ module _ (s : Bytes) (at : ℕ) (within : at ≤ length s) {end : ℕ} (p : end 
   -- ---- the ways through `next_question`
 
   pub next-on : end < length s → questionsAt s at ≡ nextMeant s at (Next.Is end (end + 1))
-  unfolding questionsAt nextMeant
+  unfolding questionsAt questionLines nextMeant
   next-on h =
       let r = pieces-first (drop (end + 1) s) in
       rw (piece-on (λ i. let j : end ≡ length s = i in omega arith), r .2)
@@ -141,14 +142,14 @@ module _ (s : Bytes) (at : ℕ) (within : at ≤ length s) {end : ℕ} (p : end 
   part-some l = let w = end-within in rw (length-take, length-drop) (omega arith)
 
   pub next-last : length s ≤ end → at < end → questionsAt s at ≡ nextMeant s at (Next.Is end end)
-  unfolding questionsAt nextMeant pieces split
+  unfolding questionsAt questionLines nextMeant pieces split
   next-last h l =
       let w = end-within in
       let e : end ≡ length s = omega arith in
       ap questionsOf (piece-last e) ∙ last-some (part s at end) (part-some l) ∙ sym (ap (λ d. part s at end ∷ questionsOf (split 10 d)) (drop-of-length-le s h))
 
   pub next-none : length s ≤ end → end ≤ at → questionsAt s at ≡ nextMeant s at Next.None
-  unfolding questionsAt nextMeant
+  unfolding questionsAt questionLines nextMeant
   next-none h l =
       let w = end-within in
       let e : end ≡ length s = omega arith in

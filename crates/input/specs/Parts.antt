@@ -7,13 +7,14 @@ use Rattle.objects.specs.Lists.{Bytes}
 use Rattle.text.specs.Bytes.{ascii}
 use Rattle.text.specs.Lines.{pieces}
 use Rattle.text.specs.Cursors.{part}
-use Rattle.rules.specs.Typeask.{Input, inputOf, questionsOf}
+use Rattle.rules.specs.AskedAll.{questionLines}
+use Rattle.rules.specs.Typeask.{Input, inputOf}
 use Rattle.input.specs.declared.Parts.{Parts}
 use Rattle.input.specs.declared.Next.{Next}
 
 -- the questions of the input from a place on
 unfoldable pub questionsAt : Bytes → ℕ → List Bytes
-questionsAt input at = questionsOf (pieces (drop at input))
+questionsAt input at = questionLines (drop at input)
 
 -- "table, a line `Q`, questions (without `Q`, one V)"
 unfoldable pub partsMeant : Bytes → Parts → Input

@@ -5,9 +5,13 @@ ghost use Prim.Native.Nat.{_≤_};
 ghost use lib.ListN.{length};
 ghost use Rattle.multiples.specs.Records.{maxRecords, consolidated};
 use objects::TypeKey;
+use objects::bounds::MAX_TYPES;
 
 // goscript's EmbeddedType: a word for each field.
 pub const RECORD_WORDS: usize = 8;
+
+// The most records that a search is lent: two for each type.
+pub const MAX_RECORDS: usize = 2 * MAX_TYPES;
 
 pub type EmbeddedType = [u32; RECORD_WORDS];
 

@@ -9,7 +9,7 @@ use Rattle.objects.specs.Table.{Member, bit}
 use Rattle.text.specs.Bytes.{ascii}
 use Rattle.rules.specs.Ways.{Selected, notfound, badreceiver, entry, ambiguous}
 use Rattle.rules.specs.Answer.{Sel, selected, set, satisfied, lacks, says, counts, selectedBytes, selBytes, answerBytes}
-use Rattle.rules.specs.Typeask.{refusedBytes}
+use Rattle.rules.specs.AskedAll.{refusedBytes}
 use Rattle.print.specs.Written.{numberLine}
 
 pub selected-line : (s : Selected) → answerBytes (selected s) ≡ selectedBytes s

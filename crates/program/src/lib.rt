@@ -1,5 +1,5 @@
 // The program typeask between reading and writing. The input is parted into table and questions by the crate input, the table is loaded once (tables), and
-// the questions are answered one after the other (asking).
+// the questions are answered one after the other by the function that answers them for a call with many (asking, crate replies).
 ghost use mathlib.Core.Path.{_≡_};
 ghost use lib.ListN.{length};
 ghost use Rattle.rules.specs.Typeask.{typeask};
@@ -9,8 +9,7 @@ pub mod tables;
 pub mod writing;
 
 use crate::tables::open_input;
-use crate::writing::ask_all;
-use crate::writing::ask_once;
+use crate::writing::print_all;
 use crate::writing::refuse;
 use objects::bounds::ALL_WORDS;
 
@@ -21,27 +20,23 @@ pub enum Opening {
     Until(usize, usize),
 }
 
-// No question is left, or one was answered: the place behind it, and how many bytes its answer has.
-pub enum Step {
-    End,
-    Said(usize, usize),
-}
-
-// Prints all that is due for the input, `typeask input`, and answers how many bytes it handed to io::write_all: as many as are due. No contract can say
-// what was written, nor does the number say that no write failed. These say together that what is handed on is `typeask input`:
-// - `open_input`: `typeask input` is the line of a refusal, the answer to one V, or what is due from a place on (Opens);
-// - `put_refused` and `print_one`: the front of the buffer is that line, or that answer (Shows); it is written once, and nothing else is;
-// - `answer_next`: what is due from a place on is the front of the buffer and what is due from the next place on, or nothing (Steps); each front is
-//   written once, in order, until nothing is due;
-// - `show`, the one function that writes: what it writes is a piece of `typeask input` (Piece).
-// proofs/Trace.antt puts them together.
+// Prints all that is due for the input, `typeask input`. WHAT IS PROVED OF THE OUTPUT:
+// - `open_input`: `typeask input` is the line of a refusal, or what is due for the questions (Opens);
+// - `refuse`: the buffer that it hands to io::write_all is that line (Shows);
+// - `next_piece`: what is due for the questions from a place on is the front of the buffer and what is due from the next place on (Prints);
+// - `show`, the only other function that writes: what it hands to io::write_all are those bytes of what is due that stand at the place that it is told, and it
+//   answers the place behind them (Stands). The first place is 0, and each place answered is the next one told;
+// - this function answers the last place: as many bytes as are due.
+// proofs/Trace.antt puts them together: pieces each of which stands where the one before ends, up to the end, are `typeask input`. No contract can say that a
+// write happened, or that it did so once and not again: that each place is used once is to be seen in `show_all`, which calls `show` once a turn. Nor is it
+// seen whether a write failed.
 pub fn run(input: &[u8]) -> usize
     ensures { λ r. ⌜ r ≡ length (typeask (now (input .entry))) ⌝ }
 {
     let mut rows = [0u32; ALL_WORDS];
     match open_input(input, &mut rows) {
         Opening::Refused(n, line) => refuse(input, n, line),
-        Opening::Whole => ask_once(input, &rows),
-        Opening::Until(end, next) => ask_all(&input[0..end], &rows, input, next),
+        Opening::Whole => print_all(input, &rows, b"V"),
+        Opening::Until(end, next) => print_all(&input[0..end], &rows, &input[next..]),
     }
 }

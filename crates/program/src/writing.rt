@@ -1,81 +1,94 @@
-// Writes what the functions on slices give. No contract can say what was written; so each function here asks of its caller that what it is handed is due,
-// and answers how many bytes it handed to io::write_all. A write that fails is not seen: the number is then that of the bytes due, not of those written.
+// Writes what the functions on slices give. No contract can say what was written; so each function here that writes asks of its caller that what it is handed is
+// due, at its place, and answers the place behind it. A write that fails is not seen: the place is then that of the bytes due, not of those written.
 ghost use mathlib.Core.Path.{_≡_};
-ghost use Prim.Native.Nat.{_≤_};
+ghost use Prim.Native.Nat.{_+_, _*_, _≤_};
 ghost use lib.ListN.{length, take, replicate};
 ghost use Rattle.objects.specs.Bounds.{maxText, programAnswer, markWords};
-ghost use Rattle.text.specs.Bytes.{ascii};
+ghost use Rattle.objects.specs.Rows.{tableOf};
+ghost use Rattle.rules.specs.AskedAll.{refusedBytes};
 ghost use Rattle.rules.specs.Library.{Library};
-ghost use Rattle.rules.specs.Typeask.{refusedBytes, typeask};
-ghost use Rattle.program.specs.Due.{printedOne, due};
-ghost use Rattle.program.specs.Steps.{Piece, Left};
-use crate::Step;
-use crate::asking::answer_next;
-use crate::asking::print_one;
+ghost use Rattle.rules.specs.Typeask.{typeask};
+ghost use Rattle.answer.specs.Lent.{Lent};
+ghost use Rattle.program.specs.Steps.{due, Stands};
+use crate::asking::next_piece;
 use crate::asking::put_refused;
+use first_hits::FirstHit;
+use first_hits::HIT_WORDS;
+use multiples::EmbeddedType;
+use multiples::MAX_RECORDS;
+use multiples::RECORD_WORDS;
+use objects::bounds::MAX_MEMBERS;
 use objects::bounds::PROGRAM_ANSWER;
 use objects::bounds::WORK_WORDS;
 
-// The first n bytes of the buffer: a piece of all that is due for the input.
-fn show(input: &[u8], out: &[u8], n: usize) -> usize
-    requires { ⌜ (n ≤ length (now out)) × Piece (typeask (now input)) (take n (now out)) ⌝ }
-    ensures { λ r. ⌜ r ≡ n ⌝ }
-{
-    io::write_all(1, &out[0..n]);
-    n
-}
-
+// A refused table: its line is all that is due for the input.
 pub fn refuse(input: &[u8], n: u32, line: u32) -> usize
     requires { ⌜ typeask (now input) ≡ refusedBytes n line ⌝ }
     ensures { λ r. ⌜ r ≡ length (refusedBytes n line) ⌝ }
 {
     let mut out = [0u8; 64];
     let k = put_refused(n, line, &mut out);
-    show(input, &out, k)
+    io::write_all(1, &out[0..k]);
+    k
 }
 
-// Without `Q`, one V.
-pub fn ask_once(input: &[u8], rows: &[u32]) -> usize
-    requires { ⌜ Library (now input) (now rows) × (typeask (now input) ≡ printedOne (now input) (now rows) (ascii "V")) ⌝ }
-    ensures { λ r. ⌜ r ≡ length (printedOne (now (input .entry)) (now (rows .entry)) (ascii "V")) ⌝ }
+// The first n bytes of the buffer: those of all that is due for the questions which stand at this place. Answers the place behind them.
+fn show(text: &[u8], rows: &[u32], questions: &[u8], at: usize, out: &[u8], n: usize) -> usize
+    requires { ⌜ (n ≤ length (now out)) × Stands (due (tableOf (now text) (now rows)) (now questions)) at (take n (now out)) × (at + n ≤ maxText * programAnswer) ⌝ }
+    ensures { λ r. ⌜ r ≡ at + n ⌝ }
 {
-    let mut marks = [0u32; WORK_WORDS];
-    let mut out = [0u8; PROGRAM_ANSWER];
-    let n = print_one(input, rows, &mut marks, b"V", &mut out);
-    show(input, &out, n)
+    io::write_all(1, &out[0..n]);
+    at + n
 }
 
-// The questions from a place on: their answers are what is left. The buffer and the marks are the same for all of them. Each question has a byte of the
-// input for itself and an answer that fits the buffer, so the number of bytes is no more than maxText times programAnswer.
-fn ask_from(
+// Piece after piece, until nothing is due. The scratch and the buffer are the same for all of them. Each question has a byte for itself and an answer that fits the
+// buffer, so there are no more bytes than maxText times programAnswer.
+fn show_all(
     text: &[u8],
     rows: &[u32],
     marks: &mut [u32],
-    input: &[u8],
-    from: usize,
+    walk: &mut [EmbeddedType],
+    hits: &mut [FirstHit],
+    words: &mut [u32],
+    questions: &[u8],
     out: &mut [u8],
 ) -> usize
-    requires { ⌜ Library (now text) (now rows) × (markWords ≤ length (now marks)) × (now marks ≡ replicate (length (now marks)) 0) × (length (now out) ≡ programAnswer)
-        × (from ≤ length (now input)) × Left (typeask (now input)) (due (now text) (now rows) (now input) from) × (length (now input) ≤ maxText) ⌝ }
-    ensures { λ r. ⌜ r ≡ length (due (now (text .entry)) (now (rows .entry)) (now (input .entry)) from) ⌝ }
+    requires { ⌜ Library (now text) (now rows) ⌝ }
+    requires { ⌜ (markWords ≤ length (now marks)) × Lent (now rows) (now walk) (now hits) (now words) × (length (now out) ≡ programAnswer) × (length (now questions) ≤ maxText) ⌝ }
+    requires { ⌜ now marks ≡ replicate (length (now marks)) 0 ⌝ }
+    ensures { λ r. ⌜ r ≡ length (due (tableOf (now (text .entry)) (now (rows .entry))) (now (questions .entry))) ⌝ }
 {
-    let mut at = from;
+    let mut at: usize = 0;
     let mut total: usize = 0;
     loop {
-        let Step::Said(next, n) = answer_next(text, rows, marks, input, at, out) else {
+        let rest = &questions[at..];
+        let f = next_piece(text, rows, marks, walk, hits, words, rest, out);
+        if f.at == 0 {
             return total;
-        };
-        total += show(input, out, n);
-        at = next;
+        }
+        total = show(text, rows, questions, total, out, f.n);
+        at += f.at;
     }
 }
 
-pub fn ask_all(text: &[u8], rows: &[u32], input: &[u8], from: usize) -> usize
-    requires { ⌜ Library (now text) (now rows) × (from ≤ length (now input)) × (typeask (now input) ≡ due (now text) (now rows) (now input) from)
-        × (length (now input) ≤ maxText) ⌝ }
-    ensures { λ r. ⌜ r ≡ length (due (now (text .entry)) (now (rows .entry)) (now (input .entry)) from) ⌝ }
+// The answers to all questions. What they are lent is as long as any table needs.
+pub fn print_all(text: &[u8], rows: &[u32], questions: &[u8]) -> usize
+    requires { ⌜ Library (now text) (now rows) × (length (now questions) ≤ maxText) ⌝ }
+    ensures { λ r. ⌜ r ≡ length (due (tableOf (now (text .entry)) (now (rows .entry))) (now (questions .entry))) ⌝ }
 {
     let mut marks = [0u32; WORK_WORDS];
+    let mut walk = [[0u32; RECORD_WORDS]; MAX_RECORDS];
+    let mut hits = [[0u32; HIT_WORDS]; MAX_MEMBERS];
+    let mut words = [0u32; MAX_MEMBERS];
     let mut out = [0u8; PROGRAM_ANSWER];
-    ask_from(text, rows, &mut marks, input, from, &mut out)
+    show_all(
+        text,
+        rows,
+        &mut marks,
+        &mut walk,
+        &mut hits,
+        &mut words,
+        questions,
+        &mut out,
+    )
 }

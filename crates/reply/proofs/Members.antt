@@ -15,7 +15,7 @@ use Rattle.objects.proofs.RowLaws.{member-key}
 use Rattle.text.specs.Bytes.{ascii}
 use Rattle.rules.specs.Ways.{Selected, notfound, badreceiver, entry, ambiguous}
 use Rattle.rules.specs.Answer.{selected, lackAnswer, answerBytes, selectedBytes}
-use Rattle.rules.specs.Asked.{fitted}
+use Rattle.rules.specs.Asked.{say}
 use Rattle.print.specs.Written.{numberLine, Wrote}
 use Rattle.print.proofs.WrittenLaws.{then-wrote}
 use Rattle.print.proofs.Lines.{selected-line, notfound-line, badreceiver-line, entry-line, ambiguous-lines, satisfied-line, missing-line}
@@ -25,7 +25,7 @@ use Rattle.selection.specs.declared.LookupResult.{LookupResult}
 use Rattle.selection.specs.declared.Missing.{Missing}
 use Rattle.reply.specs.declared.Done.{Done}
 use Rattle.reply.specs.Done.{Does}
-use Rattle.reply.proofs.Saying.{fitted-as, too-long, fits-said}
+use Rattle.reply.proofs.Saying.{said-as, too-long, fits-said}
 
 -- ---- the numbers of a line in a row of words
 
@@ -56,25 +56,25 @@ key-line text rows k = ap (λ (o : ObjKey). o .0) (member-key text rows k)
 -- ---- the ways through the code
 
 module _ (before : Bytes) (text : Bytes) (rows : Words) {after : Bytes} {r : Done} where
-  selected-said : {y x : Selected} {line : Bytes} → y ≡ x → selectedBytes x ≡ line → Does (fitted (length before) line) r before after
-      → Does (fitted (length before) (answerBytes (selected y))) r before after
-  selected-said {y} e l d = fitted-as before (selected-line y ∙ ap selectedBytes e ∙ l) d
+  selected-said : {y x : Selected} {line : Bytes} → y ≡ x → selectedBytes x ≡ line → Does (say line) r before after
+      → Does (say (answerBytes (selected y))) r before after
+  selected-said {y} e l d = said-as before (selected-line y ∙ ap selectedBytes e ∙ l) d
 
   module _ {s : LookupResult} (first second : List ℕ) where
-    pub notfound-said : s ≡ LookupResult.NotFound → Does (fitted (length before) (numberLine (ascii "notfound") [])) r before after
-        → Does (fitted (length before) (answerBytes (selected (resultMeant text rows s first second)))) r before after
+    pub notfound-said : s ≡ LookupResult.NotFound → Does (say (numberLine (ascii "notfound") [])) r before after
+        → Does (say (answerBytes (selected (resultMeant text rows s first second)))) r before after
     unfolding resultMeant
     notfound-said e d = selected-said (ap (λ z. resultMeant text rows z first second) e) notfound-line d
 
-    pub badreceiver-said : s ≡ LookupResult.BadMethodReceiver → Does (fitted (length before) (numberLine (ascii "badreceiver") [])) r before after
-        → Does (fitted (length before) (answerBytes (selected (resultMeant text rows s first second)))) r before after
+    pub badreceiver-said : s ≡ LookupResult.BadMethodReceiver → Does (say (numberLine (ascii "badreceiver") [])) r before after
+        → Does (say (answerBytes (selected (resultMeant text rows s first second)))) r before after
     unfolding resultMeant
     badreceiver-said e d = selected-said (ap (λ z. resultMeant text rows z first second) e) badreceiver-line d
 
   module _ {s : LookupResult} (numbers : List ℕ) (count : ℕ) where
     pub ambiguous-said : s ≡ LookupResult.Ambiguous
-        → Does (fitted (length before) (numberLine (ascii "ambiguous") (take count (take (length numbers - 2) (drop 2 numbers))) ++ numberLine (ascii "and") (take count (take (length numbers - (2 + maxPlaces)) (drop (2 + maxPlaces) numbers))))) r before after
-        → Does (fitted (length before) (answerBytes (selected (resultMeant text rows s (firstIn numbers count) (secondIn numbers count))))) r before after
+        → Does (say (numberLine (ascii "ambiguous") (take count (take (length numbers - 2) (drop 2 numbers))) ++ numberLine (ascii "and") (take count (take (length numbers - (2 + maxPlaces)) (drop (2 + maxPlaces) numbers))))) r before after
+        → Does (say (answerBytes (selected (resultMeant text rows s (firstIn numbers count) (secondIn numbers count))))) r before after
     unfolding resultMeant
     ambiguous-said e d =
         selected-said (ap (λ z. resultMeant text rows z (firstIn numbers count) (secondIn numbers count)) e)
@@ -82,8 +82,8 @@ module _ (before : Bytes) (text : Bytes) (rows : Words) {after : Bytes} {r : Don
         ∙ ap₂ (λ a b. numberLine (ascii "ambiguous") a ++ numberLine (ascii "and") b) (sym (rest-part numbers 2 count)) (second-part numbers count ∙ sym (rest-part numbers (2 + maxPlaces) count))) d
 
     pub entry-said : {e : Entity} {flag : Bool} {m f : ℕ} → s ≡ LookupResult.Entry e flag → m ≡ keyOf e .0 → f ≡ bit flag → 2 ≤ length numbers
-        → Does (fitted (length before) (numberLine (ascii "entry") (take (count + 2) (set (set numbers 0 m) 1 f)))) r before after
-        → Does (fitted (length before) (answerBytes (selected (resultMeant text rows s (firstIn numbers count) (secondIn numbers count))))) r before after
+        → Does (say (numberLine (ascii "entry") (take (count + 2) (set (set numbers 0 m) 1 f)))) r before after
+        → Does (say (answerBytes (selected (resultMeant text rows s (firstIn numbers count) (secondIn numbers count))))) r before after
     unfolding resultMeant
     entry-said {e} {flag} {m} {f} q em ef h d =
         let places = firstIn numbers count in
@@ -99,25 +99,25 @@ module _ (before first second : Bytes) {a b : ℕ} (p : a ≡ length first) (q :
   both-length : a + b ≡ length (first ++ second)
   both-length = omega (arith, p, q, length-append first second)
 
-  pub both-refused : length before < a + b → Does (fitted (length before) (first ++ second)) (Done.Refused 13 0) before before
-  both-refused t = too-long before (first ++ second) both-length t
+  pub both-long : length before < a + b → Does (say (first ++ second)) (Done.Long (a + b)) before before
+  both-long t = too-long before (first ++ second) both-length t
 
-  pub both-said : a + b ≤ length before → {mid after : Bytes} {at r : ℕ} → Wrote before 0 first mid at → Wrote mid at second after r → Does (fitted (length before) (first ++ second)) (Done.Said r) before after
+  pub both-said : a + b ≤ length before → {mid after : Bytes} {at r : ℕ} → Wrote before 0 first mid at → Wrote mid at second after r → Does (say (first ++ second)) (Done.Said r) before after
   both-said t v w = fits-said before (first ++ second) both-length t (then-wrote v w)
 
 module _ (before : Bytes) (text : Bytes) (rows : Words) {after : Bytes} {r : Done} where
   module _ {s : Missing} where
-    pub satisfied-said : s ≡ Missing.Satisfied → Does (fitted (length before) (numberLine (ascii "satisfied") [])) r before after
-        → Does (fitted (length before) (answerBytes (lackAnswer (missingMeant text rows s)))) r before after
+    pub satisfied-said : s ≡ Missing.Satisfied → Does (say (numberLine (ascii "satisfied") [])) r before after
+        → Does (say (answerBytes (lackAnswer (missingMeant text rows s)))) r before after
     unfolding missingMeant
-    satisfied-said e d = fitted-as before (ap (λ z. answerBytes (lackAnswer (missingMeant text rows z))) e ∙ satisfied-line) d
+    satisfied-said e d = said-as before (ap (λ z. answerBytes (lackAnswer (missingMeant text rows z))) e ∙ satisfied-line) d
 
     pub missing-said : {k : ObjKey} {w : Bool} {f : ℕ} → s ≡ Missing.Lacks k w → f ≡ bit w
-        → Does (fitted (length before) (numberLine (ascii "missing") (k .0 ∷ f ∷ []))) r before after
-        → Does (fitted (length before) (answerBytes (lackAnswer (missingMeant text rows s)))) r before after
+        → Does (say (numberLine (ascii "missing") (k .0 ∷ f ∷ []))) r before after
+        → Does (say (answerBytes (lackAnswer (missingMeant text rows s)))) r before after
     unfolding missingMeant
     missing-said {k} {w} {f} e ef d =
-        fitted-as before
+        said-as before
         (ap (λ z. answerBytes (lackAnswer (missingMeant text rows z))) e
         ∙ missing-line (memberAt text rows k) w
         ∙ ap (λ n. numberLine (ascii "missing") (n ∷ bit w ∷ [])) (key-line text rows k)

@@ -1,4 +1,4 @@
--- One line said, or refused by 13: what each return of the code says.
+-- One line said, or too long for the buffer: what each return of the code says.
 use mathlib.Core.Path.{_≡_, sym, ap, subst, _∙_}
 use mathlib.Core.Bool.{Bool, true, false}
 use mathlib.Core.List.{[], _∷_}
@@ -20,37 +20,39 @@ use Rattle.reply.specs.Done.{doneOf, Does}
 
 pub does-refuse : {o : Outcome} {n line : ℕ} (buffer : Bytes) → o ≡ refuse n line → Does o (Done.Refused n line) buffer buffer
 unfolding doneOf written
-does-refuse buffer e = record { told = sym (ap doneOf e); answer = sym (ap (λ x. written x buffer) e) }
+does-refuse buffer e = record { told = sym (ap (doneOf (length buffer)) e); answer = sym (ap (λ x. written (fitted (length buffer) x) buffer) e) }
 
-pub does-say : {o : Outcome} {bytes before after : Bytes} {n : ℕ} → o ≡ say bytes → n ≡ length bytes → after ≡ written (say bytes) before → Does o (Done.Said n) before after
-unfolding doneOf
-does-say {before = before} e l w = record { told = ap Done.Said l ∙ sym (ap doneOf e); answer = w ∙ sym (ap (λ x. written x before) e) }
-
--- the same outcome, in other words
+-- the same, in other words
 pub does-as : {o u : Outcome} {r : Done} {before after : Bytes} → o ≡ u → Does o r before after → Does u r before after
 does-as {r = r} {before = before} {after = after} e d = subst (λ z. Does z r before after) e d
 
 module _ (before bytes : Bytes) {size : ℕ} (p : size ≡ length bytes) where
-  pub too-long : length before < size → Does (fitted (length before) bytes) (Done.Refused 13 0) before before
-  too-long h = let k : length before < length bytes = omega (arith, p, h) in does-refuse before (rw (lt-ltb (length before) (length bytes) k))
+  pub too-long : length before < size → Does (say bytes) (Done.Long size) before before
+  unfolding doneOf written
+  too-long h =
+      let k = lt-ltb (length before) (length bytes) (omega (arith, p, h)) in
+      record { told = ap Done.Long p ∙ (rw k); answer = rw k }
 
-  pub fits-said : size ≤ length before → {after : Bytes} {r : ℕ} → Wrote before 0 bytes after r → Does (fitted (length before) bytes) (Done.Said r) before after
-  fits-said h w =
-      let k : length bytes ≤ length before = omega (arith, p, h) in
-      does-say (rw (le-ltb (length before) (length bytes) k)) (omega (arith, w .past)) (w .text ∙ written-answer before bytes k)
+  pub fits-said : size ≤ length before → {after : Bytes} {r : ℕ} → Wrote before 0 bytes after r → Does (say bytes) (Done.Said r) before after
+  unfolding doneOf written
+  fits-said h {r = r} w =
+      let room : length bytes ≤ length before = omega (arith, p, h) in
+      let k = le-ltb (length before) (length bytes) room in
+      let l : r ≡ length bytes = omega (arith, w .past) in
+      record { told = ap Done.Said l ∙ (rw k); answer = w .text ∙ written-answer before bytes room ∙ (rw k) }
 
 -- ---- the lines
 
 module _ (before : Bytes) {after : Bytes} {r : Done} where
-  pub fitted-as : {a b : Bytes} → a ≡ b → Does (fitted (length before) b) r before after → Does (fitted (length before) a) r before after
-  fitted-as e d = does-as (ap (fitted (length before)) (sym e)) d
+  pub said-as : {a b : Bytes} → a ≡ b → Does (say b) r before after → Does (say a) r before after
+  said-as e d = does-as (ap say (sym e)) d
 
-  pub yes-said : {b : Bool} → b ≡ true → Does (fitted (length before) (numberLine (ascii "yes") [])) r before after → Does (fitted (length before) (answerBytes (says b))) r before after
-  yes-said e d = fitted-as (ap (λ b. answerBytes (says b)) e ∙ yes-line) d
+  pub yes-said : {b : Bool} → b ≡ true → Does (say (numberLine (ascii "yes") [])) r before after → Does (say (answerBytes (says b))) r before after
+  yes-said e d = said-as (ap (λ b. answerBytes (says b)) e ∙ yes-line) d
 
-  pub no-said : {b : Bool} → b ≡ false → Does (fitted (length before) (numberLine (ascii "no") [])) r before after → Does (fitted (length before) (answerBytes (says b))) r before after
-  no-said e d = fitted-as (ap (λ b. answerBytes (says b)) e ∙ no-line) d
+  pub no-said : {b : Bool} → b ≡ false → Does (say (numberLine (ascii "no") [])) r before after → Does (say (answerBytes (says b))) r before after
+  no-said e d = said-as (ap (λ b. answerBytes (says b)) e ∙ no-line) d
 
-  pub counts-said : {p t m p′ t′ m′ : ℕ} → p ≡ p′ → t ≡ t′ → m ≡ m′ → Does (fitted (length before) (numberLine (ascii "ok") (p ∷ t ∷ m ∷ []))) r before after
-      → Does (fitted (length before) (answerBytes (counts p′ t′ m′))) r before after
-  counts-said {p} {t} {m} {p′} {t′} {m′} e f g d = fitted-as {b = numberLine (ascii "ok") (p ∷ t ∷ m ∷ [])} (ok-line p′ t′ m′ ∙ (rw (e, f, g))) d
+  pub counts-said : {p t m p′ t′ m′ : ℕ} → p ≡ p′ → t ≡ t′ → m ≡ m′ → Does (say (numberLine (ascii "ok") (p ∷ t ∷ m ∷ []))) r before after
+      → Does (say (answerBytes (counts p′ t′ m′))) r before after
+  counts-said {p} {t} {m} {p′} {t′} {m′} e f g d = said-as {b = numberLine (ascii "ok") (p ∷ t ∷ m ∷ [])} (ok-line p′ t′ m′ ∙ (rw (e, f, g))) d

@@ -17,7 +17,7 @@ use Rattle.print.proofs.LineLaws.{line-short}
 use Rattle.print.proofs.WrittenLaws.{written-more, written-nothing, then-wrote, wrote-as}
 use Rattle.first_hits.specs.Hits.{FirstHit}
 use Rattle.method_set.specs.Sets.{selAt}
-use Rattle.rules.specs.Asked.{fitted}
+use Rattle.rules.specs.Asked.{say}
 use Rattle.reply.specs.declared.Done.{Done}
 use Rattle.reply.specs.Done.{Does}
 use Rattle.reply.specs.SetLines.{Says, Short, selLine, selLines, setLines}
@@ -96,9 +96,9 @@ module _ (rows : Words) (walk : List Record) (hits : List FirstHit) (names : Wor
   set-length h p q = omega (arith, p, q, ap length (set-is h), length-append (numberLine (ascii "set") (n ∷ [])) (selLines rows walk hits (take n names)))
 
   module _ (before : Bytes) (h : n ≤ length names) {a b : ℕ} (p : a ≡ length (numberLine (ascii "set") (n ∷ []))) (q : b ≡ length (selLines rows walk hits (take n names))) where
-    pub set-refused : length before < a + b → Does (fitted (length before) (setLines rows walk hits (take n names))) (Done.Refused 13 0) before before
-    set-refused t = too-long before (setLines rows walk hits (take n names)) (set-length h p q) t
+    pub set-long : length before < a + b → Does (say (setLines rows walk hits (take n names))) (Done.Long (a + b)) before before
+    set-long t = too-long before (setLines rows walk hits (take n names)) (set-length h p q) t
 
     pub set-said : a + b ≤ length before → {mid after : Bytes} {at r : ℕ} → Wrote before 0 (numberLine (ascii "set") (n ∷ [])) mid at
-        → Wrote mid at (selLines rows walk hits (take n names)) after r → Does (fitted (length before) (setLines rows walk hits (take n names))) (Done.Said r) before after
+        → Wrote mid at (selLines rows walk hits (take n names)) after r → Does (say (setLines rows walk hits (take n names))) (Done.Said r) before after
     set-said t v w = fits-said before (setLines rows walk hits (take n names)) (set-length h p q) t (wrote-as (set-is h) refl (then-wrote v w))

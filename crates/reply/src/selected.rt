@@ -9,7 +9,7 @@ ghost use Rattle.objects.specs.Rows.{Words};
 ghost use Rattle.text.specs.Bytes.{ascii};
 ghost use Rattle.print.specs.Written.{numberLine};
 ghost use Rattle.rules.specs.Answer.{selected, answerBytes};
-ghost use Rattle.rules.specs.Asked.{fitted};
+ghost use Rattle.rules.specs.Asked.{say};
 ghost use Rattle.selection.specs.Results.{keyOf, resultMeant, secondOf};
 ghost use Rattle.reply.specs.Done.{Does};
 use crate::Done;
@@ -36,12 +36,13 @@ fn number_of(e: Entity) -> u32
 // The places of two ways, n each: "a second line, `and`, carries the next one".
 fn say_both(answer: &mut [u8], first: &[u32], second: &[u32], n: usize) -> Done
     requires { ⌜ (n ≤ maxPlaces) × (n ≤ length (now first)) × (n ≤ length (now second)) ⌝ }
-    ensures { λ r. ⌜ Does (fitted (length (now (answer .entry))) (numberLine (ascii "ambiguous") (take n (now (first .entry))) ++ numberLine (ascii "and") (take n (now (second .entry))))) r (now (answer .entry)) (now (answer .exit)) ⌝ }
+    ensures { λ r. ⌜ Does (say (numberLine (ascii "ambiguous") (take n (now (first .entry))) ++ numberLine (ascii "and") (take n (now (second .entry))))) r (now (answer .entry)) (now (answer .exit)) ⌝ }
 {
     let head = line_length(b"ambiguous", first, n);
     let rest = line_length(b"and", second, n);
-    if answer.len() < head + rest {
-        return Done::Refused(13, 0);
+    let size = head + rest;
+    if answer.len() < size {
+        return Done::Long(size);
     }
     let at = put_line(answer, 0, b"ambiguous", first, n);
     let end = put_line(answer, at, b"and", second, n);
@@ -51,7 +52,7 @@ fn say_both(answer: &mut [u8], first: &[u32], second: &[u32], n: usize) -> Done
 // The places of the ways stand behind two words that are free for the member and the flag.
 pub fn say_selected(answer: &mut [u8], s: Selection, numbers: &mut [u32]) -> Done
     requires { ⌜ (s .count ≤ maxPlaces) × (2 + 2 * maxPlaces ≤ length (now numbers)) ⌝ }
-    ensures { λ r. ⌜ ((text : Bytes) (rows : Words) → Does (fitted (length (now (answer .entry))) (answerBytes (selected (resultMeant text rows (s .result) (take (s .count) (drop 2 (now (numbers .entry)))) (take (s .count) (secondOf (drop 2 (now (numbers .entry))))))))) r (now (answer .entry)) (now (answer .exit))) ⌝ }
+    ensures { λ r. ⌜ ((text : Bytes) (rows : Words) → Does (say (answerBytes (selected (resultMeant text rows (s .result) (take (s .count) (drop 2 (now (numbers .entry)))) (take (s .count) (secondOf (drop 2 (now (numbers .entry))))))))) r (now (answer .entry)) (now (answer .exit))) ⌝ }
 {
     let count = s.count;
     let result = s.result;

@@ -1,10 +1,10 @@
-// M: the lines of a method set. Their length is counted first, so that refusal 13 leaves the buffer as it was.
+// M: the lines of a method set. Their length is counted first, so that the buffer is left as it was where it is too short.
 ghost use mathlib.Core.Path.{_≡_};
 ghost use Prim.Native.Nat.{_+_, _*_, _≤_, _<_};
 ghost use lib.ListN.{length, take};
 ghost use Rattle.objects.specs.Bounds.{maxMembers, maxPlaces};
 ghost use Rattle.print.specs.Written.{maxLine, Wrote};
-ghost use Rattle.rules.specs.Asked.{fitted};
+ghost use Rattle.rules.specs.Asked.{say};
 ghost use Rattle.reply.specs.Done.{Does};
 ghost use Rattle.reply.specs.SetLines.{Says, Short, selLine, selLines, setLines};
 use crate::Done;
@@ -106,15 +106,16 @@ pub fn say_set(
 ) -> Done
     requires { ⌜ (n ≤ maxMembers) × (n ≤ length (now names)) ⌝ }
     requires { ⌜ Short (now walk) (now hits) (take n (now names)) ⌝ }
-    ensures { λ r. ⌜ Does (fitted (length (now (answer .entry))) (setLines (now (rows .entry)) (now (walk .entry)) (now (hits .entry)) (take n (now (names .entry))))) r (now (answer .entry)) (now (answer .exit)) ⌝ }
+    ensures { λ r. ⌜ Does (say (setLines (now (rows .entry)) (now (walk .entry)) (now (hits .entry)) (take n (now (names .entry))))) r (now (answer .entry)) (now (answer .exit)) ⌝ }
 {
     let mut numbers = [0u32; MAX_PLACES + 2];
     let mut count = [0u32; 1];
     count[0] = n as u32;
     let head = line_length(b"set", &count, 1);
     let rest = total_length(rows, walk, hits, names, n, &mut numbers);
-    if answer.len() < head + rest {
-        return Done::Refused(13, 0);
+    let size = head + rest;
+    if answer.len() < size {
+        return Done::Long(size);
     }
     let at = put_line(answer, 0, b"set", &count, 1);
     let end = put_lines(answer, at, rows, walk, hits, names, n, &mut numbers);

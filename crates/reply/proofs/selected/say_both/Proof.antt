@@ -4,7 +4,7 @@ use lib.ListN.{take}
 use Rattle.text.specs.Bytes.{ascii}
 use Rattle.print.specs.Written.{numberLine}
 use Rattle.print.proofs.LineLaws.{line-short}
-use Rattle.reply.proofs.Members.{both-refused, both-said}
+use Rattle.reply.proofs.Members.{both-long, both-said}
 use borrow.Author.Needs.{needs}
 use Rattle.reply.proofs.selected.say_both.Statement.{statement}
 use Rattle.reply.proofs.selected.say_both.Tie as tie
@@ -21,15 +21,15 @@ slice-aggregate-line-length-2 c = search needs
 line-length-requires-2 : tie.Need-line-length-requires-2
 line-length-requires-2 c κs = search needs
 
-add-if1 : tie.Need-add-if1
-add-if1 c =
+add-size : tie.Need-add-size
+add-size c =
     let start = c .before .before .before .before .before .before .before .args in
     omega (arith, c .before .before .line-length .ensures, c .line-length2 .ensures, line-short (ascii "ambiguous") (start .first .now) (start .n) (omega arith) (omega arith), line-short (ascii "and") (start .second .now) (start .n) (omega arith) (omega arith))
 
 returns : tie.Need-returns
 returns c =
     let start = c .before .before .before .before .before .before .before .before .args in
-    both-refused _ (numberLine (ascii "ambiguous") (take (start .n) (start .first .now))) (numberLine (ascii "and") (take (start .n) (start .second .now))) (c .before .before .before .line-length .ensures) (c .before .line-length2 .ensures) (c .if1 .taken)
+    both-long _ (numberLine (ascii "ambiguous") (take (start .n) (start .first .now))) (numberLine (ascii "and") (take (start .n) (start .second .now))) (c .before .before .before .line-length .ensures) (c .before .line-length2 .ensures) (c .if1 .taken)
 
 slice-aggregate-put-line : tie.Need-slice-aggregate-put-line
 slice-aggregate-put-line c = search needs
@@ -59,7 +59,7 @@ say-both-spec =
     line-length-requires
     slice-aggregate-line-length-2
     line-length-requires-2
-    add-if1
+    add-size
     returns
     slice-aggregate-put-line
     put-line-requires

@@ -3,7 +3,7 @@ use native.Mathlib.Omega.{arith}
 use mathlib.Core.List.{[], _∷_}
 use Rattle.text.specs.Bytes.{ascii}
 use Rattle.print.proofs.LineLaws.{line-short}
-use Rattle.reply.proofs.Setting.{set-refused, set-said}
+use Rattle.reply.proofs.Setting.{set-long, set-said}
 use borrow.Author.Needs.{needs}
 use Rattle.reply.proofs.set_lines.say_set.Statement.{statement}
 use Rattle.reply.proofs.set_lines.say_set.Tie as tie
@@ -29,8 +29,8 @@ slice-aggregate-total-length c = search needs
 total-length-requires : tie.Need-total-length-requires
 total-length-requires c κs = search needs
 
-add-if1 : tie.Need-add-if1
-add-if1 c =
+add-size : tie.Need-add-size
+add-size c =
     let given = c .before .before .before .before .before .before .before .before .before .args in
     omega (arith, c .before .before .before .line-length .ensures, c .before .total-length .ensures .1, line-short (ascii "set") (given .n ∷ []) 1 (omega arith) (omega arith))
 
@@ -38,7 +38,7 @@ returns : tie.Need-returns
 returns c =
     let start = c .before .before .before .before .before .before .before .before .before .before in
     let given = start .args in
-    set-refused (given .rows .now) (given .walk .now) (given .hits .now) (given .names .now) (given .n) _ (start .pre .0 .1) (c .before .before .before .before .line-length .ensures) (c .before .before .total-length .ensures .0) (c .if1 .taken)
+    set-long (given .rows .now) (given .walk .now) (given .hits .now) (given .names .now) (given .n) _ (start .pre .0 .1) (c .before .before .before .before .line-length .ensures) (c .before .before .total-length .ensures .0) (c .if1 .taken)
 
 slice-aggregate-put-line : tie.Need-slice-aggregate-put-line
 slice-aggregate-put-line c = search needs
@@ -82,7 +82,7 @@ say-set-spec =
     line-length-requires
     slice-aggregate-total-length
     total-length-requires
-    add-if1
+    add-size
     returns
     slice-aggregate-put-line
     slice-aggregate-put-line-2
