@@ -54,6 +54,10 @@ pub record Room (hits : List FirstHit) (k : ℕ) : Type 0 where
   pub inside : k < length hits
   pub wide : length (hitAt hits k) ≡ hitWords
 
+-- there is one for each member
+abbrev pub Rooms : Words → List FirstHit → Type 0
+Rooms rows hits = (k : ℕ) → k < memberCountOf rows → Room hits k
+
 -- both rows are of one level
 abbrev pub beside : List Record → ℕ → ℕ → Bool
 beside walk i j = eqb (levelOf walk i) (levelOf walk j)
@@ -120,7 +124,7 @@ module _ (text : Bytes) (rows : Words) where
     pub listed : Listed text rows (take n names)
     pub few : n ≤ memberCountOf rows
     pub long : memberCountOf rows ≤ length names
-    pub room : (k : ℕ) → k < memberCountOf rows → Room hits k
+    pub room : Rooms rows hits
 
   -- Of the methods met of one name, key k's was the first, where the hit says, and the name is hidden exactly if another of its level followed.
   pub record Decides (walk : List Record) (met : List Found) (k : ℕ) (hits : List FirstHit) : Type 0 where

@@ -169,6 +169,7 @@ fn first_unmet(
     requires { ⌜ now marks ≡ replicate (length (now marks)) 0 ⌝ }
     ensures { λ r. ⌜ missingMeant (now (text .entry)) (now (rows .entry)) r ≡ firstUnmet (tableOf (now (text .entry)) (now (rows .entry))) t s (membersFrom (now (text .entry)) (now (rows .entry)) first n) ⌝ }
     ensures { λ _. ⌜ now (marks .exit) ≡ now (marks .entry) ⌝ }
+    ensures { λ _. ⌜ Wide (now (walk .exit)) ⌝ }
 {
     let mut i = 0;
     while i < n {
@@ -201,6 +202,7 @@ pub fn missing_method(
     requires { ⌜ now marks ≡ replicate (length (now marks)) 0 ⌝ }
     ensures { λ r. ⌜ missingMeant (now (text .entry)) (now (rows .entry)) r ≡ missing (tableOf (now (text .entry)) (now (rows .entry))) t i s ⌝ }
     ensures { λ _. ⌜ now (marks .exit) ≡ now (marks .entry) ⌝ }
+    ensures { λ _. ⌜ Wide (now (walk .exit)) ⌝ }
 {
     if iface_under(rows, i) {
         let u = under(rows, i);

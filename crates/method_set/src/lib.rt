@@ -9,7 +9,7 @@ ghost use Rattle.rules.specs.Library.{Library};
 ghost use Rattle.multiples.specs.Records.{maxRecords};
 ghost use Rattle.walk_rows.specs.Records.{levelOf};
 ghost use Rattle.walk_rows.specs.State.{Wide};
-ghost use Rattle.first_hits.specs.Hits.{Held, Room, hitRow};
+ghost use Rattle.first_hits.specs.Hits.{Held, Room, Rooms, hitRow};
 ghost use Rattle.method_set.specs.Sets.{emptyRead, flagRead, inSet, selAt, SetHeld};
 use first_hits::FirstHit;
 use first_hits::HIDDEN;
@@ -113,6 +113,7 @@ pub fn new(
     requires { ⌜ Library (now text) (now rows) ⌝ }
     requires { ⌜ (t .0 < typeCount (now rows)) × (2 * typeCount (now rows) ≤ length (now walk)) × (length (now walk) ≤ maxRecords) × Wide (now walk) × Held (now text) (now rows) (now names) 0 (now hits) ⌝ }
     ensures { λ r. ⌜ SetHeld (now (text .entry)) (now (rows .entry)) t (now (walk .exit)) (now (names .exit)) (now (hits .exit)) r ⌝ }
+    ensures { λ _. ⌜ Wide (now (walk .exit)) × Rooms (now (rows .entry)) (now (hits .exit)) ⌝ }
 {
     if empty_set(rows, t) {
         return 0;

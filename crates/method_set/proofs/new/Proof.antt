@@ -9,7 +9,10 @@ empty-set-requires : tie.Need-empty-set-requires
 empty-set-requires c κs = search needs
 
 returns : tie.Need-returns
-returns c = let start = c .before .before .before .before .before in set-empty _ _ (start .pre .0) (start .args .t) (start .pre .1 .0) (c .before .empty-set .ensures) (c .if1 .taken) _ _ _
+returns c =
+    let start = c .before .before .before .before .before in
+    let own = start .pre .1 in
+    (set-empty _ _ (start .pre .0) (start .args .t) (own .0) (c .before .empty-set .ensures) (c .if1 .taken) _ _ _, (own .3, own .4 .room))
 
 bare-requires : tie.Need-bare-requires
 bare-requires c κs = search needs
@@ -49,7 +52,8 @@ returns-2 c =
     let start = walked .before .before .before .before .before .before .before .before .before in
     let own = start .pre .1 in
     let hits = met .first-hits .ensures in
-    set-held _ _ (start .pre .0) (start .args .t) (own .0) (walked .before .before .before .before .before .empty-set .ensures) (walked .before .before .before .before .if1 .left) (walked .before .before .bare .ensures) (walked .before .pointer-at .ensures) (walked .walk-all .ensures) (hits .0) (hits .1) (kept .kept .1 .1 .1 .0) (kept .ensures)
+    let all = walked .walk-all .ensures in
+    (set-held _ _ (start .pre .0) (start .args .t) (own .0) (walked .before .before .before .before .before .empty-set .ensures) (walked .before .before .before .before .if1 .left) (walked .before .before .bare .ensures) (walked .before .pointer-at .ensures) all (hits .0) (hits .1) (kept .kept .1 .1 .1 .0) (kept .ensures), (all .state .rowed .wide, hits .0 .room))
 
 pub new-spec : {M : Type 1} → statement M
 new-spec =

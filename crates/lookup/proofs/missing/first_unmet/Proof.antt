@@ -63,7 +63,7 @@ returns : tie.Need-returns Inv-loop μ-loop
 returns c =
     let inv = c .before .before .before .before .before .before .before .before .before .before .before .before .before .loop .inv in
     let told = c .before .before .before .before .before .before .before .before .unmet .ensures in
-    (unmet-here _ _ _ _ _ _ _ (c .before .before .before .before .before .before .before .before .before .before .before .before .loop-test .taken) _ (told .0) (c .before .m .given .1) ∙ sym (inv .0), told .1 .0 ∙ inv .2)
+    (unmet-here _ _ _ _ _ _ _ (c .before .before .before .before .before .before .before .before .before .before .before .before .loop-test .taken) _ (told .0) (c .before .m .given .1) ∙ sym (inv .0), (told .1 .0 ∙ inv .2, told .1 .1))
 
 same-length-4 : tie.Need-same-length-4 Inv-loop μ-loop
 same-length-4 c = search needs
@@ -77,7 +77,7 @@ same-length-6 c = search needs
 returns-2 : tie.Need-returns-2 Inv-loop μ-loop
 returns-2 c =
     let inv = c .before .loop .inv in
-    (unmet-end _ _ _ _ _ _ _ (inv .1) (c .loop-test .left) ∙ sym (inv .0), inv .2)
+    (unmet-end _ _ _ _ _ _ _ (inv .1) (c .loop-test .left) ∙ sym (inv .0), (inv .2, inv .5))
 
 pub first-unmet-spec : {M : Type 1} → statement M
 first-unmet-spec =

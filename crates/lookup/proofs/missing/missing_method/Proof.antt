@@ -48,7 +48,7 @@ returns c =
 returns-2 : tie.Need-returns-2
 returns-2 c =
     let start = c .before .before .before .before .before .before in
-    (no-methods _ _ (start .pre .0) _ (start .pre .1 .0 .1) (c .before .iface-under .ensures) (c .if1 .left) _ _, refl)
+    (no-methods _ _ (start .pre .0) _ (start .pre .1 .0 .1) (c .before .iface-under .ensures) (c .if1 .left) _ _, (refl, start .pre .1 .1 .0 .1 .wide))
 
 pub missing-method-spec : {M : Type 1} → statement M
 missing-method-spec =
