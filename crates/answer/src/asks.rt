@@ -41,7 +41,7 @@ pub struct Operand {
 pub struct Implements {
     pub typ: TypeKey,
     pub iface: TypeKey,
-    pub is_static: bool,
+    pub statically: bool,
 }
 
 // S, with the places behind two words that are left free.
@@ -113,13 +113,13 @@ pub fn ask_n(
     requires { ⌜ Library (now text) (now rows) ⌝ }
     requires { ⌜ (x .typ .0 < typeCount (now rows)) × (x .iface .0 < typeCount (now rows)) × (markWords ≤ length (now marks)) × Searches (now rows) (now walk) (now words) ⌝ }
     requires { ⌜ now marks ≡ replicate (length (now marks)) 0 ⌝ }
-    ensures { λ r. ⌜ Does (due (tableOf (now (text .entry)) (now (rows .entry))) (askN (x .typ) (x .iface) (x .is_static))) r (now (answer .entry)) (now (answer .exit)) ⌝ }
+    ensures { λ r. ⌜ Does (due (tableOf (now (text .entry)) (now (rows .entry))) (askN (x .typ) (x .iface) (x .statically))) r (now (answer .entry)) (now (answer .exit)) ⌝ }
     ensures { λ _. ⌜ now (marks .exit) ≡ now (marks .entry) ⌝ }
     ensures { λ _. ⌜ Wide (now (walk .exit)) ⌝ }
 {
     let t = x.typ;
     let i = x.iface;
-    let m = missing_method(text, rows, marks, walk, words, t, i, x.is_static);
+    let m = missing_method(text, rows, marks, walk, words, t, i, x.statically);
     say_missing(answer, m)
 }
 

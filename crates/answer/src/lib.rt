@@ -41,7 +41,7 @@ pub enum Need {
 }
 
 // What the question of a line is lent.
-pub fn need(rows: &[u32], line: &[u8]) -> Need
+pub fn lent_for(rows: &[u32], line: &[u8]) -> Need
     ensures { λ r. ⌜ ((text : Bytes) → r ≡ needOf (questionOf (tableOf text (now (rows .entry))) (now (line .entry)))) ⌝ }
 {
     match question(rows, line) {
@@ -100,7 +100,7 @@ pub fn answered(
             let x = Implements {
                 typ: t,
                 iface: i,
-                is_static: s,
+                statically: s,
             };
             ask_n(text, rows, marks, walk, words, answer, x)
         }

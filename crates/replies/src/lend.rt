@@ -16,7 +16,7 @@ use crate::all::reply_all;
 use answer::Need;
 use answer::SEARCH_WORDS;
 use answer::answered;
-use answer::need;
+use answer::lent_for;
 use first_hits::HIT_WORDS;
 use multiples::MAX_RECORDS;
 use multiples::RECORD_WORDS;
@@ -195,7 +195,7 @@ pub fn replied(
     if all {
         return with_all(text, rows, marks, line, answer, true);
     }
-    match need(rows, line) {
+    match lent_for(rows, line) {
         Need::Nothing => with_nothing(text, rows, marks, line, answer),
         Need::Walk => with_walk(text, rows, marks, line, answer),
         Need::Set => with_all(text, rows, marks, line, answer, false),

@@ -1,109 +1,37 @@
--- `ask_s` meets its contract: two records for each type.
-use mathlib.Core.Path.{ap}
-use Prim.Native.Nat.{_*_}
-use native.Mathlib.Omega.{arith}
-use Rattle.objects.specs.Bounds.{fewRecords, someRecords}
-use Rattle.multiples.specs.Records.{maxRecords}
-use Rattle.answer.proofs.Answering.{lent-long, scratch-new}
+-- `ask_s` meets its contract.
+use Rattle.answer.proofs.Answering.{scratch-behind, s-due}
 use borrow.Author.Needs.{needs}
 use Rattle.answer.proofs.asks.ask_s.Statement.{statement}
 use Rattle.answer.proofs.asks.ask_s.Tie as tie
 
-type-count-requires : tie.Need-type-count-requires
-type-count-requires c κs = search needs
+select-behind-requires : tie.Need-select-behind-requires
+select-behind-requires c κs = let pre = c .before .before .before .before .before .before .before .before .pre in (pre .0, (pre .1 .0, pre .1 .1, scratch-behind (pre .1 .2)))
 
-cast-n : tie.Need-cast-n
-cast-n c = search needs
-
-mul-n : tie.Need-mul-n
-mul-n c = search needs
-
-array-borrow-prefix-walk : tie.Need-array-borrow-prefix-walk
-array-borrow-prefix-walk c = search needs
-
-slice-aggregate-ask-s-on : tie.Need-slice-aggregate-ask-s-on
-slice-aggregate-ask-s-on c =
-    let types = c .before .before .type-count in
-    let fits = c .before .if1 .taken in
-    lent-long fewRecords (2 * types .result) (omega arith)
-
-ask-s-on-requires : tie.Need-ask-s-on-requires
-ask-s-on-requires c κs =
-    let start = c .before .before .before .before .before .before .before .before in
-    let types = c .before .before .before .type-count in
-    let fits = c .before .before .if1 .taken in
-    (start .pre .0, (start .pre .1 .0, start .pre .1 .1, scratch-new (start .args .rows .now) fewRecords (2 * types .result) (ap (λ n. 2 * n) (types .ensures)) (omega arith) (omega arith)))
+say-selected-requires : tie.Need-say-selected-requires
+say-selected-requires c κs = search needs
 
 same-length : tie.Need-same-length
 same-length c = search needs
 
-returns : tie.Need-returns
-returns c = search needs
-
-array-borrow-prefix-walk-2 : tie.Need-array-borrow-prefix-walk-2
-array-borrow-prefix-walk-2 c = search needs
-
-slice-aggregate-ask-s-on-2 : tie.Need-slice-aggregate-ask-s-on-2
-slice-aggregate-ask-s-on-2 c =
-    let types = c .before .before .before .type-count in
-    let fits = c .before .if2 .taken in
-    lent-long someRecords (2 * types .result) (omega arith)
-
-ask-s-on-requires-2 : tie.Need-ask-s-on-requires-2
-ask-s-on-requires-2 c κs =
-    let start = c .before .before .before .before .before .before .before .before .before in
-    let types = c .before .before .before .before .type-count in
-    let fits = c .before .before .if2 .taken in
-    (start .pre .0, (start .pre .1 .0, start .pre .1 .1, scratch-new (start .args .rows .now) someRecords (2 * types .result) (ap (λ n. 2 * n) (types .ensures)) (omega arith) (omega arith)))
-
 same-length-2 : tie.Need-same-length-2
 same-length-2 c = search needs
-
-returns-2 : tie.Need-returns-2
-returns-2 c = search needs
-
-array-borrow-prefix-walk-3 : tie.Need-array-borrow-prefix-walk-3
-array-borrow-prefix-walk-3 c = search needs
-
-slice-aggregate-ask-s-on-3 : tie.Need-slice-aggregate-ask-s-on-3
-slice-aggregate-ask-s-on-3 c =
-    let start = c .before .before .before .before .before .before .before .before in
-    let types = c .before .before .before .type-count in
-    let most = start .pre .0 .laid .types in let is = types .ensures in
-    lent-long maxRecords (2 * types .result) (omega arith)
-
-ask-s-on-requires-3 : tie.Need-ask-s-on-requires-3
-ask-s-on-requires-3 c κs =
-    let start = c .before .before .before .before .before .before .before .before .before in
-    let types = c .before .before .before .before .type-count in
-    let most = start .pre .0 .laid .types in let is = types .ensures in
-    (start .pre .0, (start .pre .1 .0, start .pre .1 .1, scratch-new (start .args .rows .now) maxRecords (2 * types .result) (ap (λ n. 2 * n) (types .ensures)) (omega arith) (omega arith)))
 
 same-length-3 : tie.Need-same-length-3
 same-length-3 c = search needs
 
-returns-3 : tie.Need-returns-3
-returns-3 c = search needs
+returns : tie.Need-returns
+returns c =
+    let start = c .before .before .before .before .before .before .before .before .before .before .before .before .before .before .before .before .before .before .before .args in
+    let selected = c .before .before .before .before .before .before .before .before .before .before .select-behind in
+    (s-due _ _ _ _ _ _ _ (selected .last .1 .1 .1 .0) (selected .ensures .0) (c .before .before .before .before .say-selected .ensures (start .text .now) (start .rows .now)), selected .ensures .1)
 
 pub ask-s-spec : {M : Type 1} → statement M
 ask-s-spec =
     tie.close
     (tie.spec
-    type-count-requires
-    cast-n
-    mul-n
-    array-borrow-prefix-walk
-    slice-aggregate-ask-s-on
-    ask-s-on-requires
+    select-behind-requires
+    say-selected-requires
     same-length
-    returns
-    array-borrow-prefix-walk-2
-    slice-aggregate-ask-s-on-2
-    ask-s-on-requires-2
     same-length-2
-    returns-2
-    array-borrow-prefix-walk-3
-    slice-aggregate-ask-s-on-3
-    ask-s-on-requires-3
     same-length-3
-    returns-3)
+    returns)

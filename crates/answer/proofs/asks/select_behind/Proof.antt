@@ -26,7 +26,8 @@ same-length-2 c = search needs
 returns : tie.Need-returns
 returns c =
     let start = c .before .before .before .before .before .before .before .before .before .before in
-    selects-behind (start .args .numbers .now) (scratch-long (start .args .numbers .now) (start .pre .1 .2)) (c .before .before .before .lookup-field-or-method .ensures .0)
+    let found = c .before .before .before .lookup-field-or-method in
+    (selects-behind (start .args .numbers .now) (scratch-long (start .args .numbers .now) (start .pre .1 .2)) (found .ensures .0), found .ensures .1)
 
 pub select-behind-spec : {M : Type 1} → statement M
 select-behind-spec =
