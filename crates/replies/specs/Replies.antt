@@ -18,14 +18,18 @@ unfoldable pub Full : Table → List Bytes → ℕ → ℕ → Type 0
 Full T [] n room = Unit {0}
 Full T (q ∷ qs) n room = room < n + length (replyBytes T q)
 
--- Some of the questions are answered, in front of the buffer: no question is left, or the next answer has no room.
-pub record Fills (T : Table) (questions before : Bytes) (r : Filled) (after : Bytes) : Type 0 where
+-- Some of the questions are answered, in n bytes in front of the buffer; those from a place on are left.
+pub record Filling (T : Table) (questions before : Bytes) (at n : ℕ) (out : Bytes) : Type 0 where
   pub done : List Bytes
-  pub lines : questionLines questions ≡ done ++ questionsAt questions (r .at)
-  pub inside : r .at ≤ length questions
-  pub count : r .n ≡ length (flat (replyBytes T) done)
-  pub room : r .n ≤ length before
-  pub answers : after ≡ flat (replyBytes T) done ++ drop (r .n) before
+  pub lines : questionLines questions ≡ done ++ questionsAt questions at
+  pub inside : at ≤ length questions
+  pub count : n ≡ length (flat (replyBytes T) done)
+  pub room : n ≤ length before
+  pub answers : out ≡ flat (replyBytes T) done ++ drop n before
+
+-- As many as have room.
+pub record Fills (T : Table) (questions before : Bytes) (r : Filled) (after : Bytes) : Type 0 where
+  pub filling : Filling T questions before (r .at) (r .n) after
   pub full : Full T (questionsAt questions (r .at)) (r .n) (length before)
 
 -- what is due to a question line, or to a text of them

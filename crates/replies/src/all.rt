@@ -120,19 +120,20 @@ pub fn reply_all(
     let at = first.at;
     let rest = &questions[at..];
     let room = answers.len() - n;
-    if !fits(text, rows, marks, walk, hits, words, rest, room) {
-        return Done::Refused(13, 0);
+    if fits(text, rows, marks, walk, hits, words, rest, room) {
+        put_front(answers, &stage, n);
+        let last = fill(
+            text,
+            rows,
+            marks,
+            walk,
+            hits,
+            words,
+            rest,
+            &mut answers[n..],
+        );
+        let total = n + last.n;
+        return Done::Said(total);
     }
-    put_front(answers, &stage, n);
-    let last = fill(
-        text,
-        rows,
-        marks,
-        walk,
-        hits,
-        words,
-        rest,
-        &mut answers[n..],
-    );
-    Done::Said(n + last.n)
+    Done::Refused(13, 0)
 }

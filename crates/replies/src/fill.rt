@@ -40,11 +40,13 @@ pub fn fill(
             return Filled { at: at, n: n };
         };
         let line = &questions[at..end];
-        let d = reply(text, rows, marks, walk, hits, words, line, &mut out[n..]);
-        let Done::Said(k) = d else {
-            return Filled { at: at, n: n };
-        };
-        n += k;
-        at = next;
+        match reply(text, rows, marks, walk, hits, words, line, &mut out[n..]) {
+            Done::Said(k) => {
+                n += k;
+                at = next;
+            }
+            Done::Refused(_, _) => return Filled { at: at, n: n },
+            Done::Long(_) => return Filled { at: at, n: n },
+        }
     }
 }
