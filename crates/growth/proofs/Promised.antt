@@ -20,7 +20,7 @@ use Rattle.rules.specs.Sound.{Sound}
 use Rattle.rules.proofs.Sounds.{loads-sound}
 use Rattle.rules.specs.Question.{Question, askS, askM, askN, askI, askC, askV, questionForm, inTable, known, questionOf}
 use Rattle.rules.specs.Answer.{answer, answerBytes, selectedBytes}
-use Rattle.rules.specs.Asked.{say, wrongSecond, outcomeOf, outcomeWithin, outcome, numberOf, written, askedWithin}
+use Rattle.rules.specs.Asked.{say, wrongSecond, onTable, outcomeWithin, outcome, numberOf, written, askedWithin}
 use Rattle.growth.specs.Grown.{Numbers, Grown, GrownTexts}
 use Rattle.growth.specs.Promise.{Shortest, carrySelected, newWay, oldName, newName, oldAnswer, Promised}
 use Rattle.growth.specs.Calls.{carryQuestion, Lent, called, answersWith, oldBytes, newBytes, PutAgain, Said}
@@ -72,8 +72,8 @@ asked-in T line q e =
 
 pub outcome-says : (text line : Bytes) (room : ℕ) (T : Table) (q : Question) → load text ≡ loaded T → questionOf T line ≡ some q → wrongSecond T q ≡ false → length (answerBytes (answer T q)) ≤ room
     → outcome text line room ≡ say (answerBytes (answer T q))
-unfolding outcomeWithin outcomeOf
-outcome-says text line room T q l e s f = rw (l, outcomeOf, e, s, le-ltb room (length (answerBytes (answer T q))) f)
+unfolding outcomeWithin onTable
+outcome-says text line room T q l e s f = rw (l, onTable, e, s, le-ltb room (length (answerBytes (answer T q))) f)
 
 -- an outcome that is an answer, with words enough
 pub call-says : (text bytes : Bytes) (c : Lent) → outcome text (c .line) (length (c .buffer)) ≡ say bytes → workWords ≤ length (c .work) → called text c ≡ answersWith bytes c
