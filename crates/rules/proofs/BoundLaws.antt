@@ -18,8 +18,8 @@ use Rattle.text.specs.Bytes.{ascii, sameBytes}
 use Rattle.text.specs.Lines.{pieces, fields}
 use Rattle.rules.specs.Forms.{Line, packageLine, typeLine, memberLine, lineOf}
 use Rattle.rules.specs.Load.{Loaded, refused, loaded, lastKind, inPlace, hasRoom, lineAdded, linesFrom, thenChecked, headed, loadWithin, Within, Wider}
-use Rattle.rules.specs.Asked.{fitted, replied, onTable, outcomeWithin, given, askedWithin}
-use Rattle.rules.specs.AskedAll.{repliedAll, outcomeAllWithin, askedAllWithin}
+use Rattle.rules.specs.Asked.{fitted, replied, onTable, outcomeWithin, askedWithin}
+use Rattle.rules.specs.AskedAll.{outcomeAllWithin, askedAllWithin}
 use Rattle.rules.specs.Typeask.{inputOf, printedAll, typeaskWithin}
 use Rattle.rules.proofs.LoadLaws.{Built}
 use Rattle.rules.proofs.CheckLaws.{Right, right-within}
@@ -141,7 +141,7 @@ module _ (b b′ : Bounds) (w : Wider b b′) where
 
     pub asked-all-wider : (questions buffer : Bytes) (work : List ℕ) → askedAllWithin b′ text questions buffer work ≡ askedAllWithin b text questions buffer work
     unfolding askedAllWithin outcomeAllWithin
-    asked-all-wider questions buffer work = ap (λ L. given (fitted (length buffer) (onTable (repliedAll questions) L)) buffer work) same-load
+    asked-all-wider questions buffer work = rw same-load
 
   pub typeask-wider : (input : Bytes) (T : Table) → length input ≤ b .bytes → loadWithin b (inputOf (pieces input) .table) ≡ loaded T → typeaskWithin b′ input ≡ typeaskWithin b input
   unfolding typeaskWithin

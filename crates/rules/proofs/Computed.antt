@@ -1,4 +1,4 @@
--- The rows of specs/Worked.antt, Refusals.antt and Traps.antt, computed from the rules.
+-- The rows of specs/Worked.antt, Batches.antt, Refusals.antt and Traps.antt, computed from the rules.
 use mathlib.Core.Path.{_≡_, refl}
 use mathlib.Core.Bool.{true}
 use mathlib.Core.List.{[], _∷_, map}
@@ -9,8 +9,9 @@ use Rattle.objects.specs.Bounds.{maxText, workWords}
 use Rattle.objects.specs.Rows.{dirAt}
 use Rattle.text.specs.Bytes.{ascii}
 use Rattle.rules.specs.Load.{refused}
-use Rattle.rules.specs.Rows.{called, owed, allPrint, spaced, _⏎_, buffer, loading, calling}
+use Rattle.rules.specs.Rows.{called, owed, calledAll, owedAll, allPrint, spaced, _⏎_, buffer, loading, calling}
 use Rattle.rules.specs.Worked.{office, worked}
+use Rattle.rules.specs.Batches.{batches}
 use Rattle.rules.specs.Refusals.{refusals, threeMembers, pairsOfFields, programs}
 use Rattle.rules.specs.Traps.{traps, readings, others}
 
@@ -18,6 +19,11 @@ use Rattle.rules.specs.Traps.{traps, readings, others}
 pub worked-answers : map called worked ≡ map owed worked
 unfolding called owed
 worked-answers = refl
+
+-- calls with many questions, refused ones among them: number, buffer and work area of each
+pub worked-batches : map calledAll batches ≡ map owedAll batches
+unfolding calledAll owedAll
+worked-batches = refl
 
 pub refusals-right : allPrint refusals ≡ true
 unfolding allPrint

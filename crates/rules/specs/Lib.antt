@@ -19,5 +19,6 @@ pub mod AskedAll
 pub mod Typeask
 pub mod Rows
 pub mod Worked
+pub mod Batches
 pub mod Refusals
 pub mod Traps

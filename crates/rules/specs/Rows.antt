@@ -5,7 +5,7 @@ use Prim.Native.Nat.{ℕ, _-_}
 use Prim.Native.Char.{code}
 use Prim.Native.String.{String, [] as []ˢ, _∷_ as _∷ˢ_}
 use lib.Dec.{eqb}
-use lib.IntN.{pos}
+use lib.IntN.{ℤ, pos}
 use lib.ListN.{length, replicate}
 use Rattle.objects.specs.Bounds.{workWords, Bounds}
 use Rattle.objects.specs.Lists.{Bytes, every}
@@ -45,7 +45,7 @@ s ⏎ rest = spaced s ++ (10 ∷ rest)
 abbrev pub table : Bytes → Bytes
 table lines = "typetable 1" ⏎ lines
 
--- Everything that is computed: what is opened here is open where `called` and `prints` are.
+-- Everything that is computed: what is opened here is open where `called`, `calledAll` and `prints` are.
 unfoldable opened : Bytes → Bytes
 unfolding isName isBlank isPath isTag exported valueFrom isNumeral number digitsOn decimal split pieces fields kindAt pathOf under bare pointerAt ifaceUnder namedPointer allMethods identityFrom identityOf sameId idBytes kindForm lineForm lineOf leads realType ownNumber parts mismatch pairParts identical itemsFrom lineOfItem lacking forbidden clashing containing pathItems unordered added plusPackage plusType plusMember linesFrom firstLine staged checked loadWithin comparableKind comparableIn comparable owned onward walks ways shortestFrom shortest searched select methodFlag callable onlyMethod methodNames methodSet unmet missing questionForm questionOf answer answerBytes onTable outcomeWithin refusal numberOf written askedWithin questionLines replyBytes outcomeAllWithin askedAllWithin inputOf printedOne typeaskWithin
 opened b = b
@@ -80,9 +80,34 @@ unfoldable pub called : Case → Asked
 unfolding calling
 called c = calling (c .table) (c .question) buffer (replicate workWords 7)
 
--- what is due: the answer's length, the answer in front of what is left of the buffer, a clear work area
+-- what is left behind: a number, bytes in front of what is left of a buffer of so many dots, a clear work area
+abbrev leaves : ℤ → Bytes → ℕ → Asked
+leaves number bytes room = record { number = number; answer = bytes ++ replicate (room - length bytes) 46; work = replicate workWords 0 }
+
+-- what is due: the answer's length, and the answer
 unfoldable pub owed : Case → Asked
-owed c = record { number = pos (length (c .due)); answer = c .due ++ replicate (32 - length (c .due)) 46; work = replicate workWords 0 }
+owed c = leaves (pos (length (c .due))) (c .due) 32
+
+-- ---- a call with many questions
+
+-- a table, the text of the questions, the length of the buffer, and what is due: the number, and the bytes in front of the buffer
+pub record Batch : Type 0 where
+  pub table : Bytes
+  pub questions : Bytes
+  pub room : ℕ
+  pub number : ℤ
+  pub due : Bytes
+
+abbrev pub batch : Bytes → Bytes → ℕ → ℤ → Bytes → Batch
+batch table questions room number due = record { table = table; questions = questions; room = room; number = number; due = due }
+
+-- all that the call gives, of a buffer of dots and a work area that is not clear
+unfoldable pub calledAll : Batch → Asked
+unfolding opened
+calledAll b = askedAll (b .table) (b .questions) (replicate (b .room) 46) (replicate workWords 7)
+
+unfoldable pub owedAll : Batch → Asked
+owedAll b = leaves (b .number) (b .due) (b .room)
 
 -- ---- the program
 
