@@ -20,7 +20,7 @@ use Rattle.rules.specs.Sound.{Sound}
 use Rattle.rules.proofs.Sounds.{loads-sound}
 use Rattle.rules.specs.Question.{Question, askS, askM, askN, askI, askC, askV, questionForm, inTable, known, questionOf}
 use Rattle.rules.specs.Answer.{answer, answerBytes, selectedBytes}
-use Rattle.rules.specs.Asked.{say, wrongSecond, onTable, outcomeWithin, outcome, numberOf, written, askedWithin}
+use Rattle.rules.specs.Asked.{Outcome, say, wrongSecond, onTable, outcomeWithin, outcome, numberOf, written, given, askedWithin}
 use Rattle.growth.specs.Grown.{Numbers, Grown, GrownTexts}
 use Rattle.growth.specs.Promise.{Shortest, carrySelected, newWay, oldName, newName, oldAnswer, Promised}
 use Rattle.growth.specs.Calls.{carryQuestion, Lent, called, answersWith, oldBytes, newBytes, PutAgain, Said}
@@ -76,9 +76,13 @@ unfolding outcomeWithin onTable
 outcome-says text line room T q l e s f = rw (l, onTable, e, s, le-ltb room (length (answerBytes (answer T q))) f)
 
 -- an outcome that is an answer, with words enough
+pub given-says : (o : Outcome) (bytes : Bytes) (c : Lent) → o ≡ say bytes → workWords ≤ length (c .work) → given o (c .buffer) (c .work) ≡ answersWith bytes c
+unfolding numberOf written
+given-says o bytes c e w = rw (le-ltb (length (c .work)) workWords w, e)
+
 pub call-says : (text bytes : Bytes) (c : Lent) → outcome text (c .line) (length (c .buffer)) ≡ say bytes → workWords ≤ length (c .work) → called text c ≡ answersWith bytes c
-unfolding askedWithin numberOf written
-call-says text bytes c e w = rw (le-ltb (length (c .work)) workWords w, e)
+unfolding askedWithin
+call-says text bytes c = given-says (outcome text (c .line) (length (c .buffer))) bytes c
 
 -- ---- THE THEOREM
 

@@ -1,21 +1,23 @@
 -- EVERY PROMISE, as one statement each over texts that load and calls that are made. `called` is what the exported call gives: the contract of `yifgrun_ask`
--- (crate yifgrun, src/lib.rt) says that number, answer buffer and work area are those of `asked`, for every table, question, buffer and work area.
+-- (crate yifgrun, src/lib.rt) says that number, answer buffer and work area are those of `asked`, for every table, question, buffer and work area. So is `calledAll`
+-- what `yifgrun_ask_all` gives, by `askedAll`.
 use mathlib.Core.Path.{_≡_, refl, sym, ap, _∙_, subst}
 use mathlib.Core.Bool.{Bool, true}
 use mathlib.Core.List.{List, map}
 use mathlib.Core.Logic.{_↔_}
 use mathlib.Core.Option.{Option, none}
-use Prim.Native.Nat.{ℕ, _<_}
+use Prim.Native.Nat.{ℕ, _≤_, _<_}
 use native.Mathlib.Omega.{arith}
 use lib.ListN.{length}
-use borrow.Author.Tests.{ltb-true, lt-ltb, le-ltb, not-false}
-use Rattle.objects.specs.Bounds.{workWords, Bounds, bounds, formerBounds}
-use Rattle.objects.specs.Lists.{Bytes}
+use borrow.Author.Tests.{ltb-true, not-false}
+use Rattle.objects.specs.Bounds.{workWords, maxText, programAnswer, Bounds, bounds, formerBounds}
+use Rattle.objects.specs.Lists.{Bytes, In, flat}
 use Rattle.objects.specs.declared.TypeKey.{TypeKey}
 use Rattle.objects.specs.declared.PackageKey.{PackageKey}
 use Rattle.objects.specs.Table.{Table, size, hasType, hasPackage, pathOf, Member, Struct, isIface, isNamed, kindAt, under}
 use Rattle.objects.proofs.ListLaws.{and-l, In-map, map-In-to, map-map}
 use Rattle.objects.proofs.KindLaws.{iface-is, under-plain}
+use Rattle.text.specs.Lines.{pieces}
 use Rattle.rules.specs.Members.{identityFrom, identityOf}
 use Rattle.rules.specs.Load.{Loaded, refused, loaded, loadWithin, load, Within, Wider}
 use Rattle.rules.specs.Sound.{Ordered}
@@ -26,14 +28,16 @@ use Rattle.rules.specs.Comparable.{comparable}
 use Rattle.rules.specs.Missing.{Lack, missing}
 use Rattle.rules.specs.MethodSet.{methodSet}
 use Rattle.rules.specs.Answer.{Sel, answer, selected, set, selOf, says, lackAnswer}
-use Rattle.rules.specs.Asked.{numberOf, written, askedWithin}
+use Rattle.rules.specs.Asked.{outcome, askedWithin}
+use Rattle.rules.specs.AskedAll.{replyBytes, outcomeAll}
+use Rattle.rules.specs.Typeask.{Input, inputOf, typeask}
 use Rattle.rules.specs.Rows as rows
 use Rattle.rules.specs.Worked.{worked}
+use Rattle.rules.specs.Batches.{batches}
 use Rattle.rules.proofs.Computed as computed
-use Rattle.rules.proofs.Numbers.{outcome-bound, answered-fits}
 use Rattle.rules.proofs.Sounds.{loads-sound}
 use Rattle.rules.proofs.PathLaws.{package-by-path}
-use Rattle.rules.proofs.BoundLaws.{loads-within, load-wider, refused-wider, outcome-wider, asked-wider, typeask-wider}
+use Rattle.rules.proofs.BoundLaws.{loads-within, load-wider, refused-wider, outcome-wider, asked-wider, asked-all-wider, typeask-wider}
 use Rattle.ways.specs.MethodLevels.{asGo, setByLevels}
 use Rattle.ways.proofs.LevelSets.{set-by-levels}
 use Rattle.walks.specs.Reads.{setKept}
@@ -56,18 +60,33 @@ use Rattle.growth.specs.Grown.{knownAs, Numbers, GrownTexts}
 use Rattle.growth.specs.Calls.{Lent, called, PutAgain, Said}
 use Rattle.growth.proofs.Packages.{package-in, package-path, package-only, old-order}
 use Rattle.growth.proofs.Promised.{asked-in, outcome-says, call-says, grown-calls}
-use Rattle.promises.specs.Demands.{CallGives, Answered, CallSays, GoSelects, GoSet, KeptWalks, BesideGo, SameWithin, Reads, InOrder, PackagesKnown}
+use Rattle.promises.specs.Demands.{refusesWith, CallGives, calledAll, AllAsEach, Answered, CallSays, GoSelects, GoSet, KeptWalks, BesideGo, SameWithin, Reads, InOrder, PackagesKnown}
+use Rattle.promises.proofs.Calls.{call-gives, all-gives, as-each, table-refused, prints-each}
 use Rattle.promises.proofs.PackageOrder.{in-order}
 
 -- ---- DEMAND 1: what every call gives
 
-pub every-call : (table : Bytes) (c : Lent) → CallGives table c
-unfolding askedWithin numberOf written
-every-call table c = record {
-  tooFewWords = λ h. rw (lt-ltb (length (c .work)) workWords h);
-  refuses = λ n line h e. let b = outcome-bound table (c .line) (length (c .buffer)) n line e in (rw (le-ltb (length (c .work)) workWords h, e), b .0, b .1, b .2);
-  answers = λ bytes h e. (call-says table bytes c e h, answered-fits table (c .line) bytes (length (c .buffer)) e);
-}
+pub every-call : (table : Bytes) (c : Lent) → CallGives (outcome table (c .line) (length (c .buffer))) c (called table c)
+every-call = call-gives
+
+-- .. with many questions
+pub every-call-all : (table : Bytes) (c : Lent) → CallGives (outcomeAll table (c .line) (length (c .buffer))) c (calledAll table c)
+every-call-all = all-gives
+
+-- ---- many questions in one call
+
+-- each is answered as it is alone
+pub all-as-each : (text : Bytes) (T : Table) → load text ≡ loaded T → AllAsEach text (replyBytes T)
+all-as-each = as-each
+
+-- a refused table is refused as it is to one question, whatever is asked
+pub all-refused : (text : Bytes) (n line : ℕ) → load text ≡ refused n line → (c : Lent) → (calledAll text c ≡ called text c) × (workWords ≤ length (c .work) → called text c ≡ refusesWith n line c)
+all-refused = table-refused
+
+-- The program prints the same bytes, for an input (table, line `Q`, questions) of at most so many bytes, if none of the answers has more than its buffer of 16,384.
+pub prints-as-all : (input : Bytes) (i : Input) (T : Table) → inputOf (pieces input) ≡ i → length input ≤ maxText → load (i .table) ≡ loaded T
+    → ((q : Bytes) → In q (i .questions) → length (replyBytes T q) ≤ programAnswer) → typeask input ≡ flat (replyBytes T) (i .questions)
+prints-as-all = prints-each
 
 -- ---- DEMAND 2: what a call says
 
@@ -143,6 +162,10 @@ growth-promise = grown-calls
 pub worked-answers : map rows.called worked ≡ map rows.owed worked
 worked-answers = computed.worked-answers
 
+-- .. and calls with many questions, made of them
+pub worked-batches : map rows.calledAll batches ≡ map rows.owedAll batches
+worked-batches = computed.worked-batches
+
 -- ---- document 02, point 1: both ways shown
 
 -- goscript's own way is one of the two: the first if another shortest way ends in a type identical to the first's, else the second
@@ -208,6 +231,7 @@ wider-bounds b b′ w = record {
   refuses = refused-wider b b′ w;
   due = outcome-wider b b′ w;
   gives = λ text T h c. asked-wider b b′ w text T h (c .line) (c .buffer) (c .work);
+  givesAll = λ text T h c. asked-all-wider b b′ w text T h (c .line) (c .buffer) (c .work);
   prints = typeask-wider b b′ w;
 }
 

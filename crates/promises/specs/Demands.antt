@@ -7,7 +7,7 @@ use mathlib.Core.Option.{Option, some}
 use Prim.Native.Nat.{ℕ, _+_, _-_, _*_, _≤_, _<_}
 use lib.ListN.{length, getD, replicate}
 use Rattle.objects.specs.Bounds.{workWords, maxText, lastRefusal, refusalUnit, Bounds, bounds}
-use Rattle.objects.specs.Lists.{Bytes, In, Sorted}
+use Rattle.objects.specs.Lists.{Bytes, In, Sorted, flat}
 use Rattle.objects.specs.declared.TypeKey.{TypeKey}
 use Rattle.objects.specs.declared.PackageKey.{PackageKey}
 use Rattle.objects.specs.Table.{Table, size, Member, noTable, bare, pointerAt, ifaceUnder}
@@ -22,7 +22,8 @@ use Rattle.rules.specs.Sound.{Below, Ordered}
 use Rattle.rules.specs.Question.{Question, questionOf}
 use Rattle.rules.specs.Ways.{Selected, notfound, judged, searched}
 use Rattle.rules.specs.Answer.{Answer, Sel, answer, answerBytes}
-use Rattle.rules.specs.Asked.{outcomeWithin, outcome, refuse, say, refusal, wrongSecond, askedWithin}
+use Rattle.rules.specs.Asked.{Outcome, outcomeWithin, refuse, say, refusal, wrongSecond, Asked, askedWithin}
+use Rattle.rules.specs.AskedAll.{questionLines, refusedBytes, askedAllWithin, askedAll}
 use Rattle.rules.specs.Typeask.{inputOf, typeaskWithin}
 use Rattle.ways.specs.OfTable.{graph}
 use Rattle.walks.specs.Kept.{count}
@@ -38,16 +39,40 @@ use Rattle.growth.specs.Calls.{Lent, called, answersWith}
 
 -- ---- demand 1
 
--- All that a call gives, by what is due (`outcome`: a refusal from 2 on, or the bytes of the answer).
-pub record CallGives (table : Bytes) (c : Lent) : Type 0 where
+-- a call that refuses: "minus (refusal × 65,536 + line)"; "a refusal changes none of it"; "The work area is zero on every return except after refusal 1"
+abbrev pub refusesWith : ℕ → ℕ → Lent → Asked
+refusesWith n line c = record { number = refusal n line; answer = c .buffer; work = replicate (length (c .work)) 0 }
+
+-- All that a call gives that was lent c, by what is due (o: a refusal from 2 on, or the bytes of the answer).
+pub record CallGives (o : Outcome) (c : Lent) (gives : Asked) : Type 0 where
   -- 1: "The work area has fewer words than the number the team fixes"; it "leaves it unchanged"
-  pub tooFewWords : length (c .work) < workWords → called table c ≡ record { number = refusal 1 0; answer = c .buffer; work = c .work }
-  -- "minus (refusal × 65,536 + line)"; "a refusal changes none of it"; "The work area is zero on every return except after refusal 1"
-  pub refuses : (n line : ℕ) → workWords ≤ length (c .work) → outcome table (c .line) (length (c .buffer)) ≡ refuse n line
-      → (called table c ≡ record { number = refusal n line; answer = c .buffer; work = replicate (length (c .work)) 0 }) × (2 ≤ n) × (n ≤ lastRefusal) × (line < refusalUnit)
+  pub tooFewWords : length (c .work) < workWords → gives ≡ record { number = refusal 1 0; answer = c .buffer; work = c .work }
+  pub refuses : (n line : ℕ) → workWords ≤ length (c .work) → o ≡ refuse n line → (gives ≡ refusesWith n line c) × (2 ≤ n) × (n ≤ lastRefusal) × (line < refusalUnit)
   -- "the answer's length"; "An answer fills the front of the answer buffer and the rest is unchanged"
-  pub answers : (bytes : Bytes) → workWords ≤ length (c .work) → outcome table (c .line) (length (c .buffer)) ≡ say bytes
-      → (called table c ≡ answersWith bytes c) × (length bytes ≤ length (c .buffer))
+  pub answers : (bytes : Bytes) → workWords ≤ length (c .work) → o ≡ say bytes → (gives ≡ answersWith bytes c) × (length bytes ≤ length (c .buffer))
+
+-- ---- many questions in one call
+
+-- all that the call with many questions gives; what is lent as the line is the text of the questions, a line each
+abbrev pub calledAll : Bytes → Lent → Asked
+calledAll text c = askedAll text (c .line) (c .buffer) (c .work)
+
+-- What stands for a question among others: the bytes with which a call with this line alone answers, if it has room for them, or the line of the refusal, 11 or 12,
+-- that such a call gives whatever its room.
+pub data StandsFor (text line : Bytes) : Bytes → Type 0 where
+  by-answer : (bytes : Bytes) → ((c : Lent) → c .line ≡ line → workWords ≤ length (c .work) → length bytes ≤ length (c .buffer) → called text c ≡ answersWith bytes c)
+      → StandsFor text line bytes
+  by-refusal : (n : ℕ) → (n ≡ 11) ⊎ (n ≡ 12) → ((c : Lent) → c .line ≡ line → workWords ≤ length (c .work) → called text c ≡ refusesWith n 0 c)
+      → StandsFor text line (refusedBytes n 0)
+
+-- A call with many questions beside calls with each alone; `said` is what stands for a line.
+pub record AllAsEach (text : Bytes) (said : Bytes → Bytes) : Type 0 where
+  pub each : (line : Bytes) → StandsFor text line (said line)
+  -- with room for all of it: one after the other, in the order of the questions
+  pub all : (c : Lent) → workWords ≤ length (c .work) → length (flat said (questionLines (c .line))) ≤ length (c .buffer)
+      → calledAll text c ≡ answersWith (flat said (questionLines (c .line))) c
+  -- with less: 13, for all of it, and the buffer is as it was
+  pub tooLong : (c : Lent) → workWords ≤ length (c .work) → length (c .buffer) < length (flat said (questionLines (c .line))) → calledAll text c ≡ refusesWith 13 0 c
 
 -- ---- demand 2
 
@@ -98,14 +123,16 @@ pub record BesideGo (T : Table) (t : TypeKey) (l : List Selection) : Type 0 wher
 
 -- ---- document 02, point 4
 
--- Within b′ all is as within b for a text that loads within b: the table, what is due for a question, all that a call gives and, for an input of that size, all
--- that the program prints. A text that is refused for anything else than its size (2, 6) is refused in the same way, at the same line.
+-- Within b′ all is as within b for a text that loads within b: the table, what is due for a question, all that a call gives, with one question or
+-- many, and, for an input of that size, all that the program prints. A text that is refused for anything else than its size (2, 6) is refused in the same way, at the same line.
 pub record SameWithin (b b′ : Bounds) : Type 0 where
   pub loads : (text : Bytes) (T : Table) → loadWithin b text ≡ loaded T → loadWithin b′ text ≡ loaded T
   pub refuses : (text : Bytes) (n line : ℕ) → loadWithin b text ≡ refused n line → n ≢ 2 → n ≢ 6 → loadWithin b′ text ≡ refused n line
   pub due : (text : Bytes) (T : Table) → loadWithin b text ≡ loaded T → (question : Bytes) (room : ℕ) → outcomeWithin b′ text question room ≡ outcomeWithin b text question room
   pub gives : (text : Bytes) (T : Table) → loadWithin b text ≡ loaded T → (c : Lent)
       → askedWithin b′ text (c .line) (c .buffer) (c .work) ≡ askedWithin b text (c .line) (c .buffer) (c .work)
+  pub givesAll : (text : Bytes) (T : Table) → loadWithin b text ≡ loaded T → (c : Lent)
+      → askedAllWithin b′ text (c .line) (c .buffer) (c .work) ≡ askedAllWithin b text (c .line) (c .buffer) (c .work)
   pub prints : (input : Bytes) (T : Table) → length input ≤ b .bytes → loadWithin b (inputOf (pieces input) .table) ≡ loaded T → typeaskWithin b′ input ≡ typeaskWithin b input
 
 -- ---- document 02, point 5
