@@ -2,7 +2,7 @@
 -- with a question and the one with many are instances.
 use mathlib.Core.Path.{_≡_, refl, sym, ap, _∙_}
 use mathlib.Core.List.{List}
-use mathlib.Core.Logic.{inl, inr}
+use mathlib.Core.Logic.{_⊎_, inl, inr}
 use mathlib.Core.Option.{Option, none, some}
 use Prim.Native.Nat.{ℕ, zero, suc, _+_, _*_, _^_, _≤_, _<_}
 use native.Mathlib.Omega.{arith}
@@ -16,7 +16,6 @@ use Rattle.objects.specs.Table.{Table}
 use Rattle.objects.proofs.ListLaws.{cases}
 use Rattle.rules.specs.Load.{Loaded, refused, loaded, load}
 use Rattle.rules.specs.Question.{Question, questionOf}
-use Rattle.rules.specs.Answer.{answer, answerBytes}
 use Rattle.rules.specs.Asked.{Outcome, refuse, say, fitted, wrongSecond, repliedTo, replied, onTable, outcomeWithin, outcome, refusal, numberOf, written, given, askedWithin, asked}
 use Rattle.rules.specs.AskedAll.{repliedAll, outcomeAllWithin, outcomeAll, askedAllWithin, askedAll}
 use Rattle.rules.proofs.CheckLaws.{OfTable, Right, load-right}
@@ -59,9 +58,19 @@ bounded-number room o b n line e = rw e at b
 pub bounded-fits : (room : ℕ) (o : Outcome) → Bounded room o → (bytes : Bytes) → o ≡ say bytes → length bytes ≤ room
 bounded-fits room o b bytes e = rw e at b
 
-replied-refuses : (T : Table) (q : Option Question) → Refuses (repliedTo T q)
-replied-refuses T none = (omega arith, omega arith, omega arith)
-replied-refuses T (some q) = cases (wrongSecond T q) (λ e. rw e (omega arith, omega arith, omega arith)) (λ e. rw e tt)
+-- a question is refused by 11 or 12, which name no line
+abbrev pub OfQuestion : Outcome → Type 0
+OfQuestion (refuse n line) = ((n ≡ 11) ⊎ (n ≡ 12)) × (line ≡ 0)
+OfQuestion (say bytes) = Unit {0}
+
+pub question-refused : (T : Table) (q : Option Question) → OfQuestion (repliedTo T q)
+question-refused T none = (inl refl, refl)
+question-refused T (some q) = cases (wrongSecond T q) (λ e. rw e (inr refl, refl)) (λ e. rw e tt)
+
+question-bound : (o : Outcome) → OfQuestion o → Refuses o
+question-bound (refuse n line) (inl e, z) = (omega arith, omega arith, omega arith)
+question-bound (refuse n line) (inr e, z) = (omega arith, omega arith, omega arith)
+question-bound (say bytes) h = tt
 
 fitted-bounded : (room : ℕ) (o : Outcome) → Refuses o → Bounded room (fitted room o)
 fitted-bounded room (refuse n line) h = h
@@ -78,7 +87,7 @@ due-bounded said h table room = fitted-bounded room (onTable said (load table)) 
 
 pub outcome-bounded : (table question : Bytes) (room : ℕ) → Bounded room (outcome table question room)
 unfolding outcomeWithin
-outcome-bounded table question room = due-bounded (replied question) (λ T. replied-refuses T (questionOf T question)) table room
+outcome-bounded table question room = due-bounded (replied question) (λ T. question-bound (replied question T) (question-refused T (questionOf T question))) table room
 
 -- of many questions none is refused in place of the rest: only the table is, and 13 is due for all
 pub outcome-all-bounded : (table questions : Bytes) (room : ℕ) → Bounded room (outcomeAll table questions room)
