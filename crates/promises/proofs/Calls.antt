@@ -1,24 +1,20 @@
 -- What calls give, by what is due: one law for the call with a question and the one with many. What is said to a question line is the same in both (`replied`).
-use mathlib.Core.Path.{_≡_, refl, sym, ap, _∙_}
-use mathlib.Core.Logic.{_⊎_, inl, inr}
-use mathlib.Core.Bool.{true, false}
-use mathlib.Core.Option.{Option, none, some}
+use mathlib.Core.Path.{_≡_, refl, ap, _∙_}
 use Prim.Native.Nat.{ℕ, _≤_, _<_}
-use native.Mathlib.Omega.{arith}
 use lib.ListN.{length}
 use borrow.Author.Tests.{lt-ltb, le-ltb}
 use Rattle.objects.specs.Bounds.{workWords, maxText, programAnswer}
 use Rattle.objects.specs.Lists.{Bytes, In, flat}
 use Rattle.objects.specs.Table.{Table}
-use Rattle.objects.proofs.ListLaws.{cases, flat-In-ext}
+use Rattle.objects.proofs.ListLaws.{flat-In-ext}
 use Rattle.text.specs.Lines.{pieces}
 use Rattle.rules.specs.Load.{refused, loaded, load}
-use Rattle.rules.specs.Question.{Question, questionOf}
-use Rattle.rules.specs.Asked.{Outcome, refuse, say, fitted, wrongSecond, repliedTo, replied, onTable, outcomeWithin, outcome, numberOf, written, given, askedWithin}
+use Rattle.rules.specs.Question.{questionOf}
+use Rattle.rules.specs.Asked.{Outcome, refuse, say, fitted, replied, onTable, outcomeWithin, outcome, numberOf, written, given, askedWithin}
 use Rattle.rules.specs.AskedAll.{questionLines, printed, replyBytes, repliedAll, outcomeAllWithin, outcomeAll, askedAllWithin}
-use Rattle.rules.specs.Typeask.{Input, inputOf, printedOne, printedAll, typeaskWithin, typeask}
-use Rattle.rules.proofs.Numbers.{Bounded, bounded-number, bounded-fits, outcome-bounded, outcome-all-bounded}
-use Rattle.growth.specs.Calls.{Lent, called, answersWith}
+use Rattle.rules.specs.Typeask.{Input, inputOf, printedOne, typeaskWithin, typeask}
+use Rattle.rules.proofs.Numbers.{Bounded, bounded-number, bounded-fits, outcome-bounded, outcome-all-bounded, OfQuestion, question-refused}
+use Rattle.growth.specs.Calls.{Lent, called}
 use Rattle.growth.proofs.Promised.{given-says}
 use Rattle.promises.specs.Demands.{refusesWith, CallGives, calledAll, StandsFor, by-answer, by-refusal, AllAsEach}
 
@@ -48,14 +44,6 @@ fitted-fits room bytes h = rw (le-ltb room (length bytes) h)
 fitted-long : (room : ℕ) (bytes : Bytes) → room < length bytes → fitted room (say bytes) ≡ refuse 13 0
 fitted-long room bytes h = rw (lt-ltb room (length bytes) h)
 
--- 11 and 12 name no line
-replied-refuses : (T : Table) (q : Option Question) (n line : ℕ) → repliedTo T q ≡ refuse n line → ((n ≡ 11) ⊎ (n ≡ 12)) × (line ≡ 0)
-replied-refuses T none n line e = (inl (cc), cc)
-replied-refuses T (some q) n line e =
-    cases (wrongSecond T q)
-    (λ w. let r = rw w at e in (inr (cc), cc))
-    (λ w. let r = rw w at e in let z : _≡_ {A = ℕ} 0 1 = cc in absurd (omega arith))
-
 module _ (text : Bytes) (T : Table) (loads : load text ≡ loaded T) where
   alone : (c : Lent) (line : Bytes) (o : Outcome) → c .line ≡ line → replied line T ≡ o → outcome text (c .line) (length (c .buffer)) ≡ fitted (length (c .buffer)) o
   unfolding outcomeWithin onTable
@@ -67,13 +55,11 @@ module _ (text : Bytes) (T : Table) (loads : load text ≡ loaded T) where
 
   stands-for : (line : Bytes) → StandsFor text line (replyBytes T line)
   unfolding replyBytes
-  stands-for line = go (replied line T) refl
+  stands-for line = go (replied line T) refl (question-refused T (questionOf T line))
     where
-      go : (o : Outcome) → replied line T ≡ o → StandsFor text line (printed o)
-      go (say bytes) e = by-answer bytes (λ c l w room. call-gives text c .answers bytes w (alone c line (say bytes) l e ∙ fitted-fits (length (c .buffer)) bytes room) .0)
-      go (refuse n at) e =
-          let r = replied-refuses T (questionOf T line) n at e in
-          rw (r .1) (by-refusal n (r .0) (λ c l w. call-gives text c .refuses n 0 w (alone c line (refuse n 0) l (e ∙ ap (refuse n) (r .1))) .0))
+      go : (o : Outcome) → replied line T ≡ o → OfQuestion o → StandsFor text line (printed o)
+      go (say bytes) e q = by-answer bytes (λ c l w room. call-gives text c .answers bytes w (alone c line (say bytes) l e ∙ fitted-fits (length (c .buffer)) bytes room) .0)
+      go (refuse n at) e q = rw (q .1) (by-refusal n (q .0) (λ c l w. call-gives text c .refuses n 0 w (alone c line (refuse n 0) l (e ∙ ap (refuse n) (q .1))) .0))
 
   pub as-each : AllAsEach text (replyBytes T)
   as-each = record {

@@ -1,3 +1,4 @@
 pub mod Calls
+pub mod Questions
 pub mod PackageOrder
 pub mod Promises

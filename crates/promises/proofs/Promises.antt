@@ -2,8 +2,8 @@
 -- (crate yifgrun, src/lib.rt) says that number, answer buffer and work area are those of `asked`, for every table, question, buffer and work area. So is `calledAll`
 -- what `yifgrun_ask_all` gives, by `askedAll`.
 use mathlib.Core.Path.{_≡_, refl, sym, ap, _∙_, subst}
-use mathlib.Core.Bool.{Bool, true}
-use mathlib.Core.List.{List, map}
+use mathlib.Core.Bool.{Bool, true, cond}
+use mathlib.Core.List.{List, [], _∷_, _++_, map}
 use mathlib.Core.Logic.{_↔_}
 use mathlib.Core.Option.{Option, none}
 use Prim.Native.Nat.{ℕ, _≤_, _<_}
@@ -11,13 +11,15 @@ use native.Mathlib.Omega.{arith}
 use lib.ListN.{length}
 use borrow.Author.Tests.{ltb-true, not-false}
 use Rattle.objects.specs.Bounds.{workWords, maxText, programAnswer, Bounds, bounds, formerBounds}
-use Rattle.objects.specs.Lists.{Bytes, In, flat}
+use Rattle.objects.specs.Lists.{Bytes, In, empty, flat}
 use Rattle.objects.specs.declared.TypeKey.{TypeKey}
 use Rattle.objects.specs.declared.PackageKey.{PackageKey}
 use Rattle.objects.specs.Table.{Table, size, hasType, hasPackage, pathOf, Member, Struct, isIface, isNamed, kindAt, under}
 use Rattle.objects.proofs.ListLaws.{and-l, In-map, map-In-to, map-map}
 use Rattle.objects.proofs.KindLaws.{iface-is, under-plain}
+use Rattle.text.specs.Bytes.{ascii}
 use Rattle.text.specs.Lines.{pieces}
+use Rattle.text.proofs.LineLaws.{Free}
 use Rattle.rules.specs.Members.{identityFrom, identityOf}
 use Rattle.rules.specs.Load.{Loaded, refused, loaded, loadWithin, load, Within, Wider}
 use Rattle.rules.specs.Sound.{Ordered}
@@ -29,7 +31,7 @@ use Rattle.rules.specs.Missing.{Lack, missing}
 use Rattle.rules.specs.MethodSet.{methodSet}
 use Rattle.rules.specs.Answer.{Sel, answer, selected, set, selOf, says, lackAnswer}
 use Rattle.rules.specs.Asked.{outcome, askedWithin}
-use Rattle.rules.specs.AskedAll.{replyBytes, outcomeAll}
+use Rattle.rules.specs.AskedAll.{questionLines, replyBytes, outcomeAll}
 use Rattle.rules.specs.Typeask.{Input, inputOf, typeask}
 use Rattle.rules.specs.Rows as rows
 use Rattle.rules.specs.Worked.{worked}
@@ -57,11 +59,12 @@ use Rattle.gospec.specs.GoImplements.{Implements}
 use Rattle.gospec.proofs.FieldsGo.{structs-told-apart}
 use Rattle.gospec.proofs.Loaded as go
 use Rattle.growth.specs.Grown.{knownAs, Numbers, GrownTexts}
-use Rattle.growth.specs.Calls.{Lent, called, PutAgain, Said}
+use Rattle.growth.specs.Calls.{Lent, called, answersWith, PutAgain, Said}
 use Rattle.growth.proofs.Packages.{package-in, package-path, package-only, old-order}
 use Rattle.growth.proofs.Promised.{asked-in, outcome-says, call-says, grown-calls}
 use Rattle.promises.specs.Demands.{refusesWith, CallGives, calledAll, AllAsEach, Answered, CallSays, GoSelects, GoSet, KeptWalks, BesideGo, SameWithin, Reads, InOrder, PackagesKnown}
 use Rattle.promises.proofs.Calls.{call-gives, all-gives, as-each, table-refused, prints-each}
+use Rattle.promises.proofs.Questions.{by-line, behind-table}
 use Rattle.promises.proofs.PackageOrder.{in-order}
 
 -- ---- DEMAND 1: what every call gives
@@ -79,14 +82,28 @@ every-call-all = all-gives
 pub all-as-each : (text : Bytes) (T : Table) → load text ≡ loaded T → AllAsEach text (replyBytes T)
 all-as-each = as-each
 
+-- the questions of a text are its lines, and what stands behind the last newline unless it is empty
+pub questions-by-line : (lines : List Bytes) (last : Bytes) → ((l : Bytes) → In l lines → Free 10 l) → Free 10 last
+    → questionLines (flat (λ l. l ++ (10 ∷ [])) lines ++ last) ≡ lines ++ cond (empty last) [] (last ∷ [])
+questions-by-line = by-line
+
 -- a refused table is refused as it is to one question, whatever is asked
 pub all-refused : (text : Bytes) (n line : ℕ) → load text ≡ refused n line → (c : Lent) → (calledAll text c ≡ called text c) × (workWords ≤ length (c .work) → called text c ≡ refusesWith n line c)
 all-refused = table-refused
 
--- The program prints the same bytes, for an input (table, line `Q`, questions) of at most so many bytes, if none of the answers has more than its buffer of 16,384.
+-- The program prints the same bytes for the table and the questions that its input has, if the input is not too long (2) and no answer is longer than its buffer.
 pub prints-as-all : (input : Bytes) (i : Input) (T : Table) → inputOf (pieces input) ≡ i → length input ≤ maxText → load (i .table) ≡ loaded T
     → ((q : Bytes) → In q (i .questions) → length (replyBytes T q) ≤ programAnswer) → typeask input ≡ flat (replyBytes T) (i .questions)
 prints-as-all = prints-each
+
+-- So what it prints for a table that loads, a line `Q` and questions is what a call with these questions answers, with room for it.
+pub prints-as-called : (table : Bytes) (c : Lent) (T : Table) → load table ≡ loaded T → (input : Bytes) → input ≡ table ++ (ascii "Q\n" ++ c .line) → length input ≤ maxText
+    → ((q : Bytes) → In q (questionLines (c .line)) → length (replyBytes T q) ≤ programAnswer)
+    → workWords ≤ length (c .work) → length (typeask input) ≤ length (c .buffer) → calledAll table c ≡ answersWith (typeask input) c
+prints-as-called table c T loads input e fits short words room =
+    let reads = ap (λ text. inputOf (pieces text)) e ∙ behind-table (c .line) table T loads in
+    let same = prints-each input _ T reads fits loads short in
+    rw same (as-each table T loads .all c words (rw same at room))
 
 -- ---- DEMAND 2: what a call says
 
