@@ -123,8 +123,9 @@ pub record BesideGo (T : Table) (t : TypeKey) (l : List Selection) : Type 0 wher
 
 -- ---- document 02, point 4
 
--- Within b′ all is as within b for a text that loads within b: the table, what is due for a question, all that a call gives, with one question or
--- many, and, for an input of that size, all that the program prints. A text that is refused for anything else than its size (2, 6) is refused in the same way, at the same line.
+-- Within b′ all is as within b for a text that loads within b: the table, what is due for a question, all that a call gives, with one question or many,
+-- and, for an input of that size, all that the program prints. A text that is refused for anything else than its size (2, 6) is refused in the same way, at the
+-- same line.
 pub record SameWithin (b b′ : Bounds) : Type 0 where
   pub loads : (text : Bytes) (T : Table) → loadWithin b text ≡ loaded T → loadWithin b′ text ≡ loaded T
   pub refuses : (text : Bytes) (n line : ℕ) → loadWithin b text ≡ refused n line → n ≢ 2 → n ≢ 6 → loadWithin b′ text ≡ refused n line

@@ -39,7 +39,7 @@ table-bound n (inr e) = (omega arith, omega arith)
 
 -- ---- outcomes
 
--- refusals from 2 on with a line below 65,536
+-- refusals from 2 to the last, with a line below 65,536
 abbrev pub Numbered : ℕ → ℕ → Type 0
 Numbered n line = (2 ≤ n) × (n ≤ lastRefusal) × (line < refusalUnit)
 
