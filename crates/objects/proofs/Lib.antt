@@ -15,4 +15,6 @@ pub mod Keeping
 pub mod SortedLaws
 pub mod Growing
 pub mod Writing
+pub mod Unshown
 pub mod Ranks
+pub mod Signs

@@ -95,7 +95,11 @@ markWords = pairWords maxTypes
 abbrev pub wordValues : ℕ
 wordValues = 4_294_967_296
 
--- ---- the rows of a loaded table (specs/Rows.antt): four counts, packages, types, and then members from the front and elements of tuples from the back
+-- ---- the rows of a loaded table (specs/Rows.antt): four counts, the word that says whether members are signed, packages, types, and then members, with their
+-- signs behind them, from the front and elements of tuples from the back
+
+abbrev pub signedAt : ℕ
+signedAt = 4
 
 -- words of a type's row and of a member's, and of a package's
 abbrev pub rowWords : ℕ

@@ -8,11 +8,12 @@ use Prim.Native.Nat.{ℕ, suc, _+_, _*_, _-_, _≤_, _<_}
 use lib.Dec.{eqb}
 use lib.ListN.{length, set}
 use Rattle.objects.specs.declared.TypeKey.{TypeKey}
+use Rattle.objects.specs.declared.ObjKey.{ObjKey}
 use Rattle.objects.specs.declared.PackageKey.{PackageKey}
 use Rattle.objects.specs.Bounds.{maxTypes, maxPackages, maxMembers, maxElements, rowWords, typesAt, membersAt}
 use Rattle.objects.specs.Lists.{Bytes, onLast}
 use Rattle.objects.specs.Table.{Table, Member, Kind, Basic, Array, Slice, Pointer, Map, Chan, Tuple, Func, Struct, Iface, Named, typeKey, objKey, withTypes}
-use Rattle.objects.specs.Rows.{Words, packageCount, typeCount, memberCountOf, elementCount, typeWord, bytesAt, entityOf, tableOf}
+use Rattle.objects.specs.Rows.{Words, packageCount, typeCount, memberCountOf, elementCount, typeWord, memberWord, signedOf, signAt, bytesAt, entityOf, tableOf}
 
 -- ---- rows in order
 
@@ -88,3 +89,29 @@ pub record RankPut (rows : Words) (t : TypeKey) (rank : ℕ) (after : Words) : T
   pub holds : Holds after (λ text. tableOf text rows)
   pub here : typeWord after t 7 ≡ rank
   pub elsewhere : (u : TypeKey) → u .0 ≢ t .0 → typeWord after u 7 ≡ typeWord rows u 7
+
+-- ---- signs of members
+
+-- The words of the table are as they were, in rows as long: only others may have changed.
+pub record Beside (rows after : Words) : Type 0 where
+  pub holds : Holds after (λ text. tableOf text rows)
+  pub long : length after ≡ length rows
+  pub packages : packageCount after ≡ packageCount rows
+  pub types : typeCount after ≡ typeCount rows
+  pub members : memberCountOf after ≡ memberCountOf rows
+  pub elements : elementCount after ≡ elementCount rows
+  pub typeWords : (t : TypeKey) (j : ℕ) → t .0 < typeCount rows → j < rowWords → typeWord after t j ≡ typeWord rows t j
+  pub memberWords : (m : ObjKey) (j : ℕ) → m .0 < memberCountOf rows → j < rowWords → memberWord after m j ≡ memberWord rows m j
+
+-- The sign of one member alone is another.
+pub record SignPut (rows : Words) (m : ObjKey) (sign : ℕ) (after : Words) : Type 0 where
+  pub beside : Beside rows after
+  pub here : signAt after m ≡ sign
+  pub elsewhere : (n : ObjKey) → n .0 ≢ m .0 → signAt after n ≡ signAt rows n
+
+-- The word that says whether members are signed alone is another.
+pub record SignedPut (rows : Words) (flag : ℕ) (after : Words) : Type 0 where
+  pub beside : Beside rows after
+  pub here : signedOf after ≡ flag
+  pub types : (t : TypeKey) (j : ℕ) → typeWord after t j ≡ typeWord rows t j
+  pub signs : (m : ObjKey) → signAt after m ≡ signAt rows m

@@ -11,7 +11,7 @@ use Rattle.objects.specs.declared.ObjKey.{ObjKey}
 use Rattle.objects.specs.declared.PackageKey.{PackageKey}
 use Rattle.objects.specs.declared.«Package».{«Package»}
 use Rattle.objects.specs.declared.Dir.{Dir}
-use Rattle.objects.specs.Bounds.{rowWords, typesAt, membersAt, packagesAt}
+use Rattle.objects.specs.Bounds.{signedAt, rowWords, typesAt, membersAt, packagesAt}
 use Rattle.objects.specs.Lists.{Bytes, upTo}
 use Rattle.objects.specs.Table.{Table, Member, Entity, Field, Method, Kind, Basic, Array, Slice, Pointer, Map, Chan, Tuple, Func, Struct, Iface, Named, typeKey, objKey, packageKey}
 
@@ -51,6 +51,19 @@ packageWord rows p j = wordAt rows (packagesAt + 2 * (p .0) + j)
 -- the elements stand from the last word downwards; one that is not there reads as the first word
 unfoldable pub elementAt : Words → ℕ → TypeKey
 elementAt rows i = typeKey (wordAt rows (length rows - 1 - i))
+
+-- ---- signs of members, which the table does not show
+
+-- not 0 if each member has a sign
+unfoldable pub signedOf : Words → ℕ
+signedOf rows = wordAt rows signedAt
+
+-- the signs stand behind the members, a word for each
+abbrev pub signsAt : Words → ℕ
+signsAt rows = membersAt (length rows) + rowWords * memberCountOf rows
+
+unfoldable pub signAt : Words → ObjKey → ℕ
+signAt rows m = wordAt rows (signsAt rows + m .0)
 
 -- ---- what the words mean
 

@@ -46,7 +46,10 @@ pub const PROGRAM_ANSWER: usize = 16_384;
 // 1: "fewer words than the number the team fixes in docs/, which is at most 4,194,304"
 pub const WORK_WORDS: usize = 4_096;
 
-// ---- the rows of a loaded table: counts, packages, types, and then members from the front and elements of tuples from the back
+// ---- the rows of a loaded table: counts, the word that says whether members are signed, packages, types, and then members, with their signs behind them, from
+// the front and elements of tuples from the back
+
+pub const SIGNED_AT: usize = 4;
 
 // words of a type's row and of a member's, and of a package's
 pub const ROW_WORDS: usize = 8;

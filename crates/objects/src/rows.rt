@@ -4,7 +4,7 @@ ghost use mathlib.Core.Path.{_≡_};
 ghost use Prim.Native.Nat.{_≤_};
 ghost use lib.ListN.{length};
 ghost use Rattle.objects.specs.Bounds.{typesEnd, membersAt};
-ghost use Rattle.objects.specs.Rows.{wordAt, packageCount, typeCount, memberCountOf, elementCount, typeWord, memberWord, packageWord, elementAt, dirAt};
+ghost use Rattle.objects.specs.Rows.{wordAt, packageCount, typeCount, memberCountOf, elementCount, typeWord, memberWord, packageWord, elementAt, signedOf, signsAt, dirAt};
 ghost use Rattle.objects.specs.Types.{typeRead, numberRead, pointerRead, namedRead, bareRead, underRead, ifaceRead, namedPointerRead, firstRead, totalRead, memberTypeRead, packageRead, embeddedRead, methodRead, ptrRead};
 use crate::Dir;
 use crate::ObjKey;
@@ -15,6 +15,7 @@ use crate::TypeKey;
 use crate::bounds::PACKAGE_WORDS;
 use crate::bounds::PACKAGES_AT;
 use crate::bounds::ROW_WORDS;
+use crate::bounds::SIGNED_AT;
 use crate::bounds::TYPES_AT;
 use crate::bounds::TYPES_END;
 use crate::kinds::IFACE;
@@ -99,6 +100,22 @@ pub fn element(rows: &[u32], i: u32) -> TypeKey
     } else {
         TypeKey(word(rows, 0))
     }
+}
+
+// ---- signs of members
+
+// Not 0 if each member has a sign.
+pub fn signed(rows: &[u32]) -> u32
+    ensures { λ r. ⌜ r ≡ signedOf (now (rows .entry)) ⌝ }
+{
+    word(rows, SIGNED_AT)
+}
+
+// Where they stand: behind the members.
+pub fn signs_at(rows: &[u32]) -> usize
+    ensures { λ r. ⌜ r ≡ signsAt (now (rows .entry)) ⌝ }
+{
+    members_at(rows) + ROW_WORDS * (member_count(rows) as usize)
 }
 
 // ---- a whole type

@@ -7,19 +7,22 @@ ghost use lib.ListN.{length};
 ghost use lib.Seq.{sets};
 ghost use Rattle.objects.specs.Bounds.{maxPackages, maxTypes, maxMembers, maxElements, rowWords, membersAt};
 ghost use Rattle.objects.specs.Table.{Numbered, plusPackage, plusType, plusMember};
-ghost use Rattle.objects.specs.Rows.{packageFrom, packageMeant, packageCount, typeCount, memberCountOf, elementCount, typeWord, bytesAt, kindOf, tableOf};
-ghost use Rattle.objects.specs.Laid.{typesUsed, used, Laid, Holds, RankPut, endOf, lastType, raised, memberOf, plusElement};
+ghost use Rattle.objects.specs.Rows.{packageFrom, packageMeant, packageCount, typeCount, memberCountOf, elementCount, typeWord, signsAt, bytesAt, kindOf, tableOf};
+ghost use Rattle.objects.specs.Laid.{typesUsed, used, Laid, Holds, RankPut, SignPut, SignedPut, endOf, lastType, raised, memberOf, plusElement};
+use crate::ObjKey;
 use crate::Package;
 use crate::TypeKey;
 use crate::bounds::PACKAGE_WORDS;
 use crate::bounds::PACKAGES_AT;
 use crate::bounds::ROW_WORDS;
+use crate::bounds::SIGNED_AT;
 use crate::bounds::TYPES_AT;
 use crate::kinds::TUPLE;
 use crate::rows::element_count;
 use crate::rows::member_count;
 use crate::rows::members_at;
 use crate::rows::package_count;
+use crate::rows::signs_at;
 use crate::rows::type_count;
 use crate::rows::word;
 
@@ -182,4 +185,23 @@ pub fn put_rank(rows: &mut [u32], t: TypeKey, rank: u32)
     ensures { λ _. ⌜ RankPut (now (rows .entry)) t rank (now (rows .exit)) ⌝ }
 {
     rows[TYPES_AT + ROW_WORDS * (t.0 as usize) + 7] = rank;
+}
+
+// ---- signs of members
+
+// The sign of a member, where signs have room before the elements.
+pub fn put_sign(rows: &mut [u32], m: ObjKey, sign: u32)
+    requires { ⌜ Laid (now rows) × (m .0 < memberCountOf (now rows)) × (signsAt (now rows) + memberCountOf (now rows) + elementCount (now rows) ≤ length (now rows)) ⌝ }
+    ensures { λ _. ⌜ SignPut (now (rows .entry)) m sign (now (rows .exit)) ⌝ }
+{
+    let at = signs_at(rows) + m.0 as usize;
+    rows[at] = sign;
+}
+
+// Whether members are signed: not 0 if they are.
+pub fn put_signed(rows: &mut [u32], flag: u32)
+    requires { ⌜ Laid (now rows) ⌝ }
+    ensures { λ _. ⌜ SignedPut (now (rows .entry)) flag (now (rows .exit)) ⌝ }
+{
+    rows[SIGNED_AT] = flag;
 }
