@@ -1,72 +1,25 @@
--- Marks of names (specs/Marks.antt): hashes and places, marks that are added, and what a name without its mark differs from.
-use mathlib.Core.Path.{_≡_, refl, sym, ap, _∙_}
+-- Marks of names (specs/Marks.antt): bits, marks that are added, and what a name without its mark differs from.
+use mathlib.Core.Path.{_≡_, sym, _∙_}
 use mathlib.Core.Bool.{Bool}
-use mathlib.Core.List.{[], _∷_}
 use mathlib.Core.Logic.{_≢_}
-use Prim.Native.Nat.{ℕ, _+_, _-_, _*_, _/_, _%_, _^_, _<_, _≤_, max}
+use Prim.Native.Nat.{ℕ, _+_, _*_, _/_, _%_, _^_, _<_, _≤_, max}
 use native.Mathlib.Nat.{max-le, le-max-left}
 use native.Mathlib.Numerals.{add-one}
 use native.Mathlib.Omega.{arith}
 use lib.Bits.{bitOr, or-step, or-comm, or-shr}
 use lib.Dec.{eqb}
-use lib.ListN.{length, getD, take, drop, set, drop-of-length-le, length-drop}
+use lib.ListN.{length, set}
 use lib.Pow.{shl-shr, shl-exact}
 use borrow.Author.Tests.{eqb-true, eqb-false}
-use Rattle.objects.specs.declared.ObjKey.{ObjKey}
 use Rattle.objects.specs.Lists.{Bytes}
 use Rattle.objects.specs.Table.{objKey}
-use Rattle.objects.specs.Rows.{Words, wordAt, memberWord, bytesAt, memberAt, membersFrom}
+use Rattle.objects.specs.Rows.{Words, wordAt, memberAt, membersFrom}
 use Rattle.objects.proofs.ListLaws.{cases}
 use Rattle.objects.proofs.PartLaws.{all-snoc}
 use Rattle.objects.proofs.RowLaws.{members-more}
 use Rattle.objects.proofs.Stores.{word-put, word-kept}
-use Rattle.text.specs.Compare.{fourOf}
-use Rattle.text.proofs.PartLaws.{drop-at}
-use Rattle.clashes.specs.Marks.{hashes, hashRest, hashFrom, placeOf, highPlace, lowPlace, bitAt, MarkedAt, Marked, Grows, AllMarked, Met, Noted}
-
--- ---- hashes
-
-hash-short : (h : ℕ) (l : Bytes) → length l < 4 → hashFrom h l ≡ hashRest h l
-unfolding hashFrom
-hash-short h [] k = refl
-hash-short h (a ∷ []) k = refl
-hash-short h (a ∷ b ∷ []) k = refl
-hash-short h (a ∷ b ∷ c ∷ []) k = refl
-hash-short h (a ∷ b ∷ c ∷ d ∷ l) k = absurd (omega arith)
-
-module _ (name : Bytes) (h i : ℕ) where
-  pub rest-next : i < length name → {b : ℕ} → b ≡ getD name i 0 → hashRest h (drop i name) ≡ hashRest ((h + b) * 1_103_515 % hashes) (drop (i + 1) name)
-  unfolding hashRest
-  rest-next l p = rw (p, drop-at name i l)
-
-  pub rest-end : length name ≤ i → hashRest h (drop i name) ≡ h
-  unfolding hashRest
-  rest-end l = rw (drop-of-length-le name l)
-
-  -- four bytes from i on, and what is left
-  fours : i + 4 ≤ length name → drop i name ≡ getD name i 0 ∷ getD name (i + 1) 0 ∷ getD name (i + 2) 0 ∷ getD name (i + 3) 0 ∷ drop (i + 4) name
-  fours l =
-      let z₂ : i + 1 + 1 ≡ i + 2 = omega arith in
-      let z₃ : i + 2 + 1 ≡ i + 3 = omega arith in
-      let z₄ : i + 3 + 1 ≡ i + 4 = omega arith in
-      let e₁ : drop (i + 1) name ≡ getD name (i + 1) 0 ∷ drop (i + 2) name = rw z₂ at (drop-at name (i + 1) (omega arith)) in
-      let e₂ : drop (i + 2) name ≡ getD name (i + 2) 0 ∷ drop (i + 3) name = rw z₃ at (drop-at name (i + 2) (omega arith)) in
-      let e₃ : drop (i + 3) name ≡ getD name (i + 3) 0 ∷ drop (i + 4) name = rw z₄ at (drop-at name (i + 3) (omega arith)) in
-      drop-at name i (omega arith)
-      ∙ ap (λ d. getD name i 0 ∷ d) (e₁ ∙ ap (λ d. getD name (i + 1) 0 ∷ d) (e₂ ∙ ap (λ d. getD name (i + 2) 0 ∷ d) e₃))
-
-  pub hash-next : i + 4 ≤ length name → {x : ℕ} → x ≡ fourOf (getD name i 0) (getD name (i + 1) 0) (getD name (i + 2) 0) (getD name (i + 3) 0)
-      → hashFrom h (drop i name) ≡ hashFrom ((h + x) * 1_103_515 % hashes) (drop (i + 4) name)
-  unfolding hashFrom
-  hash-next l p = ap (hashFrom h) (fours l) ∙ ap (λ y. hashFrom ((h + y) * 1_103_515 % hashes) (drop (i + 4) name)) (sym p)
-
-  pub hash-end : length name - i < 4 → hashFrom h (drop i name) ≡ hashRest h (drop i name)
-  hash-end l = hash-short h (drop i name) (rw length-drop l)
-
-pub hash-read : (text : Bytes) (rows : Words) (m : ObjKey) {a n : ℕ} → a ≡ memberWord rows m 0 → n ≡ memberWord rows m 1 → {s : Bytes} → s ≡ take n (drop a text)
-    → {r : ℕ} → r ≡ hashFrom 0 s → r ≡ hashFrom 0 (memberAt text rows m .name)
-unfolding memberAt bytesAt
-hash-read text rows m ea en es er = er ∙ rw (es, ea, en)
+use Rattle.text.specs.Hash.{hashFrom}
+use Rattle.clashes.specs.Marks.{placeOf, highPlace, lowPlace, bitAt, MarkedAt, Marked, Grows, AllMarked, Met, Noted}
 
 -- ---- bits
 

@@ -17,11 +17,12 @@ use Rattle.objects.proofs.KeyLaws.{key-eq}
 use Rattle.objects.proofs.RowLaws.{fields-read, kind-beyond}
 use Rattle.objects.proofs.Stores.{word-kept}
 use Rattle.text.specs.Bytes.{sameBytes, isBlank}
+use Rattle.text.specs.Hash.{hashFrom}
 use Rattle.text.proofs.ByteLaws.{same-true}
 use Rattle.rules.specs.Members.{samePath, sameId, identityFrom, identityOf, sameMember}
 use Rattle.rules.specs.Checks.{memberItem, clashing}
 use Rattle.references.specs.Lines.{linesRead}
-use Rattle.clashes.specs.Marks.{hashFrom, placeOf, fieldsNumber, MarkedAt, Marked, Grows, AllMarked, Met, Noted, FieldsMarked, Ready, Readied, Seen, Prepared, Looked}
+use Rattle.clashes.specs.Marks.{placeOf, fieldsNumber, MarkedAt, Marked, Grows, AllMarked, Met, Noted, FieldsMarked, Ready, Readied, Seen, Prepared, Looked}
 use Rattle.clashes.proofs.MarkLaws.{grown-mark, all-on}
 use Rattle.clashes.proofs.ClashLaws.{clashes-named, clashes-other}
 

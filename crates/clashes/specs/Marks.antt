@@ -2,7 +2,7 @@
 -- was met, or, for a field, the struct. Marks are only ever added. A name without its mark was not met; one with it may have been, and is compared.
 use mathlib.Core.Path.{_≡_}
 use mathlib.Core.Bool.{Bool, false}
-use mathlib.Core.List.{List, [], _∷_}
+use mathlib.Core.List.{List}
 use mathlib.Core.Logic.{_≢_}
 use Prim.Native.Nat.{ℕ, _+_, _*_, _/_, _%_, _^_}
 use lib.ListN.{take}
@@ -12,14 +12,10 @@ use Rattle.objects.specs.Lists.{Bytes, In}
 use Rattle.objects.specs.Table.{Member, typeKey, objKey, membersOf, fieldsOf, kindAt}
 use Rattle.objects.specs.Rows.{Words, wordAt, typeWord, memberAt, membersFrom, tableOf}
 use Rattle.objects.specs.Types.{numberRead, firstRead}
-use Rattle.text.specs.Compare.{fourOf}
+use Rattle.text.specs.Hash.{hashes, hashFrom}
 use Rattle.rules.specs.Checks.{memberItem, clashing}
 
 -- ---- places of marks
-
--- values of a hash
-abbrev pub hashes : ℕ
-hashes = 4_294_967_296
 
 -- marks of one half: each name has a mark in both
 abbrev pub half : ℕ
@@ -40,20 +36,7 @@ numbers = 2 * maxTypes
 unfoldable pub fieldsNumber : ℕ → ℕ
 fieldsNumber u = maxTypes + u % maxTypes
 
--- the hash of bytes one at a time, with what those before gave
-unfoldable pub hashRest : ℕ → Bytes → ℕ
-hashRest h [] = h
-hashRest h (b ∷ l) = hashRest ((h + b) * 1_103_515 % hashes) l
-
--- the hash of bytes four at a time, and what is left one at a time
-unfoldable pub hashFrom : ℕ → Bytes → ℕ
-hashFrom h [] = hashRest h []
-hashFrom h (a ∷ []) = hashRest h (a ∷ [])
-hashFrom h (a ∷ b ∷ []) = hashRest h (a ∷ b ∷ [])
-hashFrom h (a ∷ b ∷ c ∷ []) = hashRest h (a ∷ b ∷ c ∷ [])
-hashFrom h (a ∷ b ∷ c ∷ d ∷ l) = hashFrom ((h + fourOf a b c d) * 1_103_515 % hashes) l
-
--- of a hash and a number
+-- the place of a hash and a number
 unfoldable pub placeOf : ℕ → ℕ → ℕ
 placeOf k h = (h + k * 2_654_435) * 69_069 % hashes
 

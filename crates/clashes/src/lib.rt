@@ -13,19 +13,19 @@ ghost use Rattle.objects.specs.Rows.{typeCount, typeWord, memberAt, membersFrom
 ghost use Rattle.objects.specs.Types.{numberRead, firstRead, found};
 ghost use Rattle.objects.specs.Laid.{Laid};
 ghost use Rattle.text.specs.Bytes.{isBlank};
+ghost use Rattle.text.specs.Hash.{hashes};
 ghost use Rattle.rules.specs.Sound.{Ordered};
 ghost use Rattle.rules.specs.Members.{sameMember};
 ghost use Rattle.rules.specs.Checks.{memberItem, items, lacking, ascends, clashing};
 ghost use Rattle.rules.specs.Stages.{firstUnordered, firstItem, linesUnder};
 ghost use Rattle.references.specs.Lines.{linesRead};
 ghost use Rattle.clashes.specs.Known.{PackagedFrom, Packaged, Rising};
-ghost use Rattle.clashes.specs.Marks.{hashes, bitWords, placeOf, fieldsNumber, MarkedAt, Grows, Noted, Ready, Readied, Prepared, Seen, Looked};
+ghost use Rattle.clashes.specs.Marks.{bitWords, placeOf, fieldsNumber, MarkedAt, Grows, Noted, Ready, Readied, Prepared, Seen, Looked};
 use crate::marks::BIT_WORDS;
 use crate::marks::fields_number;
 use crate::marks::marked;
 use crate::marks::meet;
 use crate::marks::meet_all;
-use crate::marks::name_hash;
 use crate::marks::place;
 use obj::below_id;
 use obj::is_blank;
@@ -45,6 +45,7 @@ use objects::rows::type_count;
 use objects::rows::type_word;
 use references::member_lines;
 use text::bytes::or;
+use text::hash::name_hash;
 
 pub mod marks; // which names were met
 

@@ -3,20 +3,16 @@ ghost use mathlib.Core.Path.{_≡_};
 ghost use mathlib.Core.Bool.{false};
 ghost use mathlib.Core.Logic.{_≢_};
 ghost use Prim.Native.Nat.{_+_, _/_, _<_, _≤_};
-ghost use lib.ListN.{length, drop};
+ghost use lib.ListN.{length};
 ghost use Rattle.objects.specs.Bounds.{maxElements};
-ghost use Rattle.objects.specs.Rows.{memberAt, membersFrom};
-ghost use Rattle.clashes.specs.Marks.{hashes, numbers, fieldsNumber, allMarks, bitWords, hashRest, hashFrom, placeOf, highPlace, lowPlace, bitAt, MarkedAt, Grows, Met, Noted};
+ghost use Rattle.objects.specs.Rows.{membersFrom};
+ghost use Rattle.text.specs.Hash.{hashes};
+ghost use Rattle.clashes.specs.Marks.{numbers, fieldsNumber, allMarks, bitWords, placeOf, highPlace, lowPlace, bitAt, MarkedAt, Grows, Met, Noted};
 use objects::ObjKey;
 use objects::bounds::MAX_TYPES;
-use objects::rows::member_word;
 use objects::rows::word;
-use text::bytes::wide;
-use text::compare::four;
-use text::compare::span;
-
-// Values of a hash.
-const HASHES: u64 = 4_294_967_296;
+use text::hash::HASHES;
+use text::hash::name_hash;
 
 // Marks of one half, hashes to a mark, and the words of both halves.
 const HALF: u64 = 16_384;
@@ -29,45 +25,6 @@ pub const BIT_WORDS: usize = 2 * HALF as usize / 32;
 const FIELDS_FROM: u32 = MAX_TYPES as u32;
 
 // ---- places
-
-// The hash of the bytes from a place on, one at a time.
-fn hash_rest(name: &[u8], at: usize, before: u64) -> u64
-    requires { ⌜ before < hashes ⌝ }
-    ensures { λ r. ⌜ r ≡ hashRest before (drop at (now (name .entry))) ⌝ }
-    ensures { λ r. ⌜ r < hashes ⌝ }
-{
-    let mut h = before;
-    let mut i = at;
-    while i < name.len() {
-        h = (h + wide(name[i])) * 1_103_515 % HASHES;
-        i += 1;
-    }
-    h
-}
-
-pub fn hash(name: &[u8]) -> u64
-    ensures { λ r. ⌜ r ≡ hashFrom 0 (now (name .entry)) ⌝ }
-    ensures { λ r. ⌜ r < hashes ⌝ }
-{
-    let mut h: u64 = 0;
-    let mut i: usize = 0;
-    while 4 <= name.len() - i {
-        h = (h + four(name, i)) * 1_103_515 % HASHES;
-        i += 4;
-    }
-    hash_rest(name, i, h)
-}
-
-pub fn name_hash(text: &[u8], rows: &[u32], m: ObjKey) -> u64
-    ensures { λ r. ⌜ r ≡ hashFrom 0 (memberAt (now (text .entry)) (now (rows .entry)) m .name) ⌝ }
-    ensures { λ r. ⌜ r < hashes ⌝ }
-{
-    hash(span(
-        text,
-        member_word(rows, m, 0) as usize,
-        member_word(rows, m, 1) as usize,
-    ))
-}
 
 // The number under which the fields of a struct are marked.
 pub fn fields_number(u: u32) -> u32

@@ -7,6 +7,7 @@ pub mod RunLaws
 pub mod LineEnds
 pub mod FieldLaws
 pub mod CompareLaws
+pub mod HashLaws
 pub mod AnswerLaws
 pub mod NameLaws
 pub mod NumberLaws

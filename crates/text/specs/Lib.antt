@@ -4,3 +4,4 @@ pub mod Readers
 pub mod Cursors
 pub mod Runs
 pub mod Compare
+pub mod Hash

@@ -2,6 +2,7 @@
 // on; every reader of it is a reader by fields (specs/Readers.antt).
 pub mod bytes;
 pub mod compare;
+pub mod hash;
 pub mod numbers;
 pub mod scan;
 

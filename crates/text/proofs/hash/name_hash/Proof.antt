@@ -1,8 +1,8 @@
--- `clashes::marks::name_hash` meets its contract.
-use Rattle.clashes.proofs.MarkLaws.{hash-read}
+-- `text::hash::name_hash` meets its contract.
+use Rattle.text.proofs.HashLaws.{hash-read}
 use borrow.Author.Needs.{needs}
-use Rattle.clashes.proofs.marks.name_hash.Statement.{statement}
-use Rattle.clashes.proofs.marks.name_hash.Tie as tie
+use Rattle.text.proofs.hash.name_hash.Statement.{statement}
+use Rattle.text.proofs.hash.name_hash.Tie as tie
 
 member-word-requires : tie.Need-member-word-requires
 member-word-requires c κs = search needs

@@ -1,13 +1,13 @@
--- `clashes::marks::hash_rest` meets its contract. The invariant: the hash is that of the bytes from `i` on, with what those before gave.
+-- `text::hash::hash_rest` meets its contract. The invariant: the hash is that of the bytes from `i` on, with what those before gave.
 use mathlib.Core.Path.{_≡_, refl, sym, _∙_}
 use Prim.Native.Nat.{_-_, _<_}
 use native.Mathlib.Omega.{arith}
 use lib.ListN.{length, drop}
-use Rattle.clashes.specs.Marks.{hashes, hashRest}
-use Rattle.clashes.proofs.MarkLaws.{rest-next, rest-end}
+use Rattle.text.specs.Hash.{hashes, hashRest}
+use Rattle.text.proofs.HashLaws.{rest-next, rest-end}
 use borrow.Author.Needs.{needs}
-use Rattle.clashes.proofs.marks.hash_rest.Statement.{statement}
-use Rattle.clashes.proofs.marks.hash_rest.Tie as tie
+use Rattle.text.proofs.hash.hash_rest.Statement.{statement}
+use Rattle.text.proofs.hash.hash_rest.Tie as tie
 
 abbrev Inv-loop : tie.InvT-loop
 Inv-loop name at before h₀ i₀ h i = (hashRest before (drop at name) ≡ hashRest h (drop i name)) × (h < hashes)

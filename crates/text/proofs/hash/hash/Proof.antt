@@ -1,12 +1,12 @@
--- `clashes::marks::hash` meets its contract. The invariant: the hash of the name is that of the bytes from `i` on, with what those before gave.
+-- `text::hash::hash` meets its contract. The invariant: the hash of the name is that of the bytes from `i` on, with what those before gave.
 use mathlib.Core.Path.{_≡_, refl, sym, _∙_}
 use Prim.Native.Nat.{_-_, _<_, _≤_}
 use native.Mathlib.Omega.{arith}
 use lib.ListN.{length, drop}
-use Rattle.clashes.specs.Marks.{hashes, hashFrom}
-use Rattle.clashes.proofs.MarkLaws.{hash-next, hash-end}
-use Rattle.clashes.proofs.marks.hash.Statement.{statement}
-use Rattle.clashes.proofs.marks.hash.Tie as tie
+use Rattle.text.specs.Hash.{hashes, hashFrom}
+use Rattle.text.proofs.HashLaws.{hash-next, hash-end}
+use Rattle.text.proofs.hash.hash.Statement.{statement}
+use Rattle.text.proofs.hash.hash.Tie as tie
 
 abbrev Inv-loop : tie.InvT-loop
 Inv-loop name h₀ i₀ h i = (hashFrom 0 name ≡ hashFrom h (drop i name)) × (h < hashes) × (i ≤ length name)
