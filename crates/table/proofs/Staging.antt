@@ -8,10 +8,11 @@ use Rattle.objects.specs.declared.Stage.{Stage}
 use Rattle.objects.specs.Types.{found}
 use Rattle.objects.specs.Table.{Table}
 use Rattle.objects.specs.Rows.{Words, tableOf}
-use Rattle.objects.specs.Laid.{Laid}
+use Rattle.objects.specs.Laid.{Laid, SignedPut}
 use Rattle.rules.specs.Checks.{Item, items, lacking, forbidden, clashing, containing}
 use Rattle.rules.specs.Load.{Loaded, refused, loaded, staged, checked}
 use Rattle.rules.specs.Stages.{firstUnordered, firstItem}
+use Rattle.rules.specs.Library.{rankRead}
 use Rattle.cycles.specs.Contained.{Contained}
 use Rattle.table.specs.declared.Loading.{Loading}
 use Rattle.table.specs.Loading.{loadingMeant, Passes}
@@ -40,7 +41,7 @@ never-loaded h = true≢false (ap isRefused h)
 -- a refusal does not look at the rows
 refusal-passes : (text : Bytes) (due : Loaded) (rows : Words) (n line : ℕ) → due ≡ refused n line → Laid rows → Passes text due (Loading.Refused n line) rows
 unfolding loadingMeant
-refusal-passes text due rows n line e l = record { says = sym e; laid = l; ranked = λ h. absurd (never-loaded h) }
+refusal-passes text due rows n line e l = record { says = sym e; laid = l; ranked = λ h. absurd (never-loaded h); unsigned = λ h. absurd (never-loaded h) }
 
 module _ (text : Bytes) (rows : Words) (laid : Laid rows) where
   abbrev T : Table
@@ -95,10 +96,12 @@ module _ (text : Bytes) (rows : Words) (laid : Laid rows) where
     pub refused-10 : {line : ℕ} → s ≡ Stage.Bad line → Passes text (checked T) (Loading.Refused 10 line) after
     refused-10 q = refusal-passes text _ after 10 _ (after-bad 10 (loaded T) due (p .line text) q) (p .holds .laid)
 
-    pub passes-all : s ≡ Stage.Passed → Passes text (checked T) Loading.Loaded after
-    unfolding loadingMeant
-    passes-all q = record {
-      says = ap loaded (p .holds .held text) ∙ sym (after-passed 10 (loaded T) due (p .line text) q);
-      laid = p .holds .laid;
-      ranked = λ h. p .ranked q text;
+    -- the rows say that there are no signs: ranks stay
+    pub passes-all : s ≡ Stage.Passed → (last : Words) → SignedPut after 0 last → Passes text (checked T) Loading.Loaded last
+    unfolding loadingMeant rankRead
+    passes-all q last u = record {
+      says = ap loaded (u .beside .holds .held text ∙ p .holds .held text) ∙ sym (after-passed 10 (loaded T) due (p .line text) q);
+      laid = u .beside .holds .laid;
+      ranked = λ h t e k i. rw (u .types t 7, u .types e 7) (p .ranked q text t e (rw (u .beside .types) at k) (rw (u .beside .holds .held text) at i));
+      unsigned = λ h. u .here;
     }

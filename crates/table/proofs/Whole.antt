@@ -22,7 +22,7 @@ pub loads-after : (text : Bytes) (rows after : Words) {r : Read} {s : Loading} �
 unfolding loadingMeant readMeant
 loads-after text rows after {s = s} e q p = record {
   says = says;
-  holds = λ h. record { loads = sym says ∙ ap (loadingMeant text after) h; laid = p .laid; ranked = p .ranked h };
+  holds = λ h. record { loads = sym says ∙ ap (loadingMeant text after) h; laid = p .laid; ranked = p .ranked h; signed = λ n. absurd (n (p .unsigned h)) };
 }
   where
     says : loadingMeant text after s ≡ load text

@@ -8,6 +8,7 @@ ghost use Rattle.objects.specs.Laid.{Laid};
 ghost use Rattle.rules.specs.Load.{checked};
 ghost use Rattle.table.specs.Loading.{Passes, Loads};
 use objects::Stage;
+use objects::writers::put_signed;
 
 // A refusal and its line, or a table.
 pub enum Loading {
@@ -15,7 +16,7 @@ pub enum Loading {
     Loaded,
 }
 
-// 14, then 7 to 10, each over the whole text before the next.
+// 14, then 7 to 10, each over the whole text before the next. A table that passes them has no signs yet.
 fn check(text: &[u8], rows: &mut [u32]) -> Loading
     requires { ⌜ Laid (now rows) ⌝ }
     ensures { λ r. ⌜ Passes (now (text .entry)) (checked (tableOf (now (text .entry)) (now (rows .entry)))) r (now (rows .exit)) ⌝ }
@@ -35,6 +36,7 @@ fn check(text: &[u8], rows: &mut [u32]) -> Loading
     if let Stage::Bad(line) = cycles::containing(rows) {
         return Loading::Refused(10, line);
     }
+    put_signed(rows, 0);
     Loading::Loaded
 }
 

@@ -138,12 +138,16 @@ returns-5 c =
 enum-told-5 : tie.Need-enum-told-5
 enum-told-5 c = search needs
 
+put-signed-requires : tie.Need-put-signed-requires
+put-signed-requires c κs = let at-10 = c .before .before .before .before .before in at-10 .containing .ensures .holds .laid
+
 same-length-6 : tie.Need-same-length-6
 same-length-6 c = search needs
 
 returns-6 : tie.Need-returns-6
 returns-6 c =
-    let at-10 = c .before .before .before .before in
+    let at-end = c .before .before .before .before in
+    let at-10 = at-end .before .before .before .before in
     let at-9 = at-10 .before .before .before .before in
     let at-8 = at-9 .before .before .before .before in
     let at-7 = at-8 .before .before .before .before in
@@ -156,7 +160,7 @@ returns-6 c =
     let to8 = to-8 text rows laid to7 (at-7 .lacking .ensures text) (at-8 .before .before .enum-told2 .given .1) in
     let to9 = to-9 text rows laid to8 (at-8 .forbidden .ensures text) (at-9 .before .before .enum-told3 .given .1) in
     let to10 = to-10 text rows laid to9 (at-9 .clashing .ensures) (at-10 .before .before .enum-told4 .given .1) in
-    passes-all text rows laid to10 _ (at-10 .containing .ensures) (c .enum-told5 .given .1)
+    passes-all text rows laid to10 _ (at-10 .containing .ensures) (at-end .enum-told5 .given .1) _ (c .before .before .put-signed .ensures)
 
 pub check-spec : {M : Type 1} → statement M
 check-spec =
@@ -187,5 +191,6 @@ check-spec =
     same-length-5
     returns-5
     enum-told-5
+    put-signed-requires
     same-length-6
     returns-6)
