@@ -1,17 +1,23 @@
 -- The search through the members of one list: what is left of it after each member, and what it gives of a type's row.
-use mathlib.Core.Path.{_≡_, sym, ap, _∙_}
+use mathlib.Core.Path.{_≡_, refl, sym, ap, _∙_}
 use mathlib.Core.Bool.{Bool, true, false}
 use mathlib.Core.List.{[], _∷_, _++_}
 use Prim.Native.Nat.{ℕ, zero, suc, _+_, _-_, _<_, _≤_}
 use native.Mathlib.Nat.{add-zero, add-suc, suc-add}
 use native.Mathlib.Numerals.{add-one}
 use native.Mathlib.Omega.{arith}
+use lib.ListN.{length, getD, take, drop, length-take, length-drop}
+use lib.Seq.{getD-take, getD-drop}
 use borrow.Author.Tests.{lt-ltb, le-ltb}
 use Rattle.objects.specs.Lists.{Bytes}
 use Rattle.objects.specs.Table.{objKey}
-use Rattle.objects.specs.Rows.{Words, memberAt, membersFrom, tableOf}
+use Rattle.objects.specs.Rows.{Words, wordAt, memberCountOf, signsAt, signAt, bytesAt, memberAt, membersFrom, tableOf}
+use Rattle.objects.proofs.BoolLaws.{false-of}
 use Rattle.objects.proofs.RowLaws.{members-more}
-use Rattle.rules.specs.Members.{identityOf, sameId}
+use Rattle.text.specs.Hash.{hashFrom}
+use Rattle.rules.specs.Members.{identityFrom, identityOf, sameId}
+use Rattle.rules.specs.Library.{Signed}
+use Rattle.rules.proofs.MemberLaws.{sameId-true}
 use Rattle.obj.specs.Ids.{askedId}
 use Rattle.selection.specs.declared.Name.{Name}
 use Rattle.selection.specs.Results.{nameMeant}
@@ -55,3 +61,43 @@ module _ (text : Bytes) (rows : Words) where
     pub find-end : (i : ℕ) → i ≤ count → count ≤ i → placeAt text rows from count count ≡ firstFrom (tableOf text rows) (nameMeant text rows names q) i (membersFrom text rows (from + i) (count - i))
     unfolding firstFrom placeAt membersFrom
     find-end i h k = let z : count - i ≡ 0 = omega arith in let y : count ≤ count = omega arith in rw (z, le-ltb count count y)
+
+-- ---- by signs
+
+-- the sign of the name that is asked for
+pub asked-sign : (names : Bytes) (q : Name) {s : Bytes} → s ≡ take (q .len) (drop (q .at) names) → {sign : ℕ} → sign ≡ hashFrom 0 s → sign ≡ hashFrom 0 (bytesAt names (q .at) (q .len))
+unfolding bytesAt
+asked-sign names q es er = er ∙ ap (hashFrom 0) es
+
+module _ (text : Bytes) (rows : Words) (from count : ℕ) {at : ℕ} (ea : at ≡ signsAt rows) where
+  -- the part of the rows that has the signs of these members
+  abbrev part : Words
+  part = take (at + from + count - (at + from)) (drop (at + from) rows)
+
+  module _ (signed : Signed text rows) (within : from + count ≤ memberCountOf rows) where
+    pub part-fits : at + from + count ≤ length rows
+    part-fits = let r = signed .room in omega arith
+
+    pub part-long : (i : ℕ) → i < count → i < length part
+    part-long i h = let f = part-fits in simp (length-take, length-drop) (omega arith)
+
+  part-sign : (i : ℕ) → i < count → getD part i 0 ≡ signAt rows (objKey (from + i))
+  unfolding signAt wordAt
+  part-sign i h =
+      let l : i < at + from + count - (at + from) = omega arith in
+      let z : at + from + i ≡ signsAt rows + (from + i) = omega arith in
+      getD-take (at + from + count - (at + from)) (drop (at + from) rows) i 0 l ∙ getD-drop (at + from) rows i 0 ∙ ap (λ k. getD rows k 0) z
+
+  -- a member of another sign than the name's has another name
+  module _ (names : Bytes) (q : Name) (signed : Signed text rows) (within : from + count ≤ memberCountOf rows)
+      {sign : ℕ} (ps : sign ≡ hashFrom 0 (bytesAt names (q .at) (q .len))) (i : ℕ) (h : i < count) (ne : getD part i 0 ≡ sign → ⊥) where
+    other-name : false ≡ sameId (identityOf (tableOf text rows) (memberAt text rows (objKey (from + i)))) (askedId text rows names (q .at) (q .len) (q .pkg))
+    unfolding identityOf identityFrom askedId
+    other-name =
+        sym (false-of _ (λ e.
+        let z : memberAt text rows (objKey (from + i)) .name ≡ bytesAt names (q .at) (q .len) = ap (λ a. a .name) (sameId-true _ _ e) in
+        ne (part-sign i h ∙ signed .signs (objKey (from + i)) (omega arith) ∙ ap (hashFrom 0) z ∙ sym ps)))
+
+    pub find-skip : firstFrom (tableOf text rows) (nameMeant text rows names q) i (membersFrom text rows (from + i) (count - i))
+        ≡ firstFrom (tableOf text rows) (nameMeant text rows names q) (i + 1) (membersFrom text rows (from + (i + 1)) (count - (i + 1)))
+    find-skip = find-next text rows names q from count i h other-name refl

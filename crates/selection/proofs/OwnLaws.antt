@@ -12,7 +12,7 @@ use Rattle.objects.specs.Bounds.{maxElements}
 use Rattle.objects.specs.Lists.{Bytes, keep, headOr}
 use Rattle.objects.specs.Table.{Table, objKey, kindNumber, isNamed, refs, membersOf, declaredOf, allMethods, hasPackage, kindAt, under}
 use Rattle.objects.specs.Rows.{Words, typeCount, typeWord, memberCountOf, elementCount, memberAt, membersFrom, tableOf}
-use Rattle.objects.specs.Types.{numberRead, namedRead, underRead, firstRead, totalRead}
+use Rattle.objects.specs.Types.{numberOf, numberRead, namedRead, underRead, firstRead, totalRead}
 use Rattle.objects.specs.Laid.{endOf}
 use Rattle.objects.proofs.ListLaws.{cases, keep-append}
 use Rattle.objects.proofs.KindLaws.{named-ref}
@@ -79,6 +79,15 @@ module _ (text : Bytes) (rows : Words) (t : TypeKey) where
         let b = lib .laid .members in
         cases (eqb (typeWord rows t 0) 6)
         (λ e. let v : typeWord rows t 4 + typeWord rows t 5 ≤ elementCount rows = rw e at w in omega arith)
+        (λ e. let v : typeWord rows t 4 + typeWord rows t 5 ≤ memberCountOf rows = rw e at w in omega arith)
+
+    -- they are members, not elements of a tuple
+    pub list-within : 8 ≤ numberRead rows t → from + count ≤ memberCountOf rows
+    unfolding firstRead totalRead endOf numberRead numberOf
+    list-within g =
+        let w = lib .laid .within t h in
+        cases (eqb (typeWord rows t 0) 6)
+        (λ e. let k : 8 ≤ numberOf 6 = rw (eqb-true (typeWord rows t 0) 6 e) at g in absurd (omega arith))
         (λ e. let v : typeWord rows t 4 + typeWord rows t 5 ≤ memberCountOf rows = rw e at w in omega arith)
 
     pub list-packaged : 8 ≤ numberRead rows t → (i : ℕ) → i < count → hasPackage (tableOf text rows) (memberAt text rows (objKey (from + i)) .pkg) ≡ true

@@ -1,16 +1,14 @@
 // What a selection gives, as goscript's lookup.rs and selection.rs have it, and the members that are a type's own.
 ghost use mathlib.Core.Path.{_≡_};
 ghost use mathlib.Core.Bool.{true};
-ghost use Prim.Native.Nat.{ℕ, _+_, _<_, _≤_};
-ghost use Rattle.objects.specs.Bounds.{maxElements};
-ghost use Rattle.objects.specs.Table.{objKey, hasPackage, membersOf, kindAt};
-ghost use Rattle.objects.specs.Rows.{typeCount, packageMeant, memberAt, membersFrom, tableOf};
+ghost use Prim.Native.Nat.{_+_, _<_, _≤_};
+ghost use Rattle.objects.specs.Table.{hasPackage, membersOf, kindAt};
+ghost use Rattle.objects.specs.Rows.{typeCount, memberCountOf, packageMeant, tableOf};
 ghost use Rattle.objects.specs.Types.{numberRead};
-ghost use Rattle.rules.specs.Sound.{Ordered};
-ghost use Rattle.rules.specs.Library.{Library};
+ghost use Rattle.rules.specs.Library.{Signed, Library};
 ghost use Rattle.rules.specs.Ways.{matching};
 ghost use Rattle.selection.specs.Results.{nameMeant, first, ownMeant};
-ghost use Rattle.selection.specs.Finds.{firstFrom, firstPlain, placeAt};
+ghost use Rattle.selection.specs.Finds.{firstFrom, firstPlain, Searched, FoundAt};
 use obj::same_id;
 use objects::ObjKey;
 use objects::Package;
@@ -19,7 +17,11 @@ use objects::rows::first_member;
 use objects::rows::kind_number;
 use objects::rows::member_total;
 use objects::rows::named_at;
+use objects::rows::signed;
+use objects::rows::signs_at;
 use objects::rows::under;
+use text::compare::span;
+use text::hash::hash;
 
 // A name that is asked for from a package: its place and length in the text that it stands in, and the package.
 pub struct Name {
@@ -62,10 +64,13 @@ pub enum Missing {
 
 // ---- the members that are a type's own
 
+// So many members are compared about as soon as the sign of a name is made, counted in instructions for names of 8 to 16 bytes.
+const FEW_MEMBERS: u32 = 2;
+
 // The place of the first of `count` members from number `from` on that has the name, or count.
 fn find(text: &[u8], rows: &[u32], from: u32, count: u32, names: &[u8], q: Name) -> u32
-    requires { ⌜ ((i : ℕ) → i < count → hasPackage (tableOf (now text) (now rows)) (memberAt (now text) (now rows) (objKey (from + i)) .pkg) ≡ true) × (hasPackage (tableOf (now text) (now rows)) (packageMeant (q .pkg)) ≡ true) × (from + count ≤ maxElements) × Ordered (tableOf (now text) (now rows)) ⌝ }
-    ensures { λ r. ⌜ placeAt (now (text .entry)) (now (rows .entry)) from count r ≡ firstFrom (tableOf (now (text .entry)) (now (rows .entry))) (nameMeant (now (text .entry)) (now (rows .entry)) (now (names .entry)) q) 0 (membersFrom (now (text .entry)) (now (rows .entry)) from count) ⌝ }
+    requires { ⌜ Searched (now text) (now rows) from count q ⌝ }
+    ensures { λ r. ⌜ FoundAt (now (text .entry)) (now (rows .entry)) from count (now (names .entry)) q r ⌝ }
 {
     let pkg = q.pkg;
     let mut i = 0;
@@ -78,6 +83,41 @@ fn find(text: &[u8], rows: &[u32], from: u32, count: u32, names: &[u8], q: Name)
     count
 }
 
+// The same of members that are signed: only one with the sign of the name is compared with it.
+fn find_signed(text: &[u8], rows: &[u32], from: u32, count: u32, names: &[u8], q: Name) -> u32
+    requires { ⌜ Searched (now text) (now rows) from count q × Signed (now text) (now rows) × (from + count ≤ memberCountOf (now rows)) ⌝ }
+    ensures { λ r. ⌜ FoundAt (now (text .entry)) (now (rows .entry)) from count (now (names .entry)) q r ⌝ }
+{
+    let pkg = q.pkg;
+    let sign = hash(span(names, q.at as usize, q.len as usize)) as u32;
+    let at = signs_at(rows) + from as usize;
+    let end = at + count as usize;
+    let signs = &rows[at..end];
+    let mut i = 0;
+    while i < count {
+        if signs[i as usize] == sign {
+            if same_id(text, rows, ObjKey(from + i), names, q.at, q.len, pkg) {
+                return i;
+            }
+        }
+        i += 1;
+    }
+    count
+}
+
+// By signs where there are some, unless the members are too few to pay for the sign of the name.
+fn place(text: &[u8], rows: &[u32], from: u32, count: u32, names: &[u8], q: Name) -> u32
+    requires { ⌜ Library (now text) (now rows) × Searched (now text) (now rows) from count q × (from + count ≤ memberCountOf (now rows)) ⌝ }
+    ensures { λ r. ⌜ FoundAt (now (text .entry)) (now (rows .entry)) from count (now (names .entry)) q r ⌝ }
+{
+    if FEW_MEMBERS < count {
+        if signed(rows) != 0 {
+            return find_signed(text, rows, from, count, names, q);
+        }
+    }
+    find(text, rows, from, count, names, q)
+}
+
 // The first of the members under the T line of t, which may have some.
 fn listed(text: &[u8], rows: &[u32], t: TypeKey, names: &[u8], q: Name) -> Own
     requires { ⌜ Library (now text) (now rows) ⌝ }
@@ -86,7 +126,7 @@ fn listed(text: &[u8], rows: &[u32], t: TypeKey, names: &[u8], q: Name) -> Own
 {
     let from = first_member(rows, t);
     let count = member_total(rows, t);
-    let i = find(text, rows, from, count, names, q);
+    let i = place(text, rows, from, count, names, q);
     if i < count {
         Own::Found(i, ObjKey(from + i))
     } else {

@@ -23,11 +23,11 @@ loop-holds c = (find-start _ _ _ _ _ _, omega arith)
 
 add-t11 : tie.Need-add-t11 Inv-loop μ-loop
 add-t11 c = let at-entry = c .before .before .before .before .before in
-    omega (arith, (at-entry .pre .2))
+    omega (arith, (at-entry .pre .fits))
 
 same-id-requires : tie.Need-same-id-requires Inv-loop μ-loop
 same-id-requires c κs = let at-entry = c .before .before .before .before .before in
-    ((at-entry .pre .0) _ (c .loop-test .taken), at-entry .pre .1, at-entry .pre .3)
+    ((at-entry .pre .packaged) _ (c .loop-test .taken), at-entry .pre .asked, at-entry .pre .ordered)
 
 returns : tie.Need-returns Inv-loop μ-loop
 returns c = let at-loop = c .before .before .before in
