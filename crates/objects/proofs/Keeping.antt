@@ -25,6 +25,11 @@ same-table e f g h = rw (e, f, g, h)
 
 -- ---- rows, members and kinds
 
+pub same-member : (text : Bytes) (rows after : Words) (m : ObjKey) → ((j : ℕ) → j < 8 → memberWord after m j ≡ memberWord rows m j) → memberAt text after m ≡ memberAt text rows m
+unfolding memberAt
+same-member text rows after m same =
+    rw (same 0 (omega arith), same 1 (omega arith), same 2 (omega arith), same 3 (omega arith), same 4 (omega arith), same 5 (omega arith), same 6 (omega arith))
+
 module _ {bound : ℕ} {rows after : Words} (k : Kept bound rows after) where
   pub kept-type : (t : TypeKey) (j : ℕ) → t .0 < bound → j < 8 → typeWord after t j ≡ typeWord rows t j
   unfolding typeWord
@@ -44,17 +49,7 @@ module _ {bound : ℕ} {rows after : Words} (k : Kept bound rows after) where
 
   module _ (text : Bytes) where
     pub kept-memberAt : (m : ObjKey) → m .0 < memberCountOf rows → memberAt text after m ≡ memberAt text rows m
-    unfolding memberAt
-    kept-memberAt m h =
-        rw (
-          kept-member m 0 h (omega arith),
-          kept-member m 1 h (omega arith),
-          kept-member m 2 h (omega arith),
-          kept-member m 3 h (omega arith),
-          kept-member m 4 h (omega arith),
-          kept-member m 5 h (omega arith),
-          kept-member m 6 h (omega arith),
-        )
+    kept-memberAt m h = same-member text rows after m (λ j l. kept-member m j h l)
 
     pub kept-members : (first n : ℕ) → first + n ≤ memberCountOf rows → membersFrom text after first n ≡ membersFrom text rows first n
     unfolding membersFrom
