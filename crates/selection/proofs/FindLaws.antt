@@ -21,7 +21,7 @@ use Rattle.rules.proofs.MemberLaws.{sameId-true}
 use Rattle.obj.specs.Ids.{askedId}
 use Rattle.selection.specs.declared.Name.{Name}
 use Rattle.selection.specs.Results.{nameMeant}
-use Rattle.selection.specs.Finds.{firstFrom, placeAt}
+use Rattle.selection.specs.Finds.{firstFrom, placeAt, FoundAt}
 
 module _ (text : Bytes) (rows : Words) where
   pub members-cons : (from n : ℕ) → membersFrom text rows from (suc n) ≡ memberAt text rows (objKey from) ∷ membersFrom text rows (suc from) n
@@ -42,25 +42,27 @@ module _ (text : Bytes) (rows : Words) where
       ap (membersFrom text rows (from + i)) z ∙ members-cons (from + i) (count - (i + 1)) ∙ ap (λ k. memberAt text rows (objKey (from + i)) ∷ membersFrom text rows k (count - (i + 1))) y
 
   module _ (names : Bytes) (q : Name) (from count : ℕ) where
-    pub find-start : firstFrom (tableOf text rows) (nameMeant text rows names q) 0 (membersFrom text rows from count)
-        ≡ firstFrom (tableOf text rows) (nameMeant text rows names q) 0 (membersFrom text rows (from + 0) (count - 0))
+    -- what the whole list gives, the members from place i on give
+    abbrev pub Left : ℕ → Type 0
+    Left i = firstFrom (tableOf text rows) (nameMeant text rows names q) 0 (membersFrom text rows from count)
+        ≡ firstFrom (tableOf text rows) (nameMeant text rows names q) i (membersFrom text rows (from + i) (count - i))
+
+    pub find-start : Left 0
     find-start = let z : from + 0 ≡ from = omega arith in let y : count - 0 ≡ count = omega arith in rw (z, y)
 
-    module _ (i : ℕ) (h : i < count) {r : Bool}
+    module _ (i : ℕ) (h : i < count) (left : Left i) {r : Bool}
         (p : r ≡ sameId (identityOf (tableOf text rows) (memberAt text rows (objKey (from + i)))) (askedId text rows names (q .at) (q .len) (q .pkg))) where
-      pub find-here : r ≡ true → placeAt text rows from count i ≡ firstFrom (tableOf text rows) (nameMeant text rows names q) i (membersFrom text rows (from + i) (count - i))
+      pub find-here : r ≡ true → FoundAt text rows from count names q i
       unfolding firstFrom placeAt nameMeant
-      find-here e = rw (members-left from count i h, lt-ltb i count h, sym p ∙ e)
+      find-here e = rw (left, members-left from count i h, lt-ltb i count h, sym p ∙ e)
 
-      pub find-next : r ≡ false
-          → firstFrom (tableOf text rows) (nameMeant text rows names q) i (membersFrom text rows (from + i) (count - i))
-          ≡ firstFrom (tableOf text rows) (nameMeant text rows names q) (i + 1) (membersFrom text rows (from + (i + 1)) (count - (i + 1)))
+      pub find-next : r ≡ false → Left (i + 1)
       unfolding firstFrom nameMeant
-      find-next e = rw (members-left from count i h, sym p ∙ e, add-one i)
+      find-next e = left ∙ rw (members-left from count i h, sym p ∙ e, add-one i)
 
-    pub find-end : (i : ℕ) → i ≤ count → count ≤ i → placeAt text rows from count count ≡ firstFrom (tableOf text rows) (nameMeant text rows names q) i (membersFrom text rows (from + i) (count - i))
+    pub find-end : (i : ℕ) → i ≤ count → count ≤ i → Left i → FoundAt text rows from count names q count
     unfolding firstFrom placeAt membersFrom
-    find-end i h k = let z : count - i ≡ 0 = omega arith in let y : count ≤ count = omega arith in rw (z, le-ltb count count y)
+    find-end i h k left = let z : count - i ≡ 0 = omega arith in let y : count ≤ count = omega arith in sym (left ∙ rw (z, le-ltb count count y))
 
 -- ---- by signs
 
@@ -69,35 +71,33 @@ pub asked-sign : (names : Bytes) (q : Name) {s : Bytes} → s ≡ take (q .len) 
 unfolding bytesAt
 asked-sign names q es er = er ∙ ap (hashFrom 0) es
 
-module _ (text : Bytes) (rows : Words) (from count : ℕ) {at : ℕ} (ea : at ≡ signsAt rows) where
-  -- the part of the rows that has the signs of these members
-  abbrev part : Words
-  part = take (at + from + count - (at + from)) (drop (at + from) rows)
+-- the signs of the members, as a part of the rows
+pub signs-part : (rows : Words) (from count : ℕ) {at : ℕ} → at ≡ signsAt rows → take (at + from + count - (at + from)) (drop (at + from) rows) ≡ take count (drop (signsAt rows + from) rows)
+signs-part rows from count {at = at} e = let z : at + from + count - (at + from) ≡ count = omega arith in rw (z, e)
 
-  module _ (signed : Signed text rows) (within : from + count ≤ memberCountOf rows) where
-    pub part-fits : at + from + count ≤ length rows
-    part-fits = let r = signed .room in omega arith
+module _ (text : Bytes) (rows : Words) (from count : ℕ) (signed : Signed text rows) (within : from + count ≤ memberCountOf rows) where
+  pub signs-fit : signsAt rows + from + count ≤ length rows
+  signs-fit = let r = signed .room in omega arith
 
-    pub part-long : (i : ℕ) → i < count → i < length part
-    part-long i h = let f = part-fits in simp (length-take, length-drop) (omega arith)
+  module _ {signs : Words} (es : signs ≡ take count (drop (signsAt rows + from) rows)) where
+    pub signs-long : length signs ≡ count
+    signs-long = let f = signs-fit in rw es (simp (length-take, length-drop) (omega arith))
 
-  part-sign : (i : ℕ) → i < count → getD part i 0 ≡ signAt rows (objKey (from + i))
-  unfolding signAt wordAt
-  part-sign i h =
-      let l : i < at + from + count - (at + from) = omega arith in
-      let z : at + from + i ≡ signsAt rows + (from + i) = omega arith in
-      getD-take (at + from + count - (at + from)) (drop (at + from) rows) i 0 l ∙ getD-drop (at + from) rows i 0 ∙ ap (λ k. getD rows k 0) z
+    module _ (i : ℕ) (h : i < count) where
+      sign-is : getD signs i 0 ≡ signAt rows (objKey (from + i))
+      unfolding signAt wordAt
+      sign-is =
+          let z : signsAt rows + from + i ≡ signsAt rows + (from + i) = omega arith in
+          rw es (getD-take count (drop (signsAt rows + from) rows) i 0 h ∙ getD-drop (signsAt rows + from) rows i 0 ∙ ap (λ k. getD rows k 0) z)
 
-  -- a member of another sign than the name's has another name
-  module _ (names : Bytes) (q : Name) (signed : Signed text rows) (within : from + count ≤ memberCountOf rows)
-      {sign : ℕ} (ps : sign ≡ hashFrom 0 (bytesAt names (q .at) (q .len))) (i : ℕ) (h : i < count) (ne : getD part i 0 ≡ sign → ⊥) where
-    other-name : false ≡ sameId (identityOf (tableOf text rows) (memberAt text rows (objKey (from + i)))) (askedId text rows names (q .at) (q .len) (q .pkg))
-    unfolding identityOf identityFrom askedId
-    other-name =
-        sym (false-of _ (λ e.
-        let z : memberAt text rows (objKey (from + i)) .name ≡ bytesAt names (q .at) (q .len) = ap (λ a. a .name) (sameId-true _ _ e) in
-        ne (part-sign i h ∙ signed .signs (objKey (from + i)) (omega arith) ∙ ap (hashFrom 0) z ∙ sym ps)))
+      -- a member of another sign than the name's has another name
+      module _ (names : Bytes) (q : Name) {sign : ℕ} (ps : sign ≡ hashFrom 0 (bytesAt names (q .at) (q .len))) (ne : getD signs i 0 ≡ sign → ⊥) where
+        other-name : false ≡ sameId (identityOf (tableOf text rows) (memberAt text rows (objKey (from + i)))) (askedId text rows names (q .at) (q .len) (q .pkg))
+        unfolding identityOf identityFrom askedId
+        other-name =
+            sym (false-of _ (λ e.
+            let z : memberAt text rows (objKey (from + i)) .name ≡ bytesAt names (q .at) (q .len) = ap (λ a. a .name) (sameId-true _ _ e) in
+            ne (sign-is ∙ signed .signs (objKey (from + i)) (omega arith) ∙ ap (hashFrom 0) z ∙ sym ps)))
 
-    pub find-skip : firstFrom (tableOf text rows) (nameMeant text rows names q) i (membersFrom text rows (from + i) (count - i))
-        ≡ firstFrom (tableOf text rows) (nameMeant text rows names q) (i + 1) (membersFrom text rows (from + (i + 1)) (count - (i + 1)))
-    find-skip = find-next text rows names q from count i h other-name refl
+        pub find-skip : Left text rows names q from count i → Left text rows names q from count (i + 1)
+        find-skip left = find-next text rows names q from count i h left other-name refl

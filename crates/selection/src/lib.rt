@@ -2,9 +2,11 @@
 ghost use mathlib.Core.Path.{_≡_};
 ghost use mathlib.Core.Bool.{true};
 ghost use Prim.Native.Nat.{_+_, _<_, _≤_};
+ghost use lib.ListN.{length, take, drop};
 ghost use Rattle.objects.specs.Table.{hasPackage, membersOf, kindAt};
-ghost use Rattle.objects.specs.Rows.{typeCount, memberCountOf, packageMeant, tableOf};
+ghost use Rattle.objects.specs.Rows.{typeCount, memberCountOf, signsAt, bytesAt, packageMeant, tableOf};
 ghost use Rattle.objects.specs.Types.{numberRead};
+ghost use Rattle.text.specs.Hash.{hashFrom};
 ghost use Rattle.rules.specs.Library.{Signed, Library};
 ghost use Rattle.rules.specs.Ways.{matching};
 ghost use Rattle.selection.specs.Results.{nameMeant, first, ownMeant};
@@ -83,20 +85,36 @@ fn find(text: &[u8], rows: &[u32], from: u32, count: u32, names: &[u8], q: Name)
     count
 }
 
-// The same of members that are signed: only one with the sign of the name is compared with it.
+// The sign of a name.
+fn sign_of(names: &[u8], q: Name) -> u32
+    ensures { λ r. ⌜ r ≡ hashFrom 0 (bytesAt (now (names .entry)) (q .at) (q .len)) ⌝ }
+{
+    hash(span(names, q.at as usize, q.len as usize)) as u32
+}
+
+// The signs of members.
+fn signs_of(rows: &[u32], from: u32, count: u32) -> &[u32]
+    requires { ⌜ signsAt (now rows) + from + count ≤ length (now rows) ⌝ }
+    ensures { λ r. ⌜ now r ≡ take count (drop (signsAt (now (rows .entry)) + from) (now (rows .entry))) ⌝ }
+{
+    let at = signs_at(rows) + from as usize;
+    let end = at + count as usize;
+    &rows[at..end]
+}
+
+// The same as `find` of members that are signed: only one with the sign of the name is compared with it.
 fn find_signed(text: &[u8], rows: &[u32], from: u32, count: u32, names: &[u8], q: Name) -> u32
     requires { ⌜ Searched (now text) (now rows) from count q × Signed (now text) (now rows) × (from + count ≤ memberCountOf (now rows)) ⌝ }
     ensures { λ r. ⌜ FoundAt (now (text .entry)) (now (rows .entry)) from count (now (names .entry)) q r ⌝ }
 {
     let pkg = q.pkg;
-    let sign = hash(span(names, q.at as usize, q.len as usize)) as u32;
-    let at = signs_at(rows) + from as usize;
-    let end = at + count as usize;
-    let signs = &rows[at..end];
+    let sign = sign_of(names, q);
+    let signs = signs_of(rows, from, count);
     let mut i = 0;
     while i < count {
         if signs[i as usize] == sign {
-            if same_id(text, rows, ObjKey(from + i), names, q.at, q.len, pkg) {
+            let m = from + i;
+            if same_id(text, rows, ObjKey(m), names, q.at, q.len, pkg) {
                 return i;
             }
         }

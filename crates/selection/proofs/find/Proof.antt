@@ -1,19 +1,13 @@
 -- `selection::find` meets its contract. The invariant: what the whole list gives, the members from i on give.
-use mathlib.Core.Path.{_≡_, sym, _∙_}
-use Prim.Native.Nat.{_+_, _-_, _≤_}
+use Prim.Native.Nat.{_-_, _≤_}
 use native.Mathlib.Omega.{arith}
-use Rattle.objects.specs.Rows.{membersFrom, tableOf}
-use Rattle.selection.specs.Results.{nameMeant}
-use Rattle.selection.specs.Finds.{firstFrom}
-use Rattle.selection.proofs.FindLaws.{find-start, find-here, find-next, find-end}
+use Rattle.selection.proofs.FindLaws.{Left, find-start, find-here, find-next, find-end}
 use borrow.Author.Needs.{needs}
 use Rattle.selection.proofs.find.Statement.{statement}
 use Rattle.selection.proofs.find.Tie as tie
 
 abbrev Inv-loop : tie.InvT-loop
-Inv-loop text rows from count names q pkg₀ i₀ i =
-    (firstFrom (tableOf text rows) (nameMeant text rows names q) 0 (membersFrom text rows from count)
-    ≡ firstFrom (tableOf text rows) (nameMeant text rows names q) i (membersFrom text rows (from + i) (count - i))) × (i ≤ count)
+Inv-loop text rows from count names q pkg₀ i₀ i = Left text rows names q from count i × (i ≤ count)
 
 abbrev μ-loop : tie.MeasureT-loop
 μ-loop text rows from count names q pkg₀ i₀ i = count - i
@@ -31,7 +25,7 @@ same-id-requires c κs = let at-entry = c .before .before .before .before .befor
 
 returns : tie.Need-returns Inv-loop μ-loop
 returns c = let at-loop = c .before .before .before in
-    find-here _ _ _ _ _ _ _ (c .before .before .loop-test .taken) (c .before .same-id .ensures) (c .if1 .taken) ∙ sym (at-loop .loop .inv .0)
+    find-here _ _ _ _ _ _ _ (c .before .before .loop-test .taken) (at-loop .loop .inv .0) (c .before .same-id .ensures) (c .if1 .taken)
 
 add-i : tie.Need-add-i Inv-loop μ-loop
 add-i c = search needs
@@ -41,10 +35,10 @@ loop-less c = omega arith
 
 loop-again : tie.Need-loop-again Inv-loop μ-loop
 loop-again c = let at-loop = c .before .before .before in
-    ((at-loop .loop .inv .0) ∙ find-next _ _ _ _ _ _ _ (c .before .before .loop-test .taken) (c .before .same-id .ensures) (c .if1 .left), omega arith)
+    (find-next _ _ _ _ _ _ _ (c .before .before .loop-test .taken) (at-loop .loop .inv .0) (c .before .same-id .ensures) (c .if1 .left), omega arith)
 
 returns-2 : tie.Need-returns-2 Inv-loop μ-loop
-returns-2 c = find-end _ _ _ _ _ _ _ (c .before .loop .inv .1) (c .loop-test .left) ∙ sym ((c .before .loop .inv .0))
+returns-2 c = find-end _ _ _ _ _ _ _ (c .before .loop .inv .1) (c .loop-test .left) (c .before .loop .inv .0)
 
 pub find-spec : {M : Type 1} → statement M
 find-spec =
