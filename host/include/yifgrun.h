@@ -1,4 +1,5 @@
-/* Member selection over Go type tables: the proved library's call, for C and whatever calls C.
+/* Member selection over Go type tables: the proved library's two calls, for C and whatever calls C. yifgrun_ask is
+ * for one question on a table, yifgrun_ask_all for several, which loads the table once.
  *
  * Link with libyifgrun.a, which `rt staticlib yifgrun` makes as target/staticlib/libyifgrun.a. The library keeps
  * nothing between calls and allocates nothing; calls on different buffers may run at the same time. */
@@ -38,6 +39,35 @@ int64_t yifgrun_ask(const uint8_t *table, size_t table_len,
                     uint8_t *answer, size_t answer_len,
                     uint32_t *work, size_t work_len);
 
+/* Asks questions on a table, which is loaded once.
+ *
+ *   table      the table text; it is only read
+ *   questions  question lines; it is only read. The last may lack its newline. An empty line is a question of wrong
+ *              form; no bytes at all are no questions
+ *   answers    where the answers go, one after the other, in the order of the questions
+ *   work       a work area as for yifgrun_ask
+ *
+ * Lengths, buffers and pointers are as for yifgrun_ask.
+ *
+ * An answer is what yifgrun_ask gives, of any length. A question that is refused, by 11 or 12, has the line `refused`,
+ * number, 0 for its answer, its fields parted by one tab, and the next is answered all the same. No other line begins
+ * with `refused`. A line that begins with `sel` or `and` goes on with the answer before it; every other begins the
+ * answer to the next question.
+ *
+ * What comes back is the length of all answers, 0 where there are no questions, or a number below 0 for a refusal of
+ * the work area, of the table, or of a buffer that is shorter than all answers together (13, line 0).
+ *
+ *                           answer buffer                                 work area
+ *   answers                 the answers in front, the rest unchanged      all words 0
+ *   refusals 2 to 10, 13    unchanged                                     all words 0
+ *   and 14
+ *   refusal 1               unchanged                                     unchanged
+ */
+int64_t yifgrun_ask_all(const uint8_t *table, size_t table_len,
+                        const uint8_t *questions, size_t questions_len,
+                        uint8_t *answers, size_t answers_len,
+                        uint32_t *work, size_t work_len);
+
 /* The refusal (1 to 14) and the line of a number below 0. */
 #define YIFGRUN_REFUSAL(number) ((int)(-(number) / 65536))
 #define YIFGRUN_LINE(number) ((int)(-(number) % 65536))
@@ -57,7 +87,7 @@ enum yifgrun_refusal {
     YIFGRUN_QUESTION = 11,           /* the question has a wrong form, more than 256 bytes, or a number that the
                                         table lacks */
     YIFGRUN_NOT_AN_INTERFACE = 12,   /* the second type of an N question is not itself of kind iface */
-    YIFGRUN_ANSWER_TOO_LONG = 13,    /* the answer is longer than the answer buffer */
+    YIFGRUN_ANSWER_TOO_LONG = 13,    /* the answer, or all answers together, is longer than the answer buffer */
     YIFGRUN_PACKAGE_ORDER = 14       /* package out of order: its path does not come after the one before */
 };
 

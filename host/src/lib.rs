@@ -5,8 +5,10 @@
 //! identical (`I`), whether a type's values can be compared (`C`), and whether the table loads (`V`). Fields are
 //! parted by one tab, and each line of an answer ends in a newline.
 //!
-//! [`ask`] is the call itself, on buffers that the caller lends. [`Answers`] keeps the buffers and makes them as
-//! long as an answer needs; [`answer`] is for one question.
+//! [`ask`] and [`ask_all`] are the two calls themselves, for one question and for many, on buffers that the caller
+//! lends. [`Answers`] keeps the buffers and makes them as long as the answers need; [`answer`] is for one question.
+//! Each call loads the table, so that [`ask_all`] is the one for several questions on a table: [`each_answer`] parts
+//! what it gives.
 //!
 //! ```
 //! let table = "\
@@ -47,13 +49,21 @@
 //! assert_eq!(print("M 7"), "set 1\nsel 0 1 0 0\n");
 //! assert_eq!(print("C 2"), "no\n");
 //! assert_eq!(print("N 3 7 0"), "the second type of an N question is not itself of kind iface (refusal 12)");
+//!
+//! let questions = "C 2\nN 3 7 0\nM 7\n".replace(' ', "\t");
+//! let all = answers.ask_all(table.as_bytes(), questions.as_bytes()).expect("the table loads");
+//! let all = String::from_utf8_lossy(all).replace('\t', " ");
+//! assert_eq!(all, "no\nrefused 12 0\nset 1\nsel 0 1 0 0\n");
 //! ```
 //!
 //! The library holds nothing between calls and allocates nothing: calls on different buffers may run at the same
-//! time. A call nests at most 762 levels (`I` on types that lie within one another), less than 512 KB of stack.
+//! time. A question nests at most 762 levels (`I` on types that lie within one another): [`ask`] takes less than
+//! 512 KB of stack.
 
+mod each;
 mod refusal;
 
+pub use each::each_answer;
 pub use refusal::Refusal;
 
 /// The example of the README, as a test.
@@ -65,9 +75,20 @@ struct Readme;
 pub const WORK_WORDS: usize = 4_096;
 
 mod archive {
+    /// A call of the archive: table, question or questions, buffer and work area, each as its first byte (word) and its
+    /// length. What comes back is the length of what was written, or minus (refusal × 65,536 + line).
+    pub type Call = unsafe extern "C" fn(
+        table: *const u8,
+        table_len: usize,
+        asked: *const u8,
+        asked_len: usize,
+        buffer: *mut u8,
+        buffer_len: usize,
+        work: *mut u32,
+        work_len: usize,
+    ) -> i64;
+
     extern "C" {
-        /// Each slice as its first byte (word) and its length. The length of the answer comes back, or minus
-        /// (refusal × 65,536 + line).
         pub fn yifgrun_ask(
             table: *const u8,
             table_len: usize,
@@ -78,7 +99,43 @@ mod archive {
             work: *mut u32,
             work_len: usize,
         ) -> i64;
+
+        pub fn yifgrun_ask_all(
+            table: *const u8,
+            table_len: usize,
+            questions: *const u8,
+            questions_len: usize,
+            answers: *mut u8,
+            answers_len: usize,
+            work: *mut u32,
+            work_len: usize,
+        ) -> i64;
     }
+}
+
+/// Makes one of the archive's two calls, and reads the number that comes back.
+fn call_archive(
+    call: archive::Call,
+    table: &[u8],
+    asked: &[u8],
+    buffer: &mut [u8],
+    work: &mut [u32],
+) -> Result<usize, Refusal> {
+    // SAFETY: each pointer is that of a slice and stands before the slice's length. The two that are written are
+    // borrowed for this call alone, so that no two overlap. The archive's calls read and write only within them.
+    let number = unsafe {
+        call(
+            table.as_ptr(),
+            table.len(),
+            asked.as_ptr(),
+            asked.len(),
+            buffer.as_mut_ptr(),
+            buffer.len(),
+            work.as_mut_ptr(),
+            work.len(),
+        )
+    };
+    usize::try_from(number).map_err(|_| Refusal::of(number))
 }
 
 /// Asks one question, a line without its newline, on a table text, and gives the length of the answer.
@@ -106,24 +163,39 @@ pub fn ask(
     answer: &mut [u8],
     work: &mut [u32],
 ) -> Result<usize, Refusal> {
-    // SAFETY: each pointer is that of a slice and stands before the slice's length. The two that are written are
-    // borrowed for this call alone, so that no two overlap. The archive's call reads and writes only within them.
-    let number = unsafe {
-        archive::yifgrun_ask(
-            table.as_ptr(),
-            table.len(),
-            question.as_ptr(),
-            question.len(),
-            answer.as_mut_ptr(),
-            answer.len(),
-            work.as_mut_ptr(),
-            work.len(),
-        )
-    };
-    match usize::try_from(number) {
-        Ok(length) => Ok(length),
-        Err(_) => Err(Refusal::of(number)),
-    }
+    call_archive(archive::yifgrun_ask, table, question, answer, work)
+}
+
+/// Asks questions, a line each, on a table text that is loaded once, and gives the length of all answers.
+///
+/// The last question may lack its newline; an empty line is a question of wrong form, and an empty text has no
+/// questions. The answers stand one after the other in front of `answers`, whose rest is unchanged. A refused question
+/// (11, 12) has the line `refused`, number, 0 for its answer, and the next is answered all the same. [`each_answer`]
+/// parts them.
+///
+/// A refusal of the work area (1), of the table (2 to 10, 14), or of a buffer that is shorter than all answers together
+/// (13), changes none of `answers`. The work area is as with [`ask`].
+///
+/// ```
+/// use yifgrun::{ask_all, WORK_WORDS};
+///
+/// let table = b"typetable\t1\nT\tbasic\t26\nT\tbasic\t8\n";
+/// let mut answers = [0; 80];
+/// let mut work = [0; WORK_WORDS];
+/// let length = ask_all(table, b"I\t0\t1\nC\t2\nV", &mut answers, &mut work)?;
+/// assert_eq!(&answers[..length], b"yes\nrefused\t11\t0\nok\t0\t2\t0\n");
+///
+/// let refusal = ask_all(table, b"I\t0\t1\nV", &mut answers[..4], &mut work).unwrap_err();
+/// assert_eq!((refusal.number, refusal.line), (13, 0));
+/// # Ok::<(), yifgrun::Refusal>(())
+/// ```
+pub fn ask_all(
+    table: &[u8],
+    questions: &[u8],
+    answers: &mut [u8],
+    work: &mut [u32],
+) -> Result<usize, Refusal> {
+    call_archive(archive::yifgrun_ask_all, table, questions, answers, work)
 }
 
 /// Answers one question, in a buffer as long as the answer needs; refusals 1 and 13 do not occur.
@@ -136,7 +208,8 @@ pub fn answer(table: &[u8], question: &[u8]) -> Result<Vec<u8>, Refusal> {
     Answers::new().ask(table, question).map(<[u8]>::to_vec)
 }
 
-/// Buffers for one question after another, made longer where an answer needs it; refusals 1 and 13 do not occur.
+/// Buffers for one question or text of questions after another, made longer where answers need it; refusals 1 and 13
+/// do not occur.
 #[derive(Debug)]
 pub struct Answers {
     answer: Vec<u8>,
@@ -159,10 +232,42 @@ impl Answers {
 
     /// The answer to a question, a line without its newline, on a table text.
     pub fn ask(&mut self, table: &[u8], question: &[u8]) -> Result<&[u8], Refusal> {
+        self.with_room(MOST_BYTES, |answer, work| {
+            ask(table, question, answer, work)
+        })
+    }
+
+    /// The answers to questions, a line each, on a table text that is loaded once: [`ask_all`] in a buffer as long as all
+    /// of them need.
+    ///
+    /// ```
+    /// let table = b"typetable\t1\nT\tbasic\t2\nT\tslice\t0\n";
+    /// let mut answers = yifgrun::Answers::new();
+    /// assert_eq!(answers.ask_all(table, b"C\t0\nC\t1\n")?, b"yes\nno\n");
+    /// assert_eq!(answers.ask_all(table, b"")?, b"");
+    /// # Ok::<(), yifgrun::Refusal>(())
+    /// ```
+    pub fn ask_all(&mut self, table: &[u8], questions: &[u8]) -> Result<&[u8], Refusal> {
+        let count = questions.split_inclusive(|&b| b == b'\n').count();
+        // Most answers are no longer than their questions: with that much room the first call is mostly the only one.
+        if self.answer.len() < questions.len() {
+            self.answer.resize(questions.len(), 0);
+        }
+        self.with_room(count.saturating_mul(MOST_BYTES), |answers, work| {
+            ask_all(table, questions, answers, work)
+        })
+    }
+
+    /// Makes a call, and as long as it lacks room makes it again with twice as much. With `most` bytes none lacks room.
+    fn with_room(
+        &mut self,
+        most: usize,
+        call: impl Fn(&mut [u8], &mut [u32]) -> Result<usize, Refusal>,
+    ) -> Result<&[u8], Refusal> {
         loop {
-            match ask(table, question, &mut self.answer, &mut self.work) {
+            match call(&mut self.answer, &mut self.work) {
                 Ok(length) => return Ok(&self.answer[..length]),
-                Err(refusal) if refusal.number == 13 && self.answer.len() < MOST_BYTES => {
+                Err(refusal) if refusal.number == 13 && self.answer.len() < most => {
                     self.answer.resize(2 * self.answer.len(), 0);
                 }
                 Err(refusal) => return Err(refusal),

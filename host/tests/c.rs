@@ -20,6 +20,20 @@ refusal 7 line 2, kept, work right
 refusal 14 line 3, kept, work right
 refusal 11 line 0, kept, work right
 refusal 13 line 0, kept, work right
+ambiguous\t0\t0
+and\t1\t0
+refused\t11\t0
+no
+rest kept, work zero
+refused\t12\t0
+refused\t11\t0
+yes
+rest kept, work zero
+rest kept, work zero
+refusal 1 line 0, kept, work right
+refusal 7 line 2, kept, work right
+refusal 14 line 3, kept, work right
+refusal 13 line 0, kept, work right
 ";
 
 #[test]

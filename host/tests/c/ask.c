@@ -1,4 +1,4 @@
-/* The library called from C, through its header: answers, refusals, and the buffers behind each. */
+/* The library called from C, through its header: both calls, answers, refusals, and the buffers behind each. */
 #include "yifgrun.h"
 
 #include <stdio.h>
@@ -15,6 +15,10 @@ static const char recurring[] = "typetable\t1\nP\toffice/cat\nP\toffice/cat\n";
 static uint8_t answer[64];
 static uint32_t work[YIFGRUN_WORK_WORDS + 1];
 
+/* The call that is tried: yifgrun_ask, then yifgrun_ask_all. */
+typedef int64_t call(const uint8_t *, size_t, const uint8_t *, size_t, uint8_t *, size_t, uint32_t *, size_t);
+static call *asks = yifgrun_ask;
+
 /* Asks with the answer buffer full of '.' and the work area full of 7. */
 static int64_t ask(const char *text, const char *question, size_t room, size_t words)
 {
@@ -22,8 +26,8 @@ static int64_t ask(const char *text, const char *question, size_t room, size_t w
     memset(answer, '.', sizeof answer);
     for (i = 0; i < sizeof work / sizeof work[0]; i++)
         work[i] = 7;
-    return yifgrun_ask((const uint8_t *)text, strlen(text), (const uint8_t *)question, strlen(question),
-                       answer, room, work, words);
+    return asks((const uint8_t *)text, strlen(text), (const uint8_t *)question, strlen(question),
+                answer, room, work, words);
 }
 
 /* Whether the first words of the work area are all this one, and the others untouched. */
@@ -56,7 +60,7 @@ static void print_refusal(const char *text, const char *question, size_t room, s
            work_is(YIFGRUN_REFUSAL(number) == YIFGRUN_WORK_TOO_SHORT ? 7 : 0, words) ? "right" : "wrong");
 }
 
-int main(void)
+static void ask_one(void)
 {
     print_answer("S\t7\t0\t0\tClose");
     print_answer("S\t8\t0\t0\tLen");
@@ -67,5 +71,23 @@ int main(void)
     print_refusal(recurring, "V", sizeof answer, YIFGRUN_WORK_WORDS);
     print_refusal(table, "X", 0, YIFGRUN_WORK_WORDS + 1);
     print_refusal(table, "M\t7", 3, YIFGRUN_WORK_WORDS);
+}
+
+static void ask_all(void)
+{
+    asks = yifgrun_ask_all;
+    print_answer("S\t8\t0\t0\tLen\nX\nC\t2\n");
+    print_answer("N\t3\t7\t0\n\nC\t0");
+    print_answer("");
+    print_refusal(table, "V\nV\n", sizeof answer, YIFGRUN_WORK_WORDS - 1);
+    print_refusal("typetable\t1\nT\tnamed\t9\n", "", sizeof answer, YIFGRUN_WORK_WORDS);
+    print_refusal(recurring, "X\n", 0, YIFGRUN_WORK_WORDS + 1);
+    print_refusal(table, "C\t2\nX\nC\t0\n", 19, YIFGRUN_WORK_WORDS);
+}
+
+int main(void)
+{
+    ask_one();
+    ask_all();
     return YIFGRUN_REFUSAL(ask(recurring, "V", sizeof answer, YIFGRUN_WORK_WORDS)) != YIFGRUN_PACKAGE_ORDER;
 }
