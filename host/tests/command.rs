@@ -132,6 +132,61 @@ fn a_file_with_refused_questions() {
     assert_eq!(run(&[], &input), says(1, "no\nyes\n", second));
 }
 
+/// Every line behind `Q` is a question with its number: an empty one, one with a carriage return, a NUL or a byte too many.
+#[test]
+fn lines_of_wrong_form() {
+    let long = "x".repeat(bounds::QUESTION + 1);
+    let input = format!("{TABLE}Q\n\nC\t2\nC\t2\r\n\0\nC\t0\n{long}\nV\n\n");
+    let (status, out, err) = run(&[], &input);
+    assert_eq!((status, &*out), (1, "no\nyes\nok\t1\t9\t5\n"));
+    let wrong = [1, 3, 4, 6, 8].map(|n| {
+        format!(
+            "yifgrun: question {n}: the question has a wrong form, more than 256 bytes, or a number that the table \
+            lacks (refusal 11)\n"
+        )
+    });
+    assert_eq!(err, wrong.concat());
+}
+
+/// Answers and refusals come in the order of the questions, where both go to one place.
+#[test]
+fn a_refusal_is_told_in_its_place() {
+    let input = file(
+        "in_place",
+        &format!("{TABLE}Q\nC\t2\nX\nM\t7\nN\t3\t7\t0\nV\n"),
+    );
+    let both = file("in_place_out", "");
+    let open = || fs::OpenOptions::new().append(true).open(&both);
+    let (out, err) = (open().expect("the file opens"), open().expect("again"));
+    let ran = Command::new(env!("CARGO_BIN_EXE_yifgrun"))
+        .arg(input)
+        .stdout(out)
+        .stderr(err)
+        .status();
+    assert_eq!(ran.expect("the command ends").code(), Some(1));
+    let said = fs::read_to_string(&both).expect("text");
+    let begins = said.lines().map(|line| &line[..line.len().min(19)]);
+    let due = [
+        "no",
+        "yifgrun: question 2",
+        "set\t1",
+        "sel\t0\t1\t0\t0",
+        "yifgrun: question 4",
+        "ok\t1\t9\t5",
+    ];
+    assert_eq!(begins.collect::<Vec<_>>(), due);
+}
+
+/// More questions than `typeask` reads, and more answers than a buffer has room for at first.
+#[test]
+fn a_file_of_many_questions() {
+    let count = 20_000;
+    let input = format!("{TABLE}Q\n{}", "S\t8\t0\t0\tLen\nM\t7\n".repeat(count));
+    assert!(input.len() > bounds::TEXT);
+    let answers = "ambiguous\t0\t0\nand\t1\t0\nset\t1\nsel\t0\t1\t0\t0\n".repeat(count);
+    assert!(run(&[&file("many", &input)], "") == says(0, &answers, ""));
+}
+
 #[test]
 fn wrong_use() {
     let (status, out, err) = run(&["--what"], "");

@@ -5,7 +5,7 @@ use std::ffi::{OsStr, OsString};
 use std::io::{self, Read, Write};
 use std::process::ExitCode;
 use std::{env, fs};
-use yifgrun::{Answers, Refusal};
+use yifgrun::{each_answer, Answers, Refusal};
 
 const HELP: &str = "\
 Answers questions on a table of Go types.
@@ -63,11 +63,10 @@ fn run(arguments: Vec<OsString>) -> Result<bool, String> {
         return whole(&input);
     }
     let (table, _) = parted(&input);
-    let mut said = Said::default();
-    if said.table(table) {
-        said.question(table, &question(words), "")?;
+    match Answers::new().ask(table, &question(words)) {
+        Ok(answer) => print(answer).map(|()| true),
+        Err(refusal) => Ok(refuse("", refusal)),
     }
-    Ok(said.all_answered())
 }
 
 /// The bytes of a file, or of standard input.
@@ -108,55 +107,29 @@ fn parted(input: &[u8]) -> (&[u8], Option<&[u8]>) {
     (input, None)
 }
 
-/// Answers every question of an input.
+/// Answers every question of an input. The table is loaded once; if it is refused, that is said once, whatever is asked.
 fn whole(input: &[u8]) -> Result<bool, String> {
     let (table, questions) = parted(input);
-    let mut said = Said::default();
-    if !said.table(table) {
-        return Ok(false);
+    match Answers::new().ask_all(table, questions.unwrap_or(b"V")) {
+        Ok(answers) => say_each(answers),
+        Err(refusal) => Ok(refuse("", refusal)),
     }
-    let lines = questions
-        .unwrap_or(b"V")
-        .split_inclusive(|&b| b == b'\n')
-        .map(|line| line.strip_suffix(b"\n").unwrap_or(line));
-    for (n, line) in lines.enumerate() {
-        said.question(table, line, &format!("question {}: ", n + 1))?;
-    }
-    Ok(said.all_answered())
 }
 
-/// Answers and refusals said so far.
-#[derive(Default)]
-struct Said {
-    answers: Answers,
-    refused: bool,
+/// Prints the answers and tells the refusals in the order of their questions, and gives whether all were answered.
+fn say_each(answers: &[u8]) -> Result<bool, String> {
+    let mut all_answered = true;
+    for (n, answer) in each_answer(answers).enumerate() {
+        match answer {
+            Ok(answer) => print(answer)?,
+            Err(refusal) => all_answered = refuse(&format!("question {}: ", n + 1), refusal),
+        }
+    }
+    Ok(all_answered)
 }
 
-impl Said {
-    /// Whether the table loads; if not, that is said once, whatever is asked.
-    fn table(&mut self, table: &[u8]) -> bool {
-        if let Err(refusal) = self.answers.ask(table, b"V") {
-            self.refusal("", refusal);
-        }
-        self.all_answered()
-    }
-
-    fn question(&mut self, table: &[u8], line: &[u8], which: &str) -> Result<(), String> {
-        match self.answers.ask(table, line) {
-            Ok(answer) => print(answer),
-            Err(refusal) => {
-                self.refusal(which, refusal);
-                Ok(())
-            }
-        }
-    }
-
-    fn refusal(&mut self, which: &str, refusal: Refusal) {
-        tell(&format!("{which}{refusal}"));
-        self.refused = true;
-    }
-
-    fn all_answered(&self) -> bool {
-        !self.refused
-    }
+/// Tells a refusal, and that not every question was answered.
+fn refuse(which: &str, refusal: Refusal) -> bool {
+    tell(&format!("{which}{refusal}"));
+    false
 }
