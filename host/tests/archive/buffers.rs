@@ -1,9 +1,10 @@
 //! The lengths of the answer buffer and of the work area, and what a call leaves in them.
 
 use crate::bounds;
-use crate::lent::asked;
+use crate::lent::{asked, asked_all};
+use crate::questions::given;
 use std::thread;
-use yifgrun::{ask, Answers, WORK_WORDS};
+use yifgrun::{ask, ask_all, Answers, WORK_WORDS};
 
 const TABLE: &str = "typetable\t1\nP\toffice/cat\nT\tbasic\t2\nT\ttuple\nT\tfunc\t0\t1\t1\nT\tnamed\t4\n\
     M\tClose\t0\t2\t1\nT\tstruct\nF\tLen\t0\t0\t0\nT\tpointer\t3\nT\tstruct\nF\tBlock\t0\t5\t1\nT\tnamed\t6\n\
@@ -27,6 +28,13 @@ const ANSWERS: [(&str, &str); 14] = [
     ("V", "ok\t1\t10\t7\n"),
 ];
 
+/// All these questions as a text, and all answers.
+fn all_in_one() -> [String; 2] {
+    let questions = ANSWERS.map(|(question, _)| question.to_owned() + "\n");
+    let answers = ANSWERS.map(|(_, answer)| answer);
+    [questions.concat(), answers.concat()]
+}
+
 #[test]
 fn answer_buffers_of_every_length() {
     for (question, due) in ANSWERS {
@@ -44,6 +52,29 @@ fn answer_buffers_of_every_length() {
                 let length = result.expect("there is room");
                 assert_eq!(&answer[..length], due.as_bytes(), "{question} {room}");
             }
+        }
+    }
+}
+
+/// Answers of every letter, refused questions between them and a set of forty methods: in every buffer that is shorter
+/// than all of it nothing is written.
+#[test]
+fn buffers_of_every_length_for_many_answers() {
+    let sel = |n: usize| format!("sel\t{}\t1\t{n}\n", n + 7);
+    let methods: String = (0..40).map(|n| format!("M\tM{n:02}\t0\t2\t0\n")).collect();
+    let table = format!("{TABLE}T\tiface\n{methods}");
+    let [questions, answers] = all_in_one();
+    let questions = format!("X\n{questions}N\t7\t7\t0\nM\t10\n\nC\t7");
+    let answers = answers.replace("ok\t1\t10\t7", "ok\t1\t11\t47");
+    let sels: String = (0..40).map(sel).collect();
+    let due =
+        format!("refused\t11\t0\n{answers}refused\t12\t0\nset\t40\n{sels}refused\t11\t0\nyes\n");
+    for room in 0..=due.len() + 1 {
+        let answers = given(table.as_bytes(), questions.as_bytes(), room);
+        if room < due.len() {
+            assert_eq!(answers, Err((13, 0)), "{room}");
+        } else {
+            assert_eq!(answers, Ok(due.clone().into_bytes()), "{room}");
         }
     }
 }
@@ -79,8 +110,12 @@ fn refusals_come_before_the_rooms() {
 #[test]
 fn work_areas_that_are_longer() {
     let lengths = (WORK_WORDS..WORK_WORDS + 70).chain([5_000, 8_192, 65_536, 4_194_304]);
+    let [questions, due] = all_in_one();
     for words in lengths {
         let mut work = vec![0; words];
+        let (table, mut answers) = (TABLE.as_bytes(), [0; 400]);
+        let result = asked_all(table, questions.as_bytes(), &mut answers, &mut work);
+        assert_eq!(&answers[..result.expect("answers")], due.as_bytes());
         for (question, due) in ANSWERS {
             if words > 100_000 && question != "I\t3\t7" {
                 continue;
@@ -111,8 +146,10 @@ fn work_areas_that_are_shorter() {
         for (table, question, room) in calls {
             let mut answer = vec![0; room];
             let work = &mut work[..words];
-            let result = asked(table.as_bytes(), question.as_bytes(), &mut answer, work);
-            assert_eq!(result.map_err(|r| (r.number, r.line)), Err((1, 0)));
+            for call in [asked, asked_all] {
+                let result = call(table.as_bytes(), question.as_bytes(), &mut answer, work);
+                assert_eq!(result.map_err(|r| (r.number, r.line)), Err((1, 0)));
+            }
         }
     }
 }
@@ -121,7 +158,11 @@ fn work_areas_that_are_shorter() {
 #[test]
 fn calls_are_independent() {
     let mut work = vec![0; WORK_WORDS];
+    let [questions, all] = all_in_one();
     for _ in 0..3 {
+        let (table, mut answers) = (TABLE.as_bytes(), [0; 400]);
+        let length = ask_all(table, questions.as_bytes(), &mut answers, &mut work);
+        assert_eq!(&answers[..length.expect("answers")], all.as_bytes());
         for (question, due) in ANSWERS {
             let mut answer = [0; 80];
             let length = ask(
@@ -142,7 +183,10 @@ fn calls_run_side_by_side() {
         for _ in 0..4 {
             scope.spawn(|| {
                 let mut answers = Answers::new();
+                let [questions, all] = all_in_one();
                 for _ in 0..500 {
+                    let given = answers.ask_all(TABLE.as_bytes(), questions.as_bytes());
+                    assert_eq!(given, Ok(all.as_bytes()));
                     for (question, due) in ANSWERS {
                         let answer = answers.ask(TABLE.as_bytes(), question.as_bytes());
                         assert_eq!(answer, Ok(due.as_bytes()));
@@ -153,10 +197,9 @@ fn calls_run_side_by_side() {
     });
 }
 
-/// A method set that is longer than any buffer up to a mebibyte is answered whole: the methods of six interfaces, as many
+/// A table, a question and its answer, a method set that is longer than a mebibyte: the methods of six interfaces, as many
 /// levels below as there are types for.
-#[test]
-fn long_answers_are_whole() {
+fn long_set() -> [String; 3] {
     const PARTS: usize = 6;
     const METHODS: usize = bounds::MEMBERS_OF_ONE;
     let mut table = "typetable\t1\nT\ttuple\nT\tfunc\t0\t0\t0\n".to_owned();
@@ -174,19 +217,34 @@ fn long_answers_are_whole() {
     for below in lowest..last {
         table += &format!("T\tstruct\nF\tE\t-\t{below}\t1\n");
     }
-    let (question, count) = (format!("M\t{last}"), PARTS * METHODS);
-    let mut answers = Answers::new();
-    let answer = answers.ask(table.as_bytes(), question.as_bytes());
-    let answer = str::from_utf8(answer.expect("an answer")).expect("text");
-    let lines: Vec<&str> = answer.split_inclusive('\n').collect();
-    let down = "\t0".repeat(last - lowest);
-    let sel = |k| format!("sel\t{k}\t1{down}\t{}\t{}\n", k / METHODS, k % METHODS);
-    assert_eq!(
-        (lines.len(), lines[0]),
-        (1 + count, &*format!("set\t{count}\n"))
-    );
+    let (count, down) = (PARTS * METHODS, "\t0".repeat(last - lowest));
+    let mut answer = format!("set\t{count}\n");
     for k in 0..count {
-        assert_eq!(lines[1 + k], sel(k));
+        answer += &format!("sel\t{k}\t1{down}\t{}\t{}\n", k / METHODS, k % METHODS);
     }
     assert!(answer.len() > 1 << 20);
+    [table, format!("M\t{last}"), answer]
+}
+
+#[test]
+fn long_answers_are_whole() {
+    let [table, question, due] = long_set();
+    let mut answers = Answers::new();
+    let answer = answers.ask(table.as_bytes(), question.as_bytes());
+    assert!(answer == Ok(due.as_bytes()));
+}
+
+/// Several in one call, more than a buffer for one answer has room for, and in buffers that have just the room or a byte less.
+#[test]
+fn long_answers_in_one_call_are_whole() {
+    let [table, question, due] = long_set();
+    let (table, times) = (table.as_bytes(), 8);
+    let questions = format!("{question}\nX\n").repeat(times);
+    let due = format!("{due}refused\t11\t0\n").repeat(times);
+    assert!(due.len() > 1 << 23);
+    let mut answers = Answers::new();
+    assert!(answers.ask_all(table, questions.as_bytes()) == Ok(due.as_bytes()));
+    assert!(answers.ask_all(table, b"X") == Ok(b"refused\t11\t0\n"));
+    assert!(given(table, questions.as_bytes(), due.len() - 1) == Err((13, 0)));
+    assert!(given(table, questions.as_bytes(), due.len()) == Ok(due.into_bytes()));
 }

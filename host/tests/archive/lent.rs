@@ -1,7 +1,10 @@
 //! Calls on buffers that are filled before and looked at behind: what every call promises of them, whatever it is
 //! asked.
 
-use yifgrun::{ask, Refusal, WORK_WORDS};
+use yifgrun::{ask, ask_all, Refusal, WORK_WORDS};
+
+/// A call on a table, a question or questions, an answer buffer and a work area.
+type Call = fn(&[u8], &[u8], &mut [u8], &mut [u32]) -> Result<usize, Refusal>;
 
 /// The byte that stands at a place of the answer buffer before a call.
 fn byte(place: usize) -> u8 {
@@ -13,10 +16,33 @@ fn word(place: usize) -> u32 {
     (place as u32).wrapping_mul(0x9e37_79b9) | 1
 }
 
-/// Asks, with the answer buffer patterned and the work area dirty, and checks both and the number.
+/// Asks a question, with the answer buffer patterned and the work area dirty, and checks both and the number.
 pub fn asked(
     table: &[u8],
     question: &[u8],
+    answer: &mut [u8],
+    work: &mut [u32],
+) -> Result<usize, Refusal> {
+    checked(ask, table, question, answer, work)
+}
+
+/// Asks questions in one call, likewise. A refused question is no refusal of the call.
+pub fn asked_all(
+    table: &[u8],
+    questions: &[u8],
+    answers: &mut [u8],
+    work: &mut [u32],
+) -> Result<usize, Refusal> {
+    let result = checked(ask_all, table, questions, answers, work);
+    let of_question = |refusal: &Refusal| [11, 12].contains(&refusal.number);
+    assert!(!result.as_ref().is_err_and(of_question), "{result:?}");
+    result
+}
+
+fn checked(
+    call: Call,
+    table: &[u8],
+    asked: &[u8],
     answer: &mut [u8],
     work: &mut [u32],
 ) -> Result<usize, Refusal> {
@@ -26,7 +52,7 @@ pub fn asked(
     for (place, w) in work.iter_mut().enumerate() {
         *w = word(place);
     }
-    let result = ask(table, question, answer, work);
+    let result = call(table, asked, answer, work);
     let touched = match result {
         Ok(length) => length,
         Err(refusal) => {

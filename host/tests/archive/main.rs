@@ -1,4 +1,4 @@
-//! The library's call through its archive: answers, refusals, and what it leaves in the buffers lent.
+//! The library's two calls through its archive: answers, refusals, and what they leave in the buffers lent.
 
 #[path = "../bounds/mod.rs"]
 mod bounds;
@@ -7,10 +7,14 @@ mod buffers;
 mod due;
 #[cfg(target_os = "linux")]
 mod fenced;
+mod joined;
 mod lent;
+mod numbers;
+mod one_call;
 mod order;
 #[cfg(target_os = "linux")]
 mod pages;
+mod questions;
 #[cfg(target_os = "linux")]
 mod stack;
 mod stored;

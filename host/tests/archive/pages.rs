@@ -3,9 +3,10 @@
 
 use crate::bounds;
 use crate::fenced::{Fenced, Side};
-use crate::lent::asked;
+use crate::joined::joined;
+use crate::lent::{asked, asked_all};
 use crate::stored::{cases, say};
-use crate::typeask::parted;
+use crate::typeask::{parted, texts, Ask};
 use yifgrun::{Refusal, WORK_WORDS};
 
 const SIDES: [Side; 2] = [Side::Front, Side::Back];
@@ -25,15 +26,35 @@ impl Pages {
     fn new() -> Pages {
         Pages {
             table: Fenced::new(1 << 17),
-            question: Fenced::new(1 << 13),
-            answer: Fenced::new(1 << 15),
+            question: Fenced::new(1 << 17),
+            answer: Fenced::new(1 << 20),
             work: Fenced::new(4 * (WORK_WORDS + 1_000)),
         }
     }
 
-    /// A call with each buffer on its side, and the answer.
+    /// A question with each buffer on its side, and the answer.
     fn ask(
         &mut self,
+        sides: Sides,
+        asked_of: (&[u8], &[u8]),
+        lent: (usize, usize),
+    ) -> Result<Vec<u8>, Refusal> {
+        self.call(asked, sides, asked_of, lent)
+    }
+
+    /// Questions in one call, likewise, and the answers.
+    fn ask_all(
+        &mut self,
+        sides: Sides,
+        asked_of: (&[u8], &[u8]),
+        lent: (usize, usize),
+    ) -> Result<Vec<u8>, Refusal> {
+        self.call(asked_all, sides, asked_of, lent)
+    }
+
+    fn call(
+        &mut self,
+        call: Ask,
         [table_side, question_side, answer_side, work_side]: Sides,
         (table, question): (&[u8], &[u8]),
         (room, words): (usize, usize),
@@ -42,7 +63,7 @@ impl Pages {
         let question = self.question.copy(question, question_side);
         let answer = self.answer.bytes(room, answer_side);
         let work = self.work.words(words, work_side);
-        let length = asked(table, question, answer, work)?;
+        let length = call(table, question, answer, work)?;
         Ok(answer[..length].to_vec())
     }
 }
@@ -81,6 +102,27 @@ fn stored_questions_touch_only_what_is_lent() {
     say(&format!(
         "{calls} calls between pages that may not be touched"
     ));
+}
+
+/// All questions of an input in one call, with just the room for their answers on both sides, and with a byte less.
+#[test]
+fn stored_texts_touch_only_what_is_lent() {
+    let mut pages = Pages::new();
+    for case in cases() {
+        let (table, questions) = texts(&case.input);
+        let due = joined(table, questions);
+        let room = due.as_ref().map_or(64, Vec::len);
+        for side in SIDES {
+            let lent = (room, WORK_WORDS);
+            let given = pages.ask_all([side; 4], (table, questions), lent);
+            assert!(given == due, "{}", case.name);
+            let lent = (room.saturating_sub(1), WORK_WORDS);
+            let given = pages.ask_all([side; 4], (table, questions), lent);
+            let short = due.as_ref().is_ok_and(|answers| !answers.is_empty());
+            let number = given.map_err(|refusal| refusal.number);
+            assert_eq!(number == Err(13), short, "{}", case.name);
+        }
+    }
 }
 
 const TABLE: &str =
@@ -130,6 +172,44 @@ fn every_choice_of_sides() {
     }
 }
 
+/// The same for many questions in one call: all of these, without the last newline, none, and empty ones.
+#[test]
+fn every_choice_of_sides_for_many_questions() {
+    let mut pages = Pages::new();
+    let all = QUESTIONS.join("\n").into_bytes();
+    let long = [&all[..], &[b'x'; bounds::QUESTION + 1]].concat();
+    let texts = [
+        &all[..all.len() - 1],
+        &all,
+        &long,
+        b"",
+        b"\n",
+        b"\n\n",
+        b"V",
+    ];
+    let table = TABLE.as_bytes();
+    let tables = [table, &table[..15], &[], b"typetable\t1\nP\tab\nP\ta\n"];
+    for (table, questions) in tables.iter().flat_map(|t| texts.map(|q| (*t, q))) {
+        let due = joined(table, questions);
+        let length = due.as_ref().map_or(0, Vec::len);
+        for sides in all_sides() {
+            let rooms = [0, 12, length.saturating_sub(1), length, length + 1];
+            let words = [0, WORK_WORDS - 1, WORK_WORDS, WORK_WORDS + 1];
+            for lent in rooms.iter().flat_map(|&r| words.map(|w| (r, w))) {
+                let given = pages.ask_all(sides, (table, questions), lent);
+                let given = given.map_err(|refusal| refusal.number);
+                let due = match &due {
+                    _ if lent.1 < WORK_WORDS => Err(1),
+                    Ok(answers) if answers.len() > lent.0 => Err(13),
+                    Ok(answers) => Ok(answers.clone()),
+                    Err(refusal) => Err(refusal.number),
+                };
+                assert_eq!(given, due, "{lent:?} {}", questions.escape_ascii());
+            }
+        }
+    }
+}
+
 /// A table that loads, of just so many bytes: its last line is a long tuple.
 fn filled(bytes: usize) -> Vec<u8> {
     let start = |path: &str| format!("{}T\ttuple", TABLE.replace("P\ta\n", path));
@@ -156,6 +236,9 @@ fn longest_tables_and_questions() {
                 _ => Err(2),
             };
             assert_eq!(result.map_err(|refusal| refusal.number), due, "{bytes}");
+            let result = pages.ask_all([side; 4], (&filled(bytes), b"V\nV"), (22, WORK_WORDS));
+            let due = due.map(|answer| answer.repeat(2));
+            assert_eq!(result.map_err(|refusal| refusal.number), due, "{bytes}");
         }
         for bytes in [
             bounds::QUESTION - 1,
@@ -165,8 +248,11 @@ fn longest_tables_and_questions() {
         ] {
             for byte in [b'S', b'\t', b'0', 0, 255] {
                 let question = vec![byte; bytes];
-                let result = pages.ask([side; 4], (TABLE.as_bytes(), &question), (40, WORK_WORDS));
+                let asked = (TABLE.as_bytes(), &*question);
+                let result = pages.ask([side; 4], asked, (40, WORK_WORDS));
                 assert_eq!(result.map_err(|refusal| refusal.number), Err(11));
+                let result = pages.ask_all([side; 4], asked, (13, WORK_WORDS));
+                assert_eq!(result, Ok(b"refused\t11\t0\n".to_vec()));
             }
         }
     }

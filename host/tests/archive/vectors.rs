@@ -2,6 +2,8 @@
 
 use crate::due::{self, ordered::Order};
 use crate::lent::asked;
+use crate::one_call::refusal;
+use crate::questions::given;
 use crate::stored::{base_calls, calls, cases, say};
 use crate::typeask;
 use std::collections::BTreeSet;
@@ -146,6 +148,22 @@ impl Call<'_> {
         };
         assert_eq!(returned, self.number, "{}", self.line);
     }
+
+    /// The question as the one line of a text: its refusal is what `typeask` prints for it, if there is room for that.
+    fn run_as_text(&self) {
+        if self.question.contains(&b'\n') {
+            return;
+        }
+        let printed = self.printed();
+        let due = match refusal(&printed) {
+            Some((11 | 12, 0)) if printed.len() > self.room => Err((13, 0)),
+            Some((11 | 12, 0)) | None => Ok(printed),
+            Some(refused) => Err(refused),
+        };
+        let questions = [&self.question[..], b"\n"].concat();
+        let result = given(&self.table, &questions, self.room);
+        assert_eq!(result, due, "{}", self.line);
+    }
 }
 
 /// The number that comes back for a refusal, of its number and line with a tab between.
@@ -180,6 +198,7 @@ fn stored_calls_return_what_is_stored() {
     let base = base.into_iter().filter_map(Call::due).chain(in_order);
     let calls: Vec<Call> = base.chain(sample.lines().map(Call::of)).collect();
     calls.iter().for_each(Call::run);
+    calls.iter().for_each(Call::run_as_text);
     let answered = |by: &[u8]| {
         let given = |call: &&Call| call.answer.windows(by.len()).any(|w| w == by);
         calls.iter().filter(given).count()

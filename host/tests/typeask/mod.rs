@@ -36,19 +36,25 @@ pub const WORDS: [&str; 25] = [
 /// A call on a table, a question, an answer buffer and a work area.
 pub type Ask = fn(&[u8], &[u8], &mut [u8], &mut [u32]) -> Result<usize, Refusal>;
 
-/// The table text and the questions of an input: what stands before the first line `Q`, and the lines behind it;
-/// without one, everything and a V.
-pub fn parted(input: &[u8]) -> (&[u8], Vec<&[u8]>) {
+/// The table text and the questions' text of an input: what stands before the first line `Q`, and what stands behind
+/// it; without one, everything and a V.
+pub fn texts(input: &[u8]) -> (&[u8], &[u8]) {
     let mut at = 0;
     for line in input.split_inclusive(|&b| b == b'\n') {
         if line == b"Q\n" {
-            let questions = input[at + 2..].split_inclusive(|&b| b == b'\n');
-            let bare = questions.map(|line| line.strip_suffix(b"\n").unwrap_or(line));
-            return (&input[..at], bare.collect());
+            return (&input[..at], &input[at + line.len()..]);
         }
         at += line.len();
     }
-    (input, vec![b"V"])
+    (input, b"V")
+}
+
+/// The table text and the questions of an input.
+pub fn parted(input: &[u8]) -> (&[u8], Vec<&[u8]>) {
+    let (table, questions) = texts(input);
+    let lines = questions.split_inclusive(|&b| b == b'\n');
+    let bare = lines.map(|line| line.strip_suffix(b"\n").unwrap_or(line));
+    (table, bare.collect())
 }
 
 /// What `typeask` prints for an input.
