@@ -15,6 +15,16 @@ pub trait Engine {
     /// The answer to a question line on the table loaded; nothing if it can't be read.
     fn ask(&mut self, question: &str) -> Option<String>;
 
+    /// Takes a table text and answers questions on it, a line each, one after the other; nothing if it can't be read, or a
+    /// question can't.
+    fn ask_all(&mut self, table: &str, questions: &str) -> Option<String> {
+        self.load(table)?;
+        questions
+            .lines()
+            .map(|question| self.ask(question))
+            .collect()
+    }
+
     /// Whether a question is answered from what a load left, or the table text is loaded again for it.
     fn keeps_tables(&self) -> bool {
         true
@@ -69,7 +79,7 @@ pub fn library() -> Option<Box<dyn Engine>> {
     None
 }
 
-/// The library's call. It keeps nothing between calls, so that each question loads the table text.
+/// The library's calls. They keep nothing, so that each question that is asked alone loads the table text.
 #[cfg(feature = "library")]
 #[derive(Default)]
 struct OfLibrary {
@@ -91,11 +101,21 @@ impl Engine for OfLibrary {
 
     fn ask(&mut self, question: &str) -> Option<String> {
         let answer = self.answers.ask(self.table.as_bytes(), question.as_bytes());
-        let text = String::from_utf8(answer.ok()?.to_vec());
-        Some(text.expect("an answer is text"))
+        Some(text(answer.ok()?))
+    }
+
+    /// In one call, which loads the table once. A question that is refused has a line `refused`.
+    fn ask_all(&mut self, table: &str, questions: &str) -> Option<String> {
+        let answers = self.answers.ask_all(table.as_bytes(), questions.as_bytes());
+        Some(text(answers.ok()?))
     }
 
     fn keeps_tables(&self) -> bool {
         false
     }
+}
+
+#[cfg(feature = "library")]
+fn text(answers: &[u8]) -> String {
+    String::from_utf8(answers.to_vec()).expect("answers are text")
 }

@@ -1,25 +1,26 @@
 //! Calls of the library on random and damaged tables, each from a seed alone. Each is held against what every call
 //! promises of the number and the buffers, against the refusals that the papers' words give, and, where an answer is
-//! due, against goscript.
-
-#[path = "../../tests/archive/lent.rs"]
-mod lent;
+//! due, against goscript. Its question is asked once more with others in one call, which is held against what each of
+//! them gets alone.
 
 use crate::agreement::{agrees_with, is_ambiguous, Agreed};
 use crate::bounds;
 use crate::damage::{self, damage, disorder, misdirect};
 use crate::departures::{self, Departure};
 use crate::engine::{self, Engine};
+use crate::joined::{joined, lines};
 use crate::prng::Prng;
 use crate::random::{self, Shape};
-use crate::refusals;
 use crate::table::Table;
-use yifgrun::WORK_WORDS;
+use crate::{lent, many, refusals};
+use yifgrun::{each_answer, WORK_WORDS};
 
 /// What a call is asked and lent.
 pub struct Call {
     pub table: Vec<u8>,
     pub question: Vec<u8>,
+    /// A text with the question and others, for one call.
+    pub questions: Vec<u8>,
     /// The bytes of the answer buffer, and the words of the work area.
     pub room: usize,
     pub words: usize,
@@ -29,7 +30,7 @@ impl Call {
     /// The call that a seed and a number stand for.
     pub fn new(seed: u64, number: u64) -> Call {
         let mut prng = Prng::new(seed ^ number.wrapping_mul(0xd134_2543_de82_ef95));
-        let (table, question) = asked(&mut prng);
+        let (table, question, whole) = asked(&mut prng);
         let room = match prng.below(8) {
             0 => prng.below(41),
             1 => bounds::ANSWER,
@@ -40,19 +41,22 @@ impl Call {
             1 => WORK_WORDS + prng.below(1_000),
             _ => WORK_WORDS,
         };
+        // drawn last, so that a seed and a number stand for the call that they always stood for
+        let questions = questions(&mut prng, &question, whole.as_ref());
         Call {
             table,
             question,
+            questions,
             room,
             words,
         }
     }
 }
 
-/// A table text and a question on it, either damaged or not.
-fn asked(prng: &mut Prng) -> (Vec<u8>, Vec<u8>) {
+/// A table text and a question on it, either damaged or not, and the table that they were made from, if there is one.
+fn asked(prng: &mut Prng) -> (Vec<u8>, Vec<u8>, Option<Table>) {
     if prng.chance(10) {
-        return (damage::soup(prng), damage::question(prng));
+        return (damage::soup(prng), damage::question(prng), None);
     }
     let shape = match prng.below(1_000) {
         0 => Shape::largest(),
@@ -62,7 +66,22 @@ fn asked(prng: &mut Prng) -> (Vec<u8>, Vec<u8>) {
     };
     let table = random::table(prng, &shape);
     let question = question(prng, &table);
-    (text(prng, table), question)
+    (text(prng, table.clone()), question, Some(table))
+}
+
+/// A question and up to four others, in any order, a line each; the last now and then without its newline.
+fn questions(prng: &mut Prng, own: &[u8], table: Option<&Table>) -> Vec<u8> {
+    let other = |prng: &mut Prng| match table {
+        Some(table) => question(prng, table),
+        None => damage::question(prng),
+    };
+    let count = prng.below(5);
+    let mut lines: Vec<Vec<u8>> = (0..count).map(|_| other(prng)).collect();
+    lines.insert(prng.below(count + 1), own.to_vec());
+    if prng.chance(50) {
+        lines.push(Vec::new());
+    }
+    lines.join(&b'\n')
 }
 
 /// The text of a table: as it is, with a line changed, or damaged; each of these now and then with its packages out of order.
@@ -111,6 +130,18 @@ pub struct Counts {
     pub agreed: Agreed,
     /// By the number of the refusal; none has the number 0.
     pub refused: [u64; 15],
+    pub many: Many,
+}
+
+/// How many calls for many questions gave what.
+#[derive(Default)]
+pub struct Many {
+    /// Calls that were answered, and those that were refused by the work area or by the table.
+    pub answered: u64,
+    pub refused: u64,
+    /// The questions of those answered, and how many of these were refused.
+    pub questions: u64,
+    pub refused_questions: u64,
 }
 
 pub struct Hammer {
@@ -147,6 +178,29 @@ impl Hammer {
                 assert_eq!(given, due, "the second is due");
             }
             Err(refused) => assert_eq!(given, Err(refused), "the second is due"),
+        }
+        self.strike_all(call);
+    }
+
+    /// Makes one call for all questions and checks it against what each gets alone.
+    fn strike_all(&mut self, call: &Call) {
+        let asked = (&*call.table, &*call.questions);
+        let due = match call.words {
+            ..WORK_WORDS => Err((1, 0)),
+            _ => joined(asked.0, asked.1).map_err(|refusal| (refusal.number, refusal.line)),
+        };
+        if let Err(difference) = many::hold(asked, call.words, &due) {
+            panic!("{difference}");
+        }
+        let counts = &mut self.counts.many;
+        match due {
+            Err(_) => counts.refused += 1,
+            Ok(answers) => {
+                counts.answered += 1;
+                counts.questions += lines(&call.questions).count() as u64;
+                let refused = each_answer(&answers).filter(Result::is_err);
+                counts.refused_questions += refused.count() as u64;
+            }
         }
     }
 

@@ -8,10 +8,19 @@ pub mod departures;
 pub mod engine;
 #[cfg(feature = "library")]
 pub mod hammer;
+#[cfg(feature = "library")]
+#[path = "../../tests/archive/joined.rs"]
+mod joined;
+#[cfg(feature = "library")]
+#[path = "../../tests/archive/lent.rs"]
+mod lent;
+#[cfg(feature = "library")]
+pub mod many;
 pub mod prng;
 pub mod question;
 pub mod random;
 pub mod refusals;
+#[cfg(feature = "library")]
 pub mod side_by_side;
 pub mod table;
 pub mod tables;

@@ -3,9 +3,12 @@
 use crate::agreement::{agrees_with, Agreed};
 use crate::departures::due;
 use crate::engine::Engine;
+use crate::many;
 use crate::table::Table;
+use yifgrun::WORK_WORDS;
 
-/// Counts how the answers of goscript and the library agree; where two do not, gives the table, the question and both.
+/// Counts how the answers of goscript and the library agree; where two do not, gives the table, the question and both. The
+/// library's answers to all questions in one call are the same again.
 pub fn hold(
     (goscript, library): (&mut (dyn Engine + 'static), &mut (dyn Engine + 'static)),
     table: &str,
@@ -18,6 +21,7 @@ pub fn hold(
         }
     }
     let parsed = Table::parse(table).expect("what loads is a table");
+    let mut all = Vec::new();
     for question in questions {
         let (theirs, ours) = (goscript.ask(question), library.ask(question));
         let both = theirs.clone().zip(ours.as_ref());
@@ -31,6 +35,10 @@ pub fn hold(
             return Err(format!("{table}\n{question}\n{answers}"));
         };
         agreed.count(how);
+        all.extend(ours.unwrap_or_default().into_bytes());
     }
-    Ok(())
+    let text = questions.join("\n");
+    let asked = (table.as_bytes(), text.as_bytes());
+    many::hold(asked, WORK_WORDS, &Ok(all))
+        .map_err(|difference| format!("{table}\n{text}\n{difference}"))
 }

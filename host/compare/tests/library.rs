@@ -35,6 +35,13 @@ fn random_and_damaged_tables() {
         "60,000 calls, refused by 1 to 14: {:?}",
         &counts.refused[1..]
     ));
+    let many = &counts.many;
+    say(&format!(
+        "in one call: {} questions of {} calls, {} of them refused; {} calls refused",
+        many.questions, many.answered, many.refused_questions, many.refused
+    ));
+    assert!(many.answered > 20_000 && many.questions > 2 * many.answered);
+    assert!(many.refused > 20_000 && many.refused_questions > 10_000);
     match engine::goscript() {
         Some(_) => all_met(counts.agreed, "60,000 calls"),
         None => say(engine::NOT_AT_HAND),
@@ -108,14 +115,18 @@ fn hard_tables_without_goscript() {
     let hard = cases().into_iter().filter(|case| !case.for_goscript);
     for case in hard {
         library.load(&case.table).expect("it loads");
-        for question in case.questions {
+        let mut all = String::new();
+        for question in &case.questions {
             let due = if question.starts_with('S') {
                 "notfound\n"
             } else {
                 "yes\n"
             };
-            let answer = library.ask(&question);
+            let answer = library.ask(question);
             assert_eq!(answer.as_deref(), Some(due), "{}", case.name);
+            all += due;
         }
+        let answers = library.ask_all(&case.table, &case.questions.join("\n"));
+        assert_eq!(answers, Some(all), "{}", case.name);
     }
 }

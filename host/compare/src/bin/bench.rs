@@ -13,9 +13,10 @@ use std::time::{Duration, Instant};
 const RUNS: usize = 3;
 const SPENT: Duration = Duration::from_millis(300);
 
-const HEAD: [&str; 7] = [
+const HEAD: [&str; 8] = [
     "Nanoseconds, the fastest run of each; buffers are not cleared between calls. `pass` is a look at each byte of the",
-    "text, `one` a load and a question on the average, `all` a load and all questions; yifgrun loads for each question.",
+    "text, `one` a load and a question on the average, `all` a load and all questions. For yifgrun `one` is a call of",
+    "yifgrun_ask and `all` one of yifgrun_ask_all; for goscript they are sums, of the load and of each question.",
     "`first / one` and `first / all` are the times of the case's first engine divided by this one's, `one / pass` is the",
     "time for one divided by that of the pass.",
     "",
@@ -101,17 +102,27 @@ fn times(engine: &mut dyn Engine, case: &Case) -> Times {
             black_box(engine.ask(black_box(question)));
         });
     }
-    let average = ask / count;
-    let kept = if engine.keeps_tables() {
-        load
-    } else {
-        Duration::ZERO
-    };
+    let one = ask / count;
+    if engine.keeps_tables() {
+        return Times {
+            load,
+            one: load + one,
+            all: load + ask,
+        };
+    }
     Times {
         load,
-        one: kept + average,
-        all: kept + ask,
+        one,
+        all: all_in_one(engine, case),
     }
+}
+
+/// The time of one call that loads and answers all questions.
+fn all_in_one(engine: &mut dyn Engine, case: &Case) -> Duration {
+    let questions = case.questions.join("\n");
+    fastest(|| {
+        black_box(engine.ask_all(black_box(&case.table), black_box(&questions)));
+    })
 }
 
 fn print_row(name: &str, case: &Case, pass: Duration, times: &Times, first: &Times) {

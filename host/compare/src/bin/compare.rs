@@ -1,5 +1,5 @@
 //! Holds the library's answers against goscript's on COUNT random tables from SEED: every question S, M, N, I and C
-//! on a table of few types, and a hundred on a larger one.
+//! on a table of few types, and a hundred on a larger one; each alone, and all of a table in one call.
 
 use compare::agreement::Agreed;
 use compare::prng::Prng;
@@ -36,6 +36,7 @@ fn main() -> ExitCode {
     }
     println!("seed {seed}: {count} tables, questions: {letters:?}");
     println!("every answer agrees with goscript's: {agreed}");
+    println!("all answers of a table in one call are the same");
     ExitCode::SUCCESS
 }
 

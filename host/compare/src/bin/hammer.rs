@@ -1,5 +1,6 @@
-//! Makes COUNT calls of the library on random and damaged tables from SEED and checks each; the calls from number
-//! FIRST on, if it is given. A call that does not end within a minute is told as one that fails.
+//! Makes COUNT calls of the library on random and damaged tables from SEED, each with a call for many questions behind it,
+//! and checks each; the calls from number FIRST on, if it is given. A call that does not end within a minute is told as
+//! one that fails.
 
 use compare::engine;
 use compare::hammer::{Call, Hammer};
@@ -55,6 +56,11 @@ fn print(seed: u64, count: u64, hammer: &Hammer, time: Duration) {
         "answers and refusals 13 held against goscript, or for V the table: {}",
         counts.agreed
     );
+    let many = &counts.many;
+    println!(
+        "in one call, each as alone: {} questions of {} calls, {} of them refused; {} calls refused",
+        many.questions, many.answered, many.refused_questions, many.refused
+    );
 }
 
 /// Lets a failure say which call it is, and show it.
@@ -71,6 +77,7 @@ fn show(seed: u64, number: u64) {
     let call = Call::new(seed, number);
     println!("{}", String::from_utf8_lossy(&call.table));
     println!("question: {}", call.question.escape_ascii());
+    println!("with others: {}", call.questions.escape_ascii());
     println!(
         "answer buffer {} bytes, work area {} words",
         call.room, call.words
