@@ -121,8 +121,9 @@ fn call_archive(
     buffer: &mut [u8],
     work: &mut [u32],
 ) -> Result<usize, Refusal> {
-    // SAFETY: each pointer is that of a slice and stands before the slice's length. The two that are written are
-    // borrowed for this call alone, so that no two overlap. The archive's calls read and write only within them.
+    // SAFETY: `call` is one of the two of `archive`, which read and write only within the slices. Each pointer is that of
+    // a slice and stands before the slice's length. The two that are written are borrowed for this call alone, so that
+    // no two overlap.
     let number = unsafe {
         call(
             table.as_ptr(),

@@ -1,5 +1,5 @@
 //! The examples of the documents, run: each block ```typeask is an input of the program, and the block ```prints
-//! behind it is what the program prints.
+//! behind it is what the program prints, and what one call gives for all its questions.
 
 mod bounds;
 mod typeask;
@@ -122,7 +122,17 @@ fn read(path: &str) -> String {
     fs::read_to_string(root.join(path)).unwrap_or_else(|e| panic!("{path}: {e}"))
 }
 
-/// Runs every example of a document, which are at least so many, and gives them.
+/// What one call gives for all questions of an example, with the refusal of its table as the program prints it.
+fn in_one_call(input: &str) -> String {
+    let (table, questions) = typeask::texts(input.as_bytes());
+    match yifgrun::Answers::new().ask_all(table, questions) {
+        Ok(answers) => String::from_utf8(answers.to_vec()).expect("answers are text"),
+        Err(refusal) => format!("refused\t{}\t{}\n", refusal.number, refusal.line),
+    }
+}
+
+/// Runs every example of a document, which are at least so many, and gives them. An answer that the program has no room for is
+/// given by one call, which no example shows.
 fn run(document: &str, least: usize) -> Vec<Example> {
     let examples = examples(&read(document));
     for example in &examples {
@@ -130,6 +140,9 @@ fn run(document: &str, least: usize) -> Vec<Example> {
         let printed = String::from_utf8(printed).expect("answers are text");
         let line = example.line;
         assert_eq!(printed, example.output, "{document}, line {line}");
+        let all = in_one_call(&example.input);
+        let long = printed == "refused\t13\t0\n" && all.len() > bounds::ANSWER;
+        assert!(long || all == printed, "{document}, line {line}: {all}");
     }
     let count = examples.len();
     assert!(
