@@ -189,7 +189,7 @@ impl Hammer {
             ..WORK_WORDS => Err((1, 0)),
             _ => joined(asked.0, asked.1).map_err(|refusal| (refusal.number, refusal.line)),
         };
-        if let Err(difference) = many::hold(asked, call.words, &due) {
+        if let Err(difference) = many::hold(asked, call.room % 20, call.words, &due) {
             panic!("{difference}");
         }
         let counts = &mut self.counts.many;

@@ -15,28 +15,25 @@ fn given((table, questions): (&[u8], &[u8]), room: usize, words: usize) -> Outco
     Ok(answers)
 }
 
-/// Holds one call against what is due. Answers are given where there is just the room for them, and with a byte less the call
-/// is refused by 13; the refusal of the table, or of the work area, comes whatever the room.
-pub fn hold(asked: (&[u8], &[u8]), words: usize, due: &Outcome) -> Result<(), String> {
-    let room = due.as_ref().map_or(40, Vec::len);
-    same(&given(asked, room, words), due)?;
-    match (due, room.checked_sub(1)) {
+/// Holds one call against what is due. Answers are given in a buffer of their length and so many bytes more, and in one that
+/// is a byte shorter than they are the call is refused by 13.
+pub fn hold(asked: (&[u8], &[u8]), more: usize, words: usize, due: &Outcome) -> Result<(), String> {
+    let length = due.as_ref().map_or(0, Vec::len);
+    same(&given(asked, length + more, words), due)?;
+    match (due, length.checked_sub(1)) {
         (Ok(_), Some(less)) => same(&given(asked, less, words), &Err((13, 0))),
-        (Ok(_), None) => Ok(()),
-        (Err(_), _) => same(&given(asked, 0, words), due),
+        _ => Ok(()),
     }
 }
 
 fn same(given: &Outcome, due: &Outcome) -> Result<(), String> {
+    if given == due {
+        return Ok(());
+    }
     let shown = |outcome: &Outcome| match outcome {
         Ok(answers) => answers.escape_ascii().to_string(),
         Err((number, line)) => format!("refusal {number}, line {line}"),
     };
     let (one, other) = (shown(given), shown(due));
-    let difference = format!("in one call: {one}\nwhat is due: {other}");
-    if given == due {
-        Ok(())
-    } else {
-        Err(difference)
-    }
+    Err(format!("in one call: {one}\nwhat is due: {other}"))
 }

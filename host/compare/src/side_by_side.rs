@@ -39,6 +39,6 @@ pub fn hold(
     }
     let text = questions.join("\n");
     let asked = (table.as_bytes(), text.as_bytes());
-    many::hold(asked, WORK_WORDS, &Ok(all))
+    many::hold(asked, 0, WORK_WORDS, &Ok(all))
         .map_err(|difference| format!("{table}\n{text}\n{difference}"))
 }
