@@ -1,9 +1,10 @@
--- The ways through the exported call, and what each gives.
+-- The ways through the exported calls, and what each gives.
 use mathlib.Core.Path.{_≡_, refl, sym, ap, subst, _∙_}
+use mathlib.Core.Bool.{Bool, true, false}
 use mathlib.Core.List.{_++_, append-nil}
-use Prim.Native.Nat.{ℕ, _+_, _-_, _≤_, _<_, _^_}
+use Prim.Native.Nat.{ℕ, _+_, _-_, _≤_, _<_}
 use native.Mathlib.Omega.{arith}
-use lib.ListN.{length, take, drop, replicate, length-append, drop-of-length-le, replicate-append-replicate}
+use lib.ListN.{length, take, drop, replicate, drop-of-length-le, replicate-append-replicate}
 use lib.Seq.{length-take-le, drop-at}
 use lib.IntN.{ℤ}
 use borrow.Author.Tests.{lt-ltb, le-ltb}
@@ -11,73 +12,73 @@ use borrow.Rule.Slice.PartMut.{midOf, putMid, post-is, mid-len, take-put}
 use Rattle.objects.specs.Bounds.{workWords}
 use Rattle.objects.specs.Lists.{Bytes}
 use Rattle.objects.specs.Rows.{Words, tableOf}
-use Rattle.rules.specs.Question.{questionOf}
-use Rattle.rules.specs.Asked.{Outcome, refuse, say, answered, outcomeOf, outcomeWithin, outcome, numberOf, written, askedWithin, asked}
+use Rattle.objects.specs.Table.{Table}
+use Rattle.rules.specs.Load.{Loaded, refused, loaded, load}
+use Rattle.rules.specs.Asked.{Outcome, refuse, fitted, replied, onTable, outcomeWithin, numberOf, written, Asked, given, askedWithin, asked}
+use Rattle.rules.specs.AskedAll.{repliedAll, outcomeAllWithin, askedAllWithin, askedAll}
 use Rattle.table.specs.declared.Loading.{Loading}
 use Rattle.table.specs.Loading.{loadingMeant, Loads}
 use Rattle.reply.specs.declared.Done.{Done}
-use Rattle.reply.specs.Done.{doneOf, Does}
-use Rattle.reply.proofs.Saying.{does-refuse, does-as}
-use Rattle.yifgrun.specs.Gives.{Cleared, Gives, numberRead, Fits}
+use Rattle.reply.specs.Done.{numberRead, Fits}
+use Rattle.replies.specs.Replies.{saidOf, Ends}
+use Rattle.yifgrun.specs.Gives.{Cleared, Gives, askedBy}
 
 -- ---- refused by the loader, or asked
 
-module _ (text question before : Bytes) (rows : Words) {l : Loading} (h : Loads text l rows) where
-  pub table-refused : {n line : ℕ} → l ≡ Loading.Refused n line → Does (outcome text question (length before)) (Done.Refused n line) before before
-  unfolding outcomeWithin outcomeOf loadingMeant
-  table-refused e = does-refuse before (ap (λ z. outcomeOf z question (length before)) (sym (h .says) ∙ ap (loadingMeant text rows) e))
+module _ (text before : Bytes) (rows : Words) (said : Table → Outcome) {l : Loading} (h : Loads text l rows) where
+  pub table-refused : {n line : ℕ} → l ≡ Loading.Refused n line → Ends (onTable said (load text)) (Done.Refused n line) before before
+  unfolding onTable loadingMeant numberRead numberOf written Fits
+  table-refused {n} {line} e =
+      let is : onTable said (load text) ≡ refuse n line = ap (onTable said) (sym (h .says) ∙ ap (loadingMeant text rows) e) in
+      record { number = rw is; answer = rw is; holds = λ k. tt }
 
-  pub table-asked : {after : Bytes} {r : Done} → l ≡ Loading.Loaded → Does (answered (tableOf text rows) (length before) (questionOf (tableOf text rows) question)) r before after
-      → Does (outcome text question (length before)) r before after
-  unfolding outcomeWithin outcomeOf loadingMeant
-  table-asked e d = does-as (sym (ap (λ z. outcomeOf z question (length before)) (sym (h .says) ∙ ap (loadingMeant text rows) e))) d
+  pub table-asked : {after : Bytes} {r : Done} → l ≡ Loading.Loaded → Ends (said (tableOf text rows)) r before after → Ends (onTable said (load text)) r before after
+  unfolding onTable loadingMeant
+  table-asked {after} {r} e d = subst (λ o. Ends o r before after) (sym (ap (onTable said) (sym (h .says) ∙ ap (loadingMeant text rows) e))) d
 
 -- ---- the number
 
-fits-refused : (n line : ℕ) → Fits (Done.Refused n line)
-unfolding Fits
-fits-refused n line = tt
-
 pub fits-first : Fits (Done.Refused 1 0)
-fits-first = fits-refused 1 0
-
--- an answer that stands in front of a buffer is no longer than it
-front-short : (bytes before after : Bytes) → after ≡ bytes ++ drop (length bytes) before → length after ≡ length before → length bytes ≤ length before
-front-short bytes before after w l = omega (arith, l, ap length w, length-append bytes (drop (length bytes) before))
-
-fits-said : (bytes before after : Bytes) → after ≡ bytes ++ drop (length bytes) before → length after ≡ length before → length before < 2 ^ 63 → Fits (Done.Said (length bytes))
 unfolding Fits
-fits-said bytes before after w l b = omega (arith, front-short bytes before after w l, b)
+fits-first = tt
 
-fits-outcome : (o : Outcome) (before after : Bytes) → after ≡ written o before → length after ≡ length before → length before < 2 ^ 63 → Fits (doneOf o)
-unfolding doneOf written
-fits-outcome (refuse n line) before after w l b = fits-refused n line
-fits-outcome (say bytes) before after w l b = fits-said bytes before after w l b
+-- ---- one question, or many
 
-pub done-fits : {o : Outcome} {d : Done} {before after : Bytes} → Does o d before after → length after ≡ length before → length before < 2 ^ 63 → Fits d
-done-fits {o} {d} {before} {after} h l b = subst Fits (sym (h .told)) (fits-outcome o before after (h .answer) l b)
+-- what is said of a table is the same whichever way it is written
+on-same : (f g : Table → Outcome) → ((T : Table) → f T ≡ g T) → (L : Loaded) → onTable f L ≡ onTable g L
+unfolding onTable
+on-same f g e (refused n line) = refl
+on-same f g e (loaded T) = e T
 
-number-done : (o : Outcome) → numberRead (doneOf o) ≡ numberOf o
-unfolding numberRead doneOf numberOf
-number-done (refuse n line) = refl
-number-done (say bytes) = refl
+-- the number as it is read back
+pub gives-number : {a : Asked} {r s : ℤ} {after : Bytes} {last : Words} → s ≡ r → Gives a r after last → Gives a s after last
+gives-number e g = record { number = e ∙ g .number; answer = g .answer; work = g .work }
+
+module _ (text question buffer : Bytes) (work : Words) {r : ℤ} {after : Bytes} {last : Words} where
+  pub gives-one : Gives (askedBy false text question buffer work) r after last → Gives (asked text question buffer work) r after last
+  unfolding askedBy askedWithin outcomeWithin saidOf
+  gives-one g = subst (λ o. Gives (given (fitted (length buffer) o) buffer work) r after last) (on-same (saidOf false question) (replied question) (λ T. refl) (load text)) g
+
+  pub gives-all : Gives (askedBy true text question buffer work) r after last → Gives (askedAll text question buffer work) r after last
+  unfolding askedBy askedAllWithin outcomeAllWithin saidOf
+  gives-all g = subst (λ o. Gives (given (fitted (length buffer) o) buffer work) r after last) (on-same (saidOf true question) (repliedAll question) (λ T. refl) (load text)) g
 
 -- ---- the whole call
 
-module _ (text question before : Bytes) (work : Words) (r : ℤ) where
+module _ (all : Bool) (text question before : Bytes) (work : Words) (r : ℤ) where
   -- 1
-  pub few-words : length work < workWords → r ≡ numberRead (Done.Refused 1 0) → Gives (asked text question before work) r before work
-  unfolding askedWithin numberRead
+  pub few-words : length work < workWords → r ≡ numberRead (Done.Refused 1 0) → Gives (askedBy all text question before work) r before work
+  unfolding askedBy numberRead
   few-words h e = rw (lt-ltb (length work) workWords h) (record { number = e; answer = refl; work = refl })
 
   -- the rest: what was decided, with the work area clear
-  pub enough-words : workWords ≤ length work → {d : Done} {after : Bytes} {clear last : Words} → Does (outcome text question (length before)) d before after → r ≡ numberRead d
-      → clear ≡ replicate (length work) 0 → last ≡ clear → Gives (asked text question before work) r after last
-  unfolding askedWithin
+  pub enough-words : workWords ≤ length work → {d : Done} {after : Bytes} {clear last : Words} → Ends (onTable (saidOf all question) (load text)) d before after → r ≡ numberRead d
+      → clear ≡ replicate (length work) 0 → last ≡ clear → Gives (askedBy all text question before work) r after last
+  unfolding askedBy
   enough-words h p e z k =
       rw (le-ltb (length work) workWords h)
       (record {
-        number = e ∙ ap numberRead (p .told) ∙ number-done (outcome text question (length before));
+        number = e ∙ p .number;
         answer = p .answer;
         work = k ∙ z;
       })
@@ -113,10 +114,10 @@ module _ (n : ℕ) (work : Words) (more : n < length work) (behind : Words) wher
       ∙ ap (λ k. replicate k 0) whole
 
 -- what a call on the first words gives is what a call on all gives
-module _ (text question before : Bytes) (work : Words) (r : ℤ) (more : workWords < length work) {behind : Words} (z : behind ≡ replicate (length (midOf workWords (length work - workWords) work)) 0) where
-  pub first-words : {s : ℤ} {after : Bytes} {first : Words} → r ≡ s → Gives (asked text question before (take workWords (cut workWords work more behind))) s after first
-      → Gives (asked text question before work) r after (first ++ drop workWords (cut workWords work more behind))
-  unfolding askedWithin
+module _ (all : Bool) (text question before : Bytes) (work : Words) (r : ℤ) (more : workWords < length work) {behind : Words} (z : behind ≡ replicate (length (midOf workWords (length work - workWords) work)) 0) where
+  pub first-words : {s : ℤ} {after : Bytes} {first : Words} → r ≡ s → Gives (askedBy all text question before (take workWords (cut workWords work more behind))) s after first
+      → Gives (askedBy all text question before work) r after (first ++ drop workWords (cut workWords work more behind))
+  unfolding askedBy
   first-words e g =
       let done = rw (le-ltb (length (take workWords (cut workWords work more behind))) workWords (omega (arith, first-long workWords work more behind))) at g in
       rw (le-ltb (length work) workWords (omega arith))

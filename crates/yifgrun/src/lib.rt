@@ -3,7 +3,7 @@ ghost use mathlib.Core.Path.{_≡_};
 ghost use Prim.Native.Nat.{_≤_};
 ghost use lib.ListN.{length, replicate};
 ghost use Rattle.objects.specs.Bounds.{roomFor, smallText, medianText, middleText, longText};
-ghost use Rattle.rules.specs.Asked.{onTable, asked};
+ghost use Rattle.rules.specs.Asked.{onTable, refusal, asked};
 ghost use Rattle.rules.specs.AskedAll.{askedAll};
 ghost use Rattle.rules.specs.Load.{load};
 ghost use Rattle.reply.specs.Done.{numberRead, Fits};
@@ -122,15 +122,22 @@ fn decide_large(
     decide_in(table, &mut rows, question, answer, work, all)
 }
 
-// "the answer's length, or minus (refusal × 65,536 + line)"
+// "minus (refusal × 65,536 + line)"
+fn refusal(n: u32, line: u32) -> i64
+    ensures { λ r. ⌜ r ≡ refusal n line ⌝ }
+{
+    0 - ((n as u64 * REFUSAL_UNIT + line as u64) as i64)
+}
+
+// "the answer's length", or the number of the refusal
 fn number(d: Done) -> i64
     requires { ⌜ Fits d ⌝ }
     ensures { λ r. ⌜ r ≡ numberRead d ⌝ }
 {
     match d {
-        Done::Refused(n, line) => 0 - ((n as u64 * REFUSAL_UNIT + line as u64) as i64),
+        Done::Refused(n, line) => refusal(n, line),
         Done::Said(n) => n as i64,
-        Done::Long(_) => 0 - ((13 * REFUSAL_UNIT) as i64),
+        Done::Long(_) => refusal(13, 0),
     }
 }
 

@@ -1,4 +1,4 @@
--- `yifgrun_ask` meets its contract. It calls itself on fewer words: their number falls.
+-- `call` meets its contract, for one question and for many. It calls itself on fewer words: their number falls.
 use mathlib.Core.Path.{_≡_, _∙_}
 use Prim.Native.Nat.{ℕ, _<_}
 use native.Mathlib.Omega.{arith}
@@ -9,15 +9,17 @@ use borrow.Fn.Kinds.{In}
 use borrow.Fn.PlainCycle.{Measures, is, falls, and}
 use Rattle.objects.specs.Lists.{Bytes}
 use Rattle.objects.specs.Rows.{Words}
-use Rattle.rules.specs.Asked.{outcome, asked}
+use Rattle.rules.specs.Asked.{onTable}
+use Rattle.rules.specs.Load.{load}
 use Rattle.reply.specs.declared.Done.{Done}
-use Rattle.reply.specs.Done.{Does}
-use Rattle.yifgrun.specs.Gives.{Cleared, Gives, numberRead}
+use Rattle.reply.specs.Done.{numberRead}
+use Rattle.replies.specs.Replies.{saidOf, Ends}
+use Rattle.yifgrun.specs.Gives.{Cleared, Gives, askedBy}
 use Rattle.yifgrun.proofs.Signed.{back}
-use Rattle.yifgrun.proofs.Asking.{fits-first, done-fits, few-words, enough-words, words-cleared, first-words}
-use Rattle.yifgrun.proofs.yifgrun_ask.Reads as reads
-use Rattle.yifgrun.proofs.yifgrun_ask.Kinds as kinds
-use Rattle.yifgrun.proofs.+yifgrun_ask.Lts-yifgrun_ask as lts
+use Rattle.yifgrun.proofs.Asking.{fits-first, few-words, enough-words, words-cleared, first-words}
+use Rattle.yifgrun.proofs.call.Reads as reads
+use Rattle.yifgrun.proofs.call.Kinds as kinds
+use Rattle.yifgrun.proofs.+call.Lts-call as lts
 use Rattle.pair_marks.proofs.marks.clear.Reads as clear
 use Rattle.yifgrun.proofs.decide_large.Reads as decide-large
 use Rattle.yifgrun.proofs.decide_long.Reads as decide-long
@@ -25,8 +27,8 @@ use Rattle.yifgrun.proofs.decide_median.Reads as decide-median
 use Rattle.yifgrun.proofs.decide_middle.Reads as decide-middle
 use Rattle.yifgrun.proofs.decide_small.Reads as decide-small
 use Rattle.yifgrun.proofs.number.Reads as number
-use Rattle.yifgrun.proofs.+yifgrun_ask.{statement}
-use Rattle.yifgrun.proofs.+yifgrun_ask.Tie.{close}
+use Rattle.yifgrun.proofs.+call.{statement}
+use Rattle.yifgrun.proofs.+call.Tie.{close}
 
 abbrev words : Measures 4 kinds.ps ℕ
 words κs a = length (a .1 .1 .1 .0 .now)
@@ -50,17 +52,17 @@ module _ {t : ℕ} (at-clear : lts.After-clear2 (calls t) (at-words t) reads.Pos
   words-zero = words-cleared (start .args .work .now) (at-clear .before .before .before .if1 .left) (at-clear .clear2 .kept .0) (at-clear .clear2 .ensures)
 
   -- what it decided is what the call gives
-  decided : {d : Done} {r : ℤ} {after : Bytes} {last : Words} → Does (outcome (start .args .table .now) (start .args .question .now) (length (start .args .answer .now))) d (start .args .answer .now) after
+  decided : {d : Done} {r : ℤ} {after : Bytes} {last : Words} → Ends (onTable (saidOf (start .args .all) (start .args .question .now)) (load (start .args .table .now))) d (start .args .answer .now) after
       → r ≡ numberRead d → last ≡ at-clear .clear2 .last .0
-      → Gives (asked (start .args .table .now) (start .args .question .now) (start .args .answer .now) (start .args .work .now)) r after last
-  decided p e k = enough-words _ _ _ (start .args .work .now) _ (at-clear .before .before .before .if1 .left) p e (at-clear .clear2 .ensures) k
+      → Gives (askedBy (start .args .all) (start .args .table .now) (start .args .question .now) (start .args .answer .now) (start .args .work .now)) r after last
+  decided p e k = enough-words _ _ _ _ (start .args .work .now) _ (at-clear .before .before .before .if1 .left) p e (at-clear .clear2 .ensures) k
 
 module _ (t : ℕ) where
   number-requires : lts.Need-number-requires (calls t) (at-words t) reads.Post
   number-requires c κs = fits-first
 
   returns : lts.Need-returns (calls t) (at-words t) reads.Post
-  returns c = few-words _ _ _ _ _ (c .before .if1 .taken) (back _ (c .number .ok) ∙ c .number .ensures)
+  returns c = few-words _ _ _ _ _ _ (c .before .if1 .taken) (back _ (c .number .ok) ∙ c .number .ensures)
 
   sub-clear : lts.Need-sub-clear (calls t) (at-words t) reads.Post
   sub-clear c = search needs
@@ -74,14 +76,14 @@ module _ (t : ℕ) where
   clear-requires : lts.Need-clear-requires (calls t) (at-words t) reads.Post
   clear-requires c κs = search needs
 
-  slice-relend-prefix-yifgrun-ask : lts.Need-slice-relend-prefix-yifgrun-ask (calls t) (at-words t) reads.Post
-  slice-relend-prefix-yifgrun-ask c = search needs
+  slice-relend-prefix-call : lts.Need-slice-relend-prefix-call (calls t) (at-words t) reads.Post
+  slice-relend-prefix-call c = search needs
 
-  slice-aggregate-yifgrun-ask : lts.Need-slice-aggregate-yifgrun-ask (calls t) (at-words t) reads.Post
-  slice-aggregate-yifgrun-ask c = let long = slice-relend-prefix-yifgrun-ask (c .before) in rw length-take (omega arith)
+  slice-aggregate-call : lts.Need-slice-aggregate-call (calls t) (at-words t) reads.Post
+  slice-aggregate-call c = let long = slice-relend-prefix-call (c .before) in rw length-take (omega arith)
 
-  yifgrun-ask-requires : lts.Need-yifgrun-ask-requires (calls t) (at-words t) reads.Post
-  yifgrun-ask-requires c κs =
+  call-requires : lts.Need-call-requires (calls t) (at-words t) reads.Post
+  call-requires c κs =
       let start = c .before .before .before .before .before .before .before .before .before .before .before .before in
       (rw length-take (omega (arith, start .pre .0)), tt)
 
@@ -96,7 +98,7 @@ module _ (t : ℕ) where
       let again = c .before .before .before .before in
       let at-clear = again .before .before .before .before .before in
       let start = at-clear .before .before .before .before .before .before .before .before in
-      first-words _ _ _ (start .args .work .now) _ (at-clear .before .before .if2 .taken) (at-clear .clear .ensures) (back _ (again .yifgrun-ask .ok)) (again .yifgrun-ask .ensures)
+      first-words _ _ _ _ (start .args .work .now) _ (at-clear .before .before .if2 .taken) (at-clear .clear .ensures) (back _ (again .call .ok)) (again .call .ensures)
 
   clear-requires-2 : lts.Need-clear-requires-2 (calls t) (at-words t) reads.Post
   clear-requires-2 c κs = search needs
@@ -105,7 +107,7 @@ module _ (t : ℕ) where
   decide-small-requires c κs = (words-zero (c .before .before .before .before .before), c .before .before .if3 .taken)
 
   number-requires-2 : lts.Need-number-requires-2 (calls t) (at-words t) reads.Post
-  number-requires-2 c κs = let at = c .before .before .before .before .decide-small in done-fits (at .ensures .0) (at .kept .1 .1 .0) (omega arith)
+  number-requires-2 c κs = let at = c .before .before .before .before .decide-small in at .ensures .0 .holds (omega arith)
 
   same-length-3 : lts.Need-same-length-3 (calls t) (at-words t) reads.Post
   same-length-3 c = search needs
@@ -120,7 +122,7 @@ module _ (t : ℕ) where
   decide-median-requires c κs = (words-zero (c .before .before .before .before .before .before), c .before .before .if4 .taken)
 
   number-requires-3 : lts.Need-number-requires-3 (calls t) (at-words t) reads.Post
-  number-requires-3 c κs = let at = c .before .before .before .before .decide-median in done-fits (at .ensures .0) (at .kept .1 .1 .0) (omega arith)
+  number-requires-3 c κs = let at = c .before .before .before .before .decide-median in at .ensures .0 .holds (omega arith)
 
   same-length-5 : lts.Need-same-length-5 (calls t) (at-words t) reads.Post
   same-length-5 c = search needs
@@ -135,7 +137,7 @@ module _ (t : ℕ) where
   decide-middle-requires c κs = (words-zero (c .before .before .before .before .before .before .before), c .before .before .if5 .taken)
 
   number-requires-4 : lts.Need-number-requires-4 (calls t) (at-words t) reads.Post
-  number-requires-4 c κs = let at = c .before .before .before .before .decide-middle in done-fits (at .ensures .0) (at .kept .1 .1 .0) (omega arith)
+  number-requires-4 c κs = let at = c .before .before .before .before .decide-middle in at .ensures .0 .holds (omega arith)
 
   same-length-7 : lts.Need-same-length-7 (calls t) (at-words t) reads.Post
   same-length-7 c = search needs
@@ -150,7 +152,7 @@ module _ (t : ℕ) where
   decide-long-requires c κs = (words-zero (c .before .before .before .before .before .before .before .before), c .before .before .if6 .taken)
 
   number-requires-5 : lts.Need-number-requires-5 (calls t) (at-words t) reads.Post
-  number-requires-5 c κs = let at = c .before .before .before .before .decide-long in done-fits (at .ensures .0) (at .kept .1 .1 .0) (omega arith)
+  number-requires-5 c κs = let at = c .before .before .before .before .decide-long in at .ensures .0 .holds (omega arith)
 
   same-length-9 : lts.Need-same-length-9 (calls t) (at-words t) reads.Post
   same-length-9 c = search needs
@@ -165,7 +167,7 @@ module _ (t : ℕ) where
   decide-large-requires c κs = words-zero (c .before .before .before .before .before .before .before .before)
 
   number-requires-6 : lts.Need-number-requires-6 (calls t) (at-words t) reads.Post
-  number-requires-6 c κs = let at = c .before .before .before .before .decide-large in done-fits (at .ensures .0) (at .kept .1 .1 .0) (omega arith)
+  number-requires-6 c κs = let at = c .before .before .before .before .decide-large in at .ensures .0 .holds (omega arith)
 
   same-length-11 : lts.Need-same-length-11 (calls t) (at-words t) reads.Post
   same-length-11 c = search needs
@@ -176,8 +178,8 @@ module _ (t : ℕ) where
   returns-7 : lts.Need-returns-7 (calls t) (at-words t) reads.Post
   returns-7 c = let at = c .before .before .before .before .before in decided (at .before .before .before .before .before .before .before .before .before) (at .decide-large .ensures .0) (back _ (c .number6 .ok) ∙ c .number6 .ensures) (at .decide-large .ensures .1)
 
-pub +yifgrun-ask-spec : {M : Type 1} → statement M
-+yifgrun-ask-spec =
+pub +call-spec : {M : Type 1} → statement M
++call-spec =
     close words λ t. lts.spec
     (calls t)
     (at-words t)
@@ -188,9 +190,9 @@ pub +yifgrun-ask-spec : {M : Type 1} → statement M
     (part-clear-start t)
     (part-clear-end t)
     (clear-requires t)
-    (slice-relend-prefix-yifgrun-ask t)
-    (slice-aggregate-yifgrun-ask t)
-    (yifgrun-ask-requires t)
+    (slice-relend-prefix-call t)
+    (slice-aggregate-call t)
+    (call-requires t)
     (same-length t)
     (same-length-2 t)
     (returns-2 t)
