@@ -36,6 +36,10 @@ module _ (text before : Bytes) (rows : Words) (said : Table → Outcome) {l : Lo
   unfolding onTable loadingMeant
   table-asked {after} {r} e d = subst (λ o. Ends o r before after) (sym (ap (onTable said) (sym (h .says) ∙ ap (loadingMeant text rows) e))) d
 
+-- the same table in other rows
+pub ends-on : (said : Table → Outcome) {T U : Table} {r : Done} {before after : Bytes} → T ≡ U → Ends (said T) r before after → Ends (said U) r before after
+ends-on said {r = r} {before = before} {after = after} e d = subst (λ T. Ends (said T) r before after) e d
+
 -- ---- the number
 
 pub fits-first : Fits (Done.Refused 1 0)

@@ -5,6 +5,8 @@ ghost use lib.ListN.{length, replicate};
 ghost use Rattle.objects.specs.Bounds.{roomFor, smallText, medianText, middleText, longText};
 ghost use Rattle.rules.specs.Asked.{onTable, refusal, asked};
 ghost use Rattle.rules.specs.AskedAll.{askedAll};
+ghost use Rattle.objects.specs.Rows.{tableOf};
+ghost use Rattle.rules.specs.Library.{Library};
 ghost use Rattle.rules.specs.Load.{load};
 ghost use Rattle.reply.specs.Done.{numberRead, Fits};
 ghost use Rattle.replies.specs.Replies.{saidOf, Ends};
@@ -23,8 +25,21 @@ use objects::bounds::WORK_WORDS;
 use pair_marks::marks::clear;
 use replies::lend::replied;
 use reply::Done;
+use signs::sign_members;
 use table::Loading;
 use table::load;
+
+// Members are signed where many names are to be looked for.
+fn sign_for_many(table: &[u8], rows: &mut [u32], all: bool)
+    requires { ⌜ Library (now table) (now rows) ⌝ }
+    ensures { λ _. ⌜ Library (now (table .entry)) (now (rows .exit)) ⌝ }
+    ensures { λ _. ⌜ tableOf (now (table .entry)) (now (rows .exit)) ≡ tableOf (now (table .entry)) (now (rows .entry)) ⌝ }
+{
+    if all {
+        sign_members(table, rows);
+        return;
+    }
+}
 
 // Refusals 2 to 14, or what is due to a question or, if `all` is set, to a text of them. The work area is clear when it is called, and when it returns; the rows are clear when it is called, and have room for
 // the table.
@@ -42,7 +57,10 @@ fn decide_in(
 {
     match load(table, rows) {
         Loading::Refused(n, line) => Done::Refused(n, line),
-        Loading::Loaded => replied(table, rows, work, question, answer, all),
+        Loading::Loaded => {
+            sign_for_many(table, rows, all);
+            replied(table, rows, work, question, answer, all)
+        }
     }
 }
 
