@@ -21,7 +21,7 @@ use multiples::EmbeddedType;
 use reply::Done;
 
 // The bytes of the stage.
-pub const STAGE: usize = 32_768;
+pub const STAGE: usize = 16_384;
 
 // The length of what stands for a question.
 fn reply_length(
