@@ -10,7 +10,7 @@ use lib.Dec.{eqb}
 use lib.ListN.{length, getD, take, drop, length-drop, length-take, take-append-drop, drop-of-length-le}
 use lib.Seq.{take-all, take-nil, take-suc, drop-drop, drop-cons}
 use borrow.Author.Tests.{eqb-true, eq-eqb, ne-eqb, not-false}
-use Rattle.objects.specs.Lists.{Bytes, empty}
+use Rattle.objects.specs.Lists.{Bytes}
 use Rattle.text.specs.Bytes.{ascii, sameBytes}
 use Rattle.text.specs.Lines.{split, pieces}
 use Rattle.text.specs.Cursors.{part, lineEnd}

@@ -1,3 +1,3 @@
 pub mod OpenLaws
-pub mod AskLaws
+pub mod PieceLaws
 pub mod Trace

@@ -1,38 +1,48 @@
--- The contracts of the functions on slices, put together: what `run` writes is `typeask input`. A trace is a list of the calls of `answer_next` that
--- `ask_from` makes, each with what its contract says, and the bytes that are written after them.
+-- The contracts put together: what `run` writes is `typeask input`. The line of a refusal is written at once, what is due for questions as a trace: the list of the
+-- pieces that `show` hands to io::write_all.
 use mathlib.Core.Path.{_≡_, sym, ap, _∙_}
-use mathlib.Core.List.{[], _++_}
-use Prim.Native.Nat.{ℕ}
-use lib.ListN.{take}
-use Rattle.objects.specs.Lists.{Bytes}
+use mathlib.Core.List.{List, [], _∷_, _++_, append-assoc}
+use Prim.Native.Nat.{ℕ, _+_}
+use native.Mathlib.Omega.{arith}
+use lib.ListN.{length, take, drop, length-append, drop-of-length-le}
+use lib.Seq.{drop-at}
+use Rattle.objects.specs.Lists.{Bytes, flat}
 use Rattle.objects.specs.Rows.{Words}
-use Rattle.text.specs.Bytes.{ascii}
-use Rattle.rules.specs.Typeask.{refusedBytes, typeask}
+use Rattle.rules.specs.AskedAll.{refusedBytes}
+use Rattle.rules.specs.Typeask.{typeask}
 use Rattle.program.specs.declared.Opening.{Opening}
-use Rattle.program.specs.declared.Step.{Step}
-use Rattle.program.specs.Due.{printedOne, due}
-use Rattle.program.specs.Steps.{Shows, stepMeant, Steps, openingMeant, Opens}
+use Rattle.program.specs.Steps.{Shows, Stands, openingMeant, Opens}
 
--- the calls from a place on, and all that is written
-pub data Trace (text : Bytes) (rows : Words) (input : Bytes) : ℕ → Bytes → Type 0 where
-  ends : {at : ℕ} {out : Bytes} → Steps text rows input at Step.End out → Trace text rows input at []
-  says : {at next n : ℕ} {out w : Bytes} → Steps text rows input at (Step.Said next n) out → Trace text rows input next w → Trace text rows input at (take n out ++ w)
+-- each piece stands where the one before ends, from a place up to the end of the whole
+abbrev pub Trace : Bytes → ℕ → List Bytes → Type 0
+Trace whole at [] = at ≡ length whole
+Trace whole at (piece ∷ rest) = Stands whole at piece × Trace whole (at + length piece) rest
 
-pub trace-due : (text : Bytes) (rows : Words) (input : Bytes) {at : ℕ} {w : Bytes} → Trace text rows input at w → w ≡ due text rows input at
-unfolding stepMeant
-trace-due text rows input (ends s) = sym (s .says)
-trace-due text rows input (says {n = n} {out = out} s t) = ap (λ l. take n out ++ l) (trace-due text rows input t) ∙ sym (s .says)
+-- all bytes that are written
+abbrev pub writtenBytes : List Bytes → Bytes
+writtenBytes pieces = flat (λ piece. piece) pieces
+
+module _ (whole : Bytes) where
+  trace-from : (at : ℕ) (pieces : List Bytes) → Trace whole at pieces → writtenBytes pieces ≡ drop at whole
+  trace-from at [] e = sym (drop-of-length-le whole {i = at} (omega (arith, e)))
+  trace-from at (piece ∷ rest) h =
+      let s = h .0 in
+      let here : drop at whole ≡ piece ++ s .behind = ap (drop at) (s .parts) ∙ drop-at (s .before) (piece ++ s .behind) at (s .place) in
+      let ends : length (s .before ++ piece) ≡ at + length piece = omega (arith, length-append (s .before) piece, s .place) in
+      let parts : whole ≡ (s .before ++ piece) ++ s .behind = s .parts ∙ sym (append-assoc (s .before) piece (s .behind)) in
+      let next : drop (at + length piece) whole ≡ s .behind = ap (drop (at + length piece)) parts ∙ drop-at (s .before ++ piece) (s .behind) (at + length piece) ends in
+      ap (λ w. piece ++ w) (trace-from (at + length piece) rest (h .1) ∙ next) ∙ sym here
+
+  -- such pieces, one after the other, are the whole
+  pub trace-all : (pieces : List Bytes) → Trace whole 0 pieces → writtenBytes pieces ≡ whole
+  trace-all pieces t = trace-from 0 pieces t
 
 module _ (input : Bytes) (rows : Words) where
-  -- the three ways through `run`
-  pub refused-all : {n line k : ℕ} {out : Bytes} → Opens input (Opening.Refused n line) rows → Shows (refusedBytes n line) out k → take k out ≡ typeask input
-  unfolding openingMeant
-  refused-all o s = s .shown ∙ sym (o .says)
+  -- what is due for the questions is written piece by piece
+  pub run-writes : {r : Opening} (pieces : List Bytes) → Opens input r rows → Trace (openingMeant input rows r) 0 pieces → writtenBytes pieces ≡ typeask input
+  run-writes {r} pieces o t = trace-all (openingMeant input rows r) pieces t ∙ sym (o .says)
 
-  pub whole-all : {k : ℕ} {out : Bytes} → Opens input Opening.Whole rows → Shows (printedOne input rows (ascii "V")) out k → take k out ≡ typeask input
+  -- the line of a refusal at once
+  pub refuse-writes : {n line k : ℕ} {out : Bytes} → Opens input (Opening.Refused n line) rows → Shows (refusedBytes n line) out k → take k out ≡ typeask input
   unfolding openingMeant
-  whole-all o s = s .shown ∙ sym (o .says)
-
-  pub until-all : {end next : ℕ} {w : Bytes} → Opens input (Opening.Until end next) rows → Trace (take end input) rows input next w → w ≡ typeask input
-  unfolding openingMeant
-  until-all {end} o t = trace-due (take end input) rows input t ∙ sym (o .says)
+  refuse-writes o s = s .shown ∙ sym (o .says)

@@ -39,6 +39,12 @@ walks-new rows k n e room most =
       wide = λ j l. ap length (getD-take n (replicate k noWords) j [] (omega arith) ∙ getD-replicate k j noWords [] (omega arith));
     }
 
+-- all of k records
+pub walks-all : (rows : Words) (k : ℕ) → 2 * typeCount rows ≤ k → k ≤ maxRecords → Walks rows (replicate k noWords)
+walks-all rows k room most =
+    let long = length-replicate k noWords in
+    record { room = omega arith; most = omega arith; wide = λ j l. ap length (getD-replicate k j noWords [] (omega arith)) }
+
 -- a first hit for each member
 pub rooms-new : (rows : Words) (k : ℕ) → memberCountOf rows ≤ k → Rooms rows (replicate k noHit)
 rooms-new rows k h = λ j l. record { inside = let all = length-replicate k noHit in omega arith; wide = ap length (getD-replicate k j noHit [] (omega arith)) }

@@ -70,41 +70,17 @@ fn with_walk(text: &[u8], rows: &[u32], marks: &mut [u32], line: &[u8], answer: 
     let mut words = [0u32; SEARCH_WORDS];
     if n <= FEW_RECORDS {
         let mut walk = [[0u32; RECORD_WORDS]; FEW_RECORDS];
-        return answered(
-            text,
-            rows,
-            marks,
-            &mut walk[..n],
-            &mut hits,
-            &mut words,
-            line,
-            answer,
-        );
+        let w = &mut walk[..n];
+        return answered(text, rows, marks, w, &mut hits, &mut words, line, answer);
     }
     if n <= SOME_RECORDS {
         let mut walk = [[0u32; RECORD_WORDS]; SOME_RECORDS];
-        return answered(
-            text,
-            rows,
-            marks,
-            &mut walk[..n],
-            &mut hits,
-            &mut words,
-            line,
-            answer,
-        );
+        let w = &mut walk[..n];
+        return answered(text, rows, marks, w, &mut hits, &mut words, line, answer);
     }
     let mut walk = [[0u32; RECORD_WORDS]; MAX_RECORDS];
-    answered(
-        text,
-        rows,
-        marks,
-        &mut walk[..n],
-        &mut hits,
-        &mut words,
-        line,
-        answer,
-    )
+    let w = &mut walk[..n];
+    answered(text, rows, marks, w, &mut hits, &mut words, line, answer)
 }
 
 // M, or many questions.
@@ -127,54 +103,20 @@ fn with_all(
         let mut walk = [[0u32; RECORD_WORDS]; SOME_RECORDS];
         let mut hits = [[0u32; HIT_WORDS]; SOME_MEMBERS];
         let mut words = [0u32; SEARCH_WORDS];
+        let w = &mut walk[..n];
         if all {
-            return reply_all(
-                text,
-                rows,
-                marks,
-                &mut walk[..n],
-                &mut hits,
-                &mut words,
-                line,
-                answer,
-            );
+            return reply_all(text, rows, marks, w, &mut hits, &mut words, line, answer);
         }
-        return answered(
-            text,
-            rows,
-            marks,
-            &mut walk[..n],
-            &mut hits,
-            &mut words,
-            line,
-            answer,
-        );
+        return answered(text, rows, marks, w, &mut hits, &mut words, line, answer);
     }
     let mut walk = [[0u32; RECORD_WORDS]; MAX_RECORDS];
     let mut hits = [[0u32; HIT_WORDS]; MAX_MEMBERS];
     let mut words = [0u32; MAX_MEMBERS];
+    let w = &mut walk[..n];
     if all {
-        return reply_all(
-            text,
-            rows,
-            marks,
-            &mut walk[..n],
-            &mut hits,
-            &mut words,
-            line,
-            answer,
-        );
+        return reply_all(text, rows, marks, w, &mut hits, &mut words, line, answer);
     }
-    answered(
-        text,
-        rows,
-        marks,
-        &mut walk[..n],
-        &mut hits,
-        &mut words,
-        line,
-        answer,
-    )
+    answered(text, rows, marks, w, &mut hits, &mut words, line, answer)
 }
 
 // What is due to a question line or, if `all` is set, to a text of them. The marks are clear when it is called, and when it returns.

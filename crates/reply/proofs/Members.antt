@@ -13,7 +13,7 @@ use Rattle.objects.specs.Rows.{Words, memberAt}
 use Rattle.objects.specs.Table.{bit}
 use Rattle.objects.proofs.RowLaws.{member-key}
 use Rattle.text.specs.Bytes.{ascii}
-use Rattle.rules.specs.Ways.{Selected, notfound, badreceiver, entry, ambiguous}
+use Rattle.rules.specs.Ways.{Selected}
 use Rattle.rules.specs.Answer.{selected, lackAnswer, answerBytes, selectedBytes}
 use Rattle.rules.specs.Asked.{say}
 use Rattle.print.specs.Written.{numberLine, Wrote}

@@ -1,11 +1,9 @@
 -- From the text read to the table loaded: what the two returns of `load` say.
-use mathlib.Core.Path.{_≡_, refl, sym, ap, _∙_}
-use mathlib.Core.Bool.{Bool, true, false}
+use mathlib.Core.Path.{_≡_, sym, ap, _∙_}
 use Prim.Native.Nat.{ℕ}
 use Rattle.objects.specs.Lists.{Bytes}
 use Rattle.objects.specs.Rows.{Words, tableOf}
-use Rattle.rules.specs.Load.{Loaded, refused, loaded, thenChecked, checked, load}
-use Rattle.rules.specs.Library.{Library}
+use Rattle.rules.specs.Load.{thenChecked, checked, load}
 use Rattle.lines.specs.declared.Read.{Read}
 use Rattle.lines.specs.Reading.{readMeant}
 use Rattle.table.specs.declared.Loading.{Loading}

@@ -1,9 +1,9 @@
--- `program::run` hands on what is due: the line of a refusal, the answer to one V, or the answers to the questions behind `Q`. Each way answers its length.
+-- `run` meets its contract: the line of a refusal, the answer to one V, or the answers to the questions behind `Q`. Each way answers its length.
 use mathlib.Core.Path.{refl, sym, ap, subst, _∙_}
 use native.Mathlib.Omega.{arith}
 use lib.ListN.{length}
 use Rattle.program.specs.Steps.{openingMeant, openingHolds}
-use Rattle.program.proofs.OpenLaws.{library-part, due-part}
+use Rattle.program.proofs.OpenLaws.{library-part, rest-short, due-parts}
 use borrow.Author.Needs.{needs}
 use Rattle.program.proofs.run.Statement.{statement}
 use Rattle.program.proofs.run.Tie as tie
@@ -19,56 +19,83 @@ enum-known-n c = search needs
 
 refuse-requires : tie.Need-refuse-requires
 unfolding openingMeant
-refuse-requires c κs = (c .before .before .before .before .open-input .ensures .says) ∙ ap (openingMeant (c .before .before .before .before .before .before .before .args .input .now) _) (c .before .n .given .1)
+refuse-requires c κs = let input = c .before .before .before .before .before .before .before .args .input .now in c .before .before .before .before .open-input .ensures .says ∙ ap (openingMeant input _) (c .before .n .given .1)
 
 enum-told : tie.Need-enum-told
 enum-told c = search needs
 
-slice-aggregate-ask-once : tie.Need-slice-aggregate-ask-once
-slice-aggregate-ask-once c = search needs
+slice-aggregate-print-all : tie.Need-slice-aggregate-print-all
+slice-aggregate-print-all c = search needs
 
-ask-once-requires : tie.Need-ask-once-requires
-unfolding openingMeant
-ask-once-requires c κs = (
-  subst (openingHolds (c .before .before .before .before .before .before .before .args .input .now) _) (c .before .enum-told .given .1) (c .before .before .before .before .open-input .ensures .holds),
-  (c .before .before .before .before .open-input .ensures .says) ∙ ap (openingMeant (c .before .before .before .before .before .before .before .args .input .now) _) (c .before .enum-told .given .1),
-)
+slice-aggregate-print-all-2 : tie.Need-slice-aggregate-print-all-2
+slice-aggregate-print-all-2 c = search needs
+
+print-all-requires : tie.Need-print-all-requires
+print-all-requires c κs =
+    let input = c .before .before .before .before .before .before .before .before .args .input .now in
+    (subst (openingHolds input _) (c .before .before .enum-told .given .1) (c .before .before .before .before .before .open-input .ensures .holds), omega arith)
 
 enum-known-end : tie.Need-enum-known-end
 enum-known-end c = search needs
 
-sub-ask-all : tie.Need-sub-ask-all
-sub-ask-all c = omega arith
+sub-print-all : tie.Need-sub-print-all
+sub-print-all c = omega arith
 
-part-ask-all-start : tie.Need-part-ask-all-start
-part-ask-all-start c = omega arith
+part-print-all-start : tie.Need-part-print-all-start
+part-print-all-start c = omega arith
 
-part-ask-all-end : tie.Need-part-ask-all-end
-part-ask-all-end c = let w = subst (openingHolds (c .before .before .before .before .before .before .before .args .input .now) _) (c .before .end .given .1) (c .before .before .before .before .open-input .ensures .holds) in omega (arith, w .0)
+part-print-all-end : tie.Need-part-print-all-end
+part-print-all-end c =
+    let input = c .before .before .before .before .before .before .before .args .input .now in
+    let holds = subst (openingHolds input _) (c .before .end .given .1) (c .before .before .before .before .open-input .ensures .holds) in
+    omega (arith, holds .0)
 
-slice-aggregate-ask-all : tie.Need-slice-aggregate-ask-all
-slice-aggregate-ask-all c = search needs
+slice-aggregate-print-all-3 : tie.Need-slice-aggregate-print-all-3
+slice-aggregate-print-all-3 c = search needs
 
-ask-all-requires : tie.Need-ask-all-requires
-unfolding openingMeant
-ask-all-requires c κs = let w = subst (openingHolds (c .before .before .before .before .before .before .before .before .before .args .input .now) _) (c .before .before .before .end .given .1) (c .before .before .before .before .before .before .open-input .ensures .holds) in (
-  library-part (c .before .before .before .before .before .before .before .before .before .args .input .now) (c .before .before .before .end .given .0 .0) _ (w .2),
-  w .1,
-  (c .before .before .before .before .before .before .open-input .ensures .says) ∙ ap (openingMeant (c .before .before .before .before .before .before .before .before .before .args .input .now) _) (c .before .before .before .end .given .1) ∙ due-part (c .before .before .before .before .before .before .before .before .before .args .input .now) (c .before .before .before .end .given .0 .0) _ _,
-  w .3,
-)
+sub-print-all-2 : tie.Need-sub-print-all-2
+sub-print-all-2 c =
+    let input = c .before .before .before .before .before .before .before .before .before .args .input .now in
+    let holds = subst (openingHolds input _) (c .before .before .before .end .given .1) (c .before .before .before .before .before .before .open-input .ensures .holds) in
+    omega (arith, holds .1)
+
+part-print-all-start-2 : tie.Need-part-print-all-start-2
+part-print-all-start-2 c =
+    let input = c .before .before .before .before .before .before .before .before .before .args .input .now in
+    let holds = subst (openingHolds input _) (c .before .before .before .end .given .1) (c .before .before .before .before .before .before .open-input .ensures .holds) in
+    omega (arith, holds .1)
+
+part-print-all-end-2 : tie.Need-part-print-all-end-2
+part-print-all-end-2 c =
+    let input = c .before .before .before .before .before .before .before .before .before .args .input .now in
+    let holds = subst (openingHolds input _) (c .before .before .before .end .given .1) (c .before .before .before .before .before .before .open-input .ensures .holds) in
+    omega (arith, holds .1)
+
+print-all-requires-2 : tie.Need-print-all-requires-2
+print-all-requires-2 c κs =
+    let input = c .before .before .before .before .before .before .before .before .before .before .args .input .now in
+    let until = c .before .before .before .before .end .given in
+    let holds = subst (openingHolds input _) (until .1) (c .before .before .before .before .before .before .before .open-input .ensures .holds) in
+    (library-part input (until .0 .0) _ (holds .2), rest-short input _ (holds .3))
 
 returns : tie.Need-returns
 unfolding openingMeant
-returns c = (c .refuse .ensures) ∙ sym (ap length (c .before .before .before .before .before .open-input .ensures .says ∙ ap (openingMeant (c .before .before .before .before .before .before .before .before .args .input .now) _) (c .before .before .n .given .1)))
+returns c =
+    let input = c .before .before .before .before .before .before .before .before .args .input .now in
+    c .refuse .ensures ∙ sym (ap length (c .before .before .before .before .before .open-input .ensures .says ∙ ap (openingMeant input _) (c .before .before .n .given .1)))
 
 returns-2 : tie.Need-returns-2
 unfolding openingMeant
-returns-2 c = (c .ask-once .ensures) ∙ sym (ap length (c .before .before .before .before .before .open-input .ensures .says ∙ ap (openingMeant (c .before .before .before .before .before .before .before .before .args .input .now) _) (c .before .before .enum-told .given .1)))
+returns-2 c =
+    let input = c .before .before .before .before .before .before .before .before .before .args .input .now in
+    c .print-all .ensures ∙ sym (ap length (c .before .before .before .before .before .before .open-input .ensures .says ∙ ap (openingMeant input _) (c .before .before .before .enum-told .given .1)))
 
 returns-3 : tie.Need-returns-3
 unfolding openingMeant
-returns-3 c = (c .ask-all .ensures) ∙ sym (ap length (c .before .before .before .before .before .before .before .open-input .ensures .says ∙ ap (openingMeant (c .before .before .before .before .before .before .before .before .before .before .args .input .now) _) (c .before .before .before .before .end .given .1) ∙ due-part (c .before .before .before .before .before .before .before .before .before .before .args .input .now) (c .before .before .before .before .end .given .0 .0) _ _))
+returns-3 c =
+    let input = c .before .before .before .before .before .before .before .before .before .before .before .args .input .now in
+    let until = c .before .before .before .before .before .end .given in
+    c .print-all2 .ensures ∙ sym (ap length (c .before .before .before .before .before .before .before .before .open-input .ensures .says ∙ ap (openingMeant input _) (until .1) ∙ due-parts input (until .0 .0) _ _))
 
 pub run-spec : {M : Type 1} → statement M
 run-spec =
@@ -79,14 +106,18 @@ run-spec =
     enum-known-n
     refuse-requires
     enum-told
-    slice-aggregate-ask-once
-    ask-once-requires
+    slice-aggregate-print-all
+    slice-aggregate-print-all-2
+    print-all-requires
     enum-known-end
-    sub-ask-all
-    part-ask-all-start
-    part-ask-all-end
-    slice-aggregate-ask-all
-    ask-all-requires
+    sub-print-all
+    part-print-all-start
+    part-print-all-end
+    slice-aggregate-print-all-3
+    sub-print-all-2
+    part-print-all-start-2
+    part-print-all-end-2
+    print-all-requires-2
     returns
     returns-2
     returns-3)

@@ -1,31 +1,51 @@
--- `program::asking::put_refused` meets its contract.
-use native.Mathlib.Omega.{arith}
-use Rattle.program.proofs.AskLaws.{refused-room, refused-shows}
+-- `put_refused` meets its contract: the line of a refusal always has room.
+use Rattle.replies.proofs.Replying.{never-refused}
+use Rattle.program.proofs.PieceLaws.{refused-shows, refused-fits}
 use borrow.Author.Needs.{needs}
 use Rattle.program.proofs.asking.put_refused.Statement.{statement}
 use Rattle.program.proofs.asking.put_refused.Tie as tie
 
-slice-aggregate-put-line : tie.Need-slice-aggregate-put-line
-slice-aggregate-put-line c = search needs
+say-refused-requires : tie.Need-say-refused-requires
+say-refused-requires c κs = search needs
 
-slice-aggregate-put-line-2 : tie.Need-slice-aggregate-put-line-2
-slice-aggregate-put-line-2 c = search needs
+enum-told : tie.Need-enum-told
+enum-told c = search needs
 
-put-line-requires : tie.Need-put-line-requires
-put-line-requires c κs = (omega arith, refused-room (c .before .before .before .before .args .n) (c .before .before .before .before .args .line) (c .before .before .before .before .args .out .now) (c .before .before .before .before .pre))
+enum-known-k : tie.Need-enum-known-k
+enum-known-k c = search needs
+
+enum-told-2 : tie.Need-enum-told-2
+enum-told-2 c = search needs
 
 same-length : tie.Need-same-length
 same-length c = search needs
 
 returns : tie.Need-returns
-returns c = refused-shows (c .before .before .before .before .before .before .before .args .n) (c .before .before .before .before .before .before .before .args .line) (c .before .before .before .before .before .before .before .args .out .now) (c .before .before .before .before .before .before .before .pre) (c .before .before .put-line .ensures)
+returns c = absurd (never-refused (c .before .before .before .before .say-refused .ensures) (c .enum-told .given .1))
+
+same-length-2 : tie.Need-same-length-2
+same-length-2 c = search needs
+
+returns-2 : tie.Need-returns-2
+returns-2 c = let start = c .before .before .before .before .before .before .before .before in refused-shows (start .args .n) (start .args .line) (start .pre) (c .before .before .before .before .before .say-refused .ensures) (c .before .k .given .1)
+
+same-length-3 : tie.Need-same-length-3
+same-length-3 c = search needs
+
+returns-3 : tie.Need-returns-3
+returns-3 c = let start = c .before .before .before .before .before .before .before in absurd (refused-fits (start .args .n) (start .args .line) (start .pre) (c .before .before .before .before .say-refused .ensures) (c .enum-told2 .given .1))
 
 pub put-refused-spec : {M : Type 1} → statement M
 put-refused-spec =
     tie.close
     (tie.spec
-    slice-aggregate-put-line
-    slice-aggregate-put-line-2
-    put-line-requires
+    say-refused-requires
+    enum-told
+    enum-known-k
+    enum-told-2
     same-length
-    returns)
+    returns
+    same-length-2
+    returns-2
+    same-length-3
+    returns-3)

@@ -1,6 +1,6 @@
--- `program::writing::refuse` writes the line that is due, and answers its length.
+-- `refuse` meets its contract: it answers the length of the line.
 use native.Mathlib.Omega.{arith}
-use Rattle.program.proofs.AskLaws.{piece-all, shows-length}
+use Rattle.program.proofs.PieceLaws.{shows-length}
 use borrow.Author.Needs.{needs}
 use Rattle.program.proofs.writing.refuse.Statement.{statement}
 use Rattle.program.proofs.writing.refuse.Tie as tie
@@ -11,14 +11,20 @@ slice-aggregate-put-refused c = search needs
 put-refused-requires : tie.Need-put-refused-requires
 put-refused-requires c κs = omega arith
 
-slice-aggregate-show : tie.Need-slice-aggregate-show
-slice-aggregate-show c = search needs
+sub-write-all : tie.Need-sub-write-all
+sub-write-all c = omega arith
 
-show-requires : tie.Need-show-requires
-show-requires c κs = ((c .before .before .put-refused .ensures .fits), piece-all (c .before .before .before .before .before .pre) (c .before .before .put-refused .ensures))
+part-write-all-start : tie.Need-part-write-all-start
+part-write-all-start c = omega arith
+
+part-write-all-end : tie.Need-part-write-all-end
+part-write-all-end c = let fits = c .before .before .put-refused .ensures .fits in omega arith
+
+write-all-requires : tie.Need-write-all-requires
+write-all-requires c κs = search needs
 
 returns : tie.Need-returns
-returns c = shows-length (c .before .before .before .put-refused .ensures) (c .show .ensures)
+returns c = shows-length (c .before .before .before .before .put-refused .ensures)
 
 pub refuse-spec : {M : Type 1} → statement M
 refuse-spec =
@@ -26,6 +32,8 @@ refuse-spec =
     (tie.spec
     slice-aggregate-put-refused
     put-refused-requires
-    slice-aggregate-show
-    show-requires
+    sub-write-all
+    part-write-all-start
+    part-write-all-end
+    write-all-requires
     returns)

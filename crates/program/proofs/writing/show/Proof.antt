@@ -1,4 +1,4 @@
--- `program::writing::show` meets its contract.
+-- `show` meets its contract: it answers the place behind the piece.
 use native.Mathlib.Omega.{arith}
 use borrow.Author.Needs.{needs}
 use Rattle.program.proofs.writing.show.Statement.{statement}
@@ -8,13 +8,16 @@ sub-write-all : tie.Need-sub-write-all
 sub-write-all c = omega arith
 
 part-write-all-start : tie.Need-part-write-all-start
-part-write-all-start c = omega (arith, (c .before .before .pre .0))
+part-write-all-start c = let pre = c .before .before .before .before .pre in omega (arith, pre .0)
 
 part-write-all-end : tie.Need-part-write-all-end
-part-write-all-end c = omega (arith, (c .before .before .pre .0))
+part-write-all-end c = let pre = c .before .before .before .before .pre in omega (arith, pre .0)
 
 write-all-requires : tie.Need-write-all-requires
 write-all-requires c κs = search needs
+
+add-result : tie.Need-add-result
+add-result c = let pre = c .before .before .before .before .before .before .pre in omega (arith, pre .2)
 
 returns : tie.Need-returns
 returns c = search needs
@@ -27,4 +30,5 @@ show-spec =
     part-write-all-start
     part-write-all-end
     write-all-requires
+    add-result
     returns)

@@ -32,16 +32,16 @@ cast-if2 c = search needs
 array-borrow-prefix-walk : tie.Need-array-borrow-prefix-walk
 array-borrow-prefix-walk c = search needs
 
-slice-aggregate-reply-all : tie.Need-slice-aggregate-reply-all
-slice-aggregate-reply-all c =
-    let types = c .before .before .before .before .before .before .type-count in let fits = c .before .before .before .before .before .if1 .taken in
+slice-aggregate-w : tie.Need-slice-aggregate-w
+slice-aggregate-w c =
+    let types = c .before .before .before .before .type-count in let fits = c .before .before .before .if1 .taken in
     lent-long someRecords (2 * types .result) (omega arith)
+
+slice-aggregate-reply-all : tie.Need-slice-aggregate-reply-all
+slice-aggregate-reply-all c = search needs
 
 slice-aggregate-reply-all-2 : tie.Need-slice-aggregate-reply-all-2
 slice-aggregate-reply-all-2 c = search needs
-
-slice-aggregate-reply-all-3 : tie.Need-slice-aggregate-reply-all-3
-slice-aggregate-reply-all-3 c = search needs
 
 reply-all-requires : tie.Need-reply-all-requires
 reply-all-requires c κs =
@@ -59,21 +59,13 @@ same-length-2 : tie.Need-same-length-2
 same-length-2 c = search needs
 
 returns : tie.Need-returns
-returns c = let told = c .before .before .before .before .before .before .before .reply-all .ensures in (ends-all _ _ (c .before .before .before .before .before .before .before .before .before .before .before .before .before .if3 .taken) (told .0), told .1)
-
-array-borrow-prefix-walk-2 : tie.Need-array-borrow-prefix-walk-2
-array-borrow-prefix-walk-2 c = search needs
+returns c = let told = c .before .before .before .before .before .before .before .reply-all .ensures in (ends-all _ _ (c .before .before .before .before .before .before .before .before .before .before .before .before .if3 .taken) (told .0), told .1)
 
 slice-aggregate-answered : tie.Need-slice-aggregate-answered
-slice-aggregate-answered c =
-    let types = c .before .before .before .before .before .before .type-count in let fits = c .before .before .before .before .before .if1 .taken in
-    lent-long someRecords (2 * types .result) (omega arith)
+slice-aggregate-answered c = search needs
 
 slice-aggregate-answered-2 : tie.Need-slice-aggregate-answered-2
 slice-aggregate-answered-2 c = search needs
-
-slice-aggregate-answered-3 : tie.Need-slice-aggregate-answered-3
-slice-aggregate-answered-3 c = search needs
 
 answered-requires : tie.Need-answered-requires
 answered-requires c κs =
@@ -91,22 +83,22 @@ same-length-4 : tie.Need-same-length-4
 same-length-4 c = search needs
 
 returns-2 : tie.Need-returns-2
-returns-2 c = let told = c .before .before .before .before .before .before .before .answered .ensures in (ends-one _ _ (c .before .before .before .before .before .before .before .before .before .before .before .before .before .if3 .left) (ends-does (told .0)), told .1 .0)
+returns-2 c = let told = c .before .before .before .before .before .before .before .answered .ensures in (ends-one _ _ (c .before .before .before .before .before .before .before .before .before .before .before .before .if3 .left) (ends-does (told .0)), told .1 .0)
 
-array-borrow-prefix-walk-3 : tie.Need-array-borrow-prefix-walk-3
-array-borrow-prefix-walk-3 c = search needs
+array-borrow-prefix-walk-2 : tie.Need-array-borrow-prefix-walk-2
+array-borrow-prefix-walk-2 c = search needs
 
-slice-aggregate-reply-all-4 : tie.Need-slice-aggregate-reply-all-4
-slice-aggregate-reply-all-4 c =
-    let start = c .before .before .before .before .before .before .before .before .before .before in let types = c .before .before .before .before .type-count in
+slice-aggregate-w-2 : tie.Need-slice-aggregate-w-2
+slice-aggregate-w-2 c =
+    let start = c .before .before .before .before .before .before .before .before in let types = c .before .before .type-count in
     let most = start .pre .0 .laid .types in let is = types .ensures in
     lent-long maxRecords (2 * types .result) (omega arith)
 
-slice-aggregate-reply-all-5 : tie.Need-slice-aggregate-reply-all-5
-slice-aggregate-reply-all-5 c = search needs
+slice-aggregate-reply-all-3 : tie.Need-slice-aggregate-reply-all-3
+slice-aggregate-reply-all-3 c = search needs
 
-slice-aggregate-reply-all-6 : tie.Need-slice-aggregate-reply-all-6
-slice-aggregate-reply-all-6 c = search needs
+slice-aggregate-reply-all-4 : tie.Need-slice-aggregate-reply-all-4
+slice-aggregate-reply-all-4 c = search needs
 
 reply-all-requires-2 : tie.Need-reply-all-requires-2
 reply-all-requires-2 c κs =
@@ -123,22 +115,13 @@ same-length-6 : tie.Need-same-length-6
 same-length-6 c = search needs
 
 returns-3 : tie.Need-returns-3
-returns-3 c = let told = c .before .before .before .before .before .before .before .reply-all2 .ensures in (ends-all _ _ (c .before .before .before .before .before .before .before .before .before .before .before .before .before .if4 .taken) (told .0), told .1)
+returns-3 c = let told = c .before .before .before .before .before .before .before .reply-all2 .ensures in (ends-all _ _ (c .before .before .before .before .before .before .before .before .before .before .before .before .if4 .taken) (told .0), told .1)
 
-array-borrow-prefix-walk-4 : tie.Need-array-borrow-prefix-walk-4
-array-borrow-prefix-walk-4 c = search needs
+slice-aggregate-answered-3 : tie.Need-slice-aggregate-answered-3
+slice-aggregate-answered-3 c = search needs
 
 slice-aggregate-answered-4 : tie.Need-slice-aggregate-answered-4
-slice-aggregate-answered-4 c =
-    let start = c .before .before .before .before .before .before .before .before .before .before in let types = c .before .before .before .before .type-count in
-    let most = start .pre .0 .laid .types in let is = types .ensures in
-    lent-long maxRecords (2 * types .result) (omega arith)
-
-slice-aggregate-answered-5 : tie.Need-slice-aggregate-answered-5
-slice-aggregate-answered-5 c = search needs
-
-slice-aggregate-answered-6 : tie.Need-slice-aggregate-answered-6
-slice-aggregate-answered-6 c = search needs
+slice-aggregate-answered-4 c = search needs
 
 answered-requires-2 : tie.Need-answered-requires-2
 answered-requires-2 c κs =
@@ -155,7 +138,7 @@ same-length-8 : tie.Need-same-length-8
 same-length-8 c = search needs
 
 returns-4 : tie.Need-returns-4
-returns-4 c = let told = c .before .before .before .before .before .before .before .answered2 .ensures in (ends-one _ _ (c .before .before .before .before .before .before .before .before .before .before .before .before .before .if4 .left) (ends-does (told .0)), told .1 .0)
+returns-4 c = let told = c .before .before .before .before .before .before .before .answered2 .ensures in (ends-one _ _ (c .before .before .before .before .before .before .before .before .before .before .before .before .if4 .left) (ends-does (told .0)), told .1 .0)
 
 pub with-all-spec : {M : Type 1} → statement M
 with-all-spec =
@@ -167,33 +150,29 @@ with-all-spec =
     member-count-requires
     cast-if2
     array-borrow-prefix-walk
+    slice-aggregate-w
     slice-aggregate-reply-all
     slice-aggregate-reply-all-2
-    slice-aggregate-reply-all-3
     reply-all-requires
     same-length
     same-length-2
     returns
-    array-borrow-prefix-walk-2
     slice-aggregate-answered
     slice-aggregate-answered-2
-    slice-aggregate-answered-3
     answered-requires
     same-length-3
     same-length-4
     returns-2
-    array-borrow-prefix-walk-3
+    array-borrow-prefix-walk-2
+    slice-aggregate-w-2
+    slice-aggregate-reply-all-3
     slice-aggregate-reply-all-4
-    slice-aggregate-reply-all-5
-    slice-aggregate-reply-all-6
     reply-all-requires-2
     same-length-5
     same-length-6
     returns-3
-    array-borrow-prefix-walk-4
+    slice-aggregate-answered-3
     slice-aggregate-answered-4
-    slice-aggregate-answered-5
-    slice-aggregate-answered-6
     answered-requires-2
     same-length-7
     same-length-8

@@ -22,16 +22,16 @@ mul-n c = search needs
 array-borrow-prefix-walk : tie.Need-array-borrow-prefix-walk
 array-borrow-prefix-walk c = search needs
 
-slice-aggregate-answered : tie.Need-slice-aggregate-answered
-slice-aggregate-answered c =
-    let types = c .before .before .before .type-count in let fits = c .before .before .if1 .taken in
+slice-aggregate-w : tie.Need-slice-aggregate-w
+slice-aggregate-w c =
+    let types = c .before .before .type-count in let fits = c .before .if1 .taken in
     lent-long fewRecords (2 * types .result) (omega arith)
+
+slice-aggregate-answered : tie.Need-slice-aggregate-answered
+slice-aggregate-answered c = search needs
 
 slice-aggregate-answered-2 : tie.Need-slice-aggregate-answered-2
 slice-aggregate-answered-2 c = search needs
-
-slice-aggregate-answered-3 : tie.Need-slice-aggregate-answered-3
-slice-aggregate-answered-3 c = search needs
 
 answered-requires : tie.Need-answered-requires
 answered-requires c κs =
@@ -52,16 +52,16 @@ returns c = let told = c .before .before .before .before .before .before .before
 array-borrow-prefix-walk-2 : tie.Need-array-borrow-prefix-walk-2
 array-borrow-prefix-walk-2 c = search needs
 
-slice-aggregate-answered-4 : tie.Need-slice-aggregate-answered-4
-slice-aggregate-answered-4 c =
-    let types = c .before .before .before .before .type-count in let fits = c .before .before .if2 .taken in
+slice-aggregate-w-2 : tie.Need-slice-aggregate-w-2
+slice-aggregate-w-2 c =
+    let types = c .before .before .before .type-count in let fits = c .before .if2 .taken in
     lent-long someRecords (2 * types .result) (omega arith)
 
-slice-aggregate-answered-5 : tie.Need-slice-aggregate-answered-5
-slice-aggregate-answered-5 c = search needs
+slice-aggregate-answered-3 : tie.Need-slice-aggregate-answered-3
+slice-aggregate-answered-3 c = search needs
 
-slice-aggregate-answered-6 : tie.Need-slice-aggregate-answered-6
-slice-aggregate-answered-6 c = search needs
+slice-aggregate-answered-4 : tie.Need-slice-aggregate-answered-4
+slice-aggregate-answered-4 c = search needs
 
 answered-requires-2 : tie.Need-answered-requires-2
 answered-requires-2 c κs =
@@ -82,17 +82,17 @@ returns-2 c = let told = c .before .before .before .before .before .before .befo
 array-borrow-prefix-walk-3 : tie.Need-array-borrow-prefix-walk-3
 array-borrow-prefix-walk-3 c = search needs
 
-slice-aggregate-answered-7 : tie.Need-slice-aggregate-answered-7
-slice-aggregate-answered-7 c =
-    let start = c .before .before .before .before .before .before .before .before .before .before in let types = c .before .before .before .before .type-count in
+slice-aggregate-w-3 : tie.Need-slice-aggregate-w-3
+slice-aggregate-w-3 c =
+    let start = c .before .before .before .before .before .before .before .before .before in let types = c .before .before .before .type-count in
     let most = start .pre .0 .laid .types in let is = types .ensures in
     lent-long maxRecords (2 * types .result) (omega arith)
 
-slice-aggregate-answered-8 : tie.Need-slice-aggregate-answered-8
-slice-aggregate-answered-8 c = search needs
+slice-aggregate-answered-5 : tie.Need-slice-aggregate-answered-5
+slice-aggregate-answered-5 c = search needs
 
-slice-aggregate-answered-9 : tie.Need-slice-aggregate-answered-9
-slice-aggregate-answered-9 c = search needs
+slice-aggregate-answered-6 : tie.Need-slice-aggregate-answered-6
+slice-aggregate-answered-6 c = search needs
 
 answered-requires-3 : tie.Need-answered-requires-3
 answered-requires-3 c κs =
@@ -119,25 +119,25 @@ with-walk-spec =
     cast-n
     mul-n
     array-borrow-prefix-walk
+    slice-aggregate-w
     slice-aggregate-answered
     slice-aggregate-answered-2
-    slice-aggregate-answered-3
     answered-requires
     same-length
     same-length-2
     returns
     array-borrow-prefix-walk-2
+    slice-aggregate-w-2
+    slice-aggregate-answered-3
     slice-aggregate-answered-4
-    slice-aggregate-answered-5
-    slice-aggregate-answered-6
     answered-requires-2
     same-length-3
     same-length-4
     returns-2
     array-borrow-prefix-walk-3
-    slice-aggregate-answered-7
-    slice-aggregate-answered-8
-    slice-aggregate-answered-9
+    slice-aggregate-w-3
+    slice-aggregate-answered-5
+    slice-aggregate-answered-6
     answered-requires-3
     same-length-5
     same-length-6
