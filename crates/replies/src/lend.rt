@@ -83,7 +83,7 @@ fn with_walk(text: &[u8], rows: &[u32], marks: &mut [u32], line: &[u8], answer: 
     answered(text, rows, marks, w, &mut hits, &mut words, line, answer)
 }
 
-// M, or many questions.
+// M, or many questions. Few records go with as few members.
 fn with_all(
     text: &[u8],
     rows: &[u32],
@@ -99,7 +99,18 @@ fn with_all(
     ensures { λ _. ⌜ now (marks .exit) ≡ now (marks .entry) ⌝ }
 {
     let n = 2 * type_count(rows) as usize;
-    if n <= SOME_RECORDS && member_count(rows) as usize <= SOME_MEMBERS {
+    let members = member_count(rows) as usize;
+    if n <= FEW_RECORDS && members <= FEW_RECORDS {
+        let mut walk = [[0u32; RECORD_WORDS]; FEW_RECORDS];
+        let mut hits = [[0u32; HIT_WORDS]; FEW_RECORDS];
+        let mut words = [0u32; SEARCH_WORDS];
+        let w = &mut walk[..n];
+        if all {
+            return reply_all(text, rows, marks, w, &mut hits, &mut words, line, answer);
+        }
+        return answered(text, rows, marks, w, &mut hits, &mut words, line, answer);
+    }
+    if n <= SOME_RECORDS && members <= SOME_MEMBERS {
         let mut walk = [[0u32; RECORD_WORDS]; SOME_RECORDS];
         let mut hits = [[0u32; HIT_WORDS]; SOME_MEMBERS];
         let mut words = [0u32; SEARCH_WORDS];

@@ -57,7 +57,7 @@ returns c =
     (record { filling = inv .5; full = full-end _ _ _ (inv .5) (c .before .before .next-question .ensures) (c .enum-told .given .1) }, (inv .0, inv .4))
 
 sub-line : tie.Need-sub-line Inv-loop μ-loop
-sub-line c = let w = within _ _ _ (c .before .before .before .before .loop .inv .5) (c .before .before .before .next-question .ensures) (c .before .end .given .1) in w .0
+sub-line c = let w = within _ _ _ (c .before .before .before .before .loop .inv .5) (c .before .before .before .next-question .ensures) (c .before .end .given .1) in omega (arith, w .0, w .1)
 
 part-line-start : tie.Need-part-line-start Inv-loop μ-loop
 part-line-start c = let w = within _ _ _ (c .before .before .before .before .loop .inv .5) (c .before .before .before .next-question .ensures) (c .before .end .given .1) in omega (arith, w .0, w .1)
