@@ -1,22 +1,22 @@
 //! The answers of a call for many questions, one by one.
 
 use crate::Refusal;
-use std::iter;
+use std::{iter, str};
 
 /// The answers that [`ask_all`](crate::ask_all) gives, question by question: an answer with all its lines, or the
 /// refusal of its question.
 ///
 /// ```
-/// use yifgrun::{each_answer, Answers, Refusal};
+/// use yifgrun::{each_answer, Answers, RefusalKind};
 ///
 /// let table = b"typetable\t1\nT\tbasic\t2\n";
 /// let mut answers = Answers::new();
 /// let mut each = each_answer(answers.ask_all(table, b"M\t0\nC\t1\nC\t0\n")?);
 /// assert_eq!(each.next(), Some(Ok(&b"set\t0\n"[..])));
-/// assert_eq!(each.next(), Some(Err(Refusal { number: 11, line: 0 })));
+/// assert_eq!(each.next().unwrap().unwrap_err().kind, RefusalKind::Question);
 /// assert_eq!(each.next(), Some(Ok(&b"yes\n"[..])));
 /// assert_eq!(each.next(), None);
-/// # Ok::<(), Refusal>(())
+/// # Ok::<(), yifgrun::Refusal>(())
 /// ```
 pub fn each_answer(answers: &[u8]) -> impl Iterator<Item = Result<&[u8], Refusal>> {
     let mut rest = answers;
@@ -40,5 +40,5 @@ fn first_length(answers: &[u8]) -> Option<usize> {
 fn refused(answer: &[u8]) -> Option<Refusal> {
     let number = answer.strip_prefix(b"refused\t")?.strip_suffix(b"\t0\n")?;
     let number = str::from_utf8(number).ok()?.parse().ok()?;
-    Some(Refusal { number, line: 0 })
+    Some(Refusal::of_question(number))
 }

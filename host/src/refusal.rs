@@ -1,70 +1,192 @@
-//! Refusals: a number and a line, and the papers' words for each: document 01's, and for 14 document 02's.
+//! Refusals: their kinds, and the papers' words for each, document 01's and for 14 document 02's.
 
 use std::error::Error;
 use std::fmt::{self, Display, Formatter};
 
-/// Why a call gave no answer.
+/// Why a call gave no answer: the kind of refusal, and the line of the table where it names one.
 ///
 /// ```
-/// use yifgrun::Refusal;
+/// use yifgrun::{Library, RefusalKind};
 ///
-/// let refusal = Refusal { number: 10, line: 12 };
-/// assert_eq!(refusal.to_string(), "line 12: a type contains itself by value (refusal 10)");
-/// let refusal = Refusal { number: 13, line: 0 };
-/// assert_eq!(refusal.to_string(), "the answer is longer than the answer buffer (refusal 13)");
+/// let refusal = Library::new("typetable\t1\nT\tarray\t3\t1\nT\tnamed\t0\n").unwrap_err();
+/// assert_eq!((refusal.kind, refusal.line), (RefusalKind::ContainsItself, 2));
+/// assert_eq!(refusal.to_string(), "line 2: a type contains itself by value (refusal 10)");
 /// ```
 #[derive(Clone, Copy, Debug, PartialEq, Eq, Hash)]
+#[non_exhaustive]
 pub struct Refusal {
-    /// 1 to 14.
-    pub number: u8,
-    /// The line of the table, the first being 1; 0 where none is named (1, 2, 11, 12, 13).
+    /// Which refusal it is.
+    pub kind: RefusalKind,
+    /// The line of the table, the first being 1; 0 where none is named (refusals 1, 2, 11, 12, 13).
     pub line: u16,
 }
 
-/// The words, from refusal 1 on.
-const WORDS: [&str; 14] = [
-    "the work area has fewer than 4,096 words",
-    "the table has more than 65,536 bytes",
-    "the first line is not exactly `typetable`, tab, `1`, newline",
-    "wrong form: letter, field count, value outside its range, or no newline",
-    "out of place: P after T, F not under a struct, M not under a named type or interface",
-    "too many: a 65th package, 513th type, 2,049th member, or 256th member of one type",
-    "the table lacks a package or type number referred to",
-    "a kind of type is referred to that is not allowed there",
-    "a member's identity clashes, or an interface's methods do not ascend",
-    "a type contains itself by value",
-    "the question has a wrong form, more than 256 bytes, or a number that the table lacks",
-    "the second type of an N question is not itself of kind iface",
-    "the answer is longer than the answer buffer",
-    "package out of order: its path does not come after the one before",
+/// What is refused.
+#[derive(Clone, Copy, Debug, PartialEq, Eq, Hash)]
+#[non_exhaustive]
+pub enum RefusalKind {
+    /// 1: the work area has too few words. Only a caller who lends it meets this.
+    WorkTooShort,
+    /// 2: the table has too many bytes.
+    TableTooLong,
+    /// 3: the first line is not that of a table.
+    Header,
+    /// 4: a line has a wrong form.
+    Form,
+    /// 5: a line is out of place.
+    Place,
+    /// 6: there are too many packages, types or members.
+    TooMany,
+    /// 7: a package or type number is referred to that the table lacks.
+    Lacking,
+    /// 8: a kind of type is referred to that is not allowed there.
+    Kind,
+    /// 9: a member's identity clashes with another's, or an interface's methods do not ascend.
+    Clash,
+    /// 10: a type contains itself by value.
+    ContainsItself,
+    /// 11: the question has a wrong form, is too long, or has a number that the table lacks.
+    Question,
+    /// 12: the second type of [`Question::Missing`](crate::Question::Missing) is no interface itself.
+    NotAnInterface,
+    /// 13: the answer has no room. Only a caller who lends the buffer meets this.
+    AnswerTooLong,
+    /// 14: packages are not in the order of their paths.
+    PackageOrder,
+    /// A number that only a newer archive than this package gives.
+    Other(u8),
+}
+
+/// The kinds with their words, from refusal 1 on.
+const KINDS: [(RefusalKind, &str); 14] = [
+    (
+        RefusalKind::WorkTooShort,
+        "the work area has fewer words than a call needs",
+    ),
+    (
+        RefusalKind::TableTooLong,
+        "the table has more than 65,536 bytes",
+    ),
+    (
+        RefusalKind::Header,
+        "the first line is not exactly `typetable`, tab, `1`, newline",
+    ),
+    (
+        RefusalKind::Form,
+        "wrong form: letter, field count, value outside its range, or no newline",
+    ),
+    (
+        RefusalKind::Place,
+        "out of place: P after T, F not under a struct, M not under a named type or interface",
+    ),
+    (
+        RefusalKind::TooMany,
+        "too many: a 65th package, 513th type, 2,049th member, or 256th member of one type",
+    ),
+    (
+        RefusalKind::Lacking,
+        "the table lacks a package or type number referred to",
+    ),
+    (
+        RefusalKind::Kind,
+        "a kind of type is referred to that is not allowed there",
+    ),
+    (
+        RefusalKind::Clash,
+        "a member's identity clashes, or an interface's methods do not ascend",
+    ),
+    (
+        RefusalKind::ContainsItself,
+        "a type contains itself by value",
+    ),
+    (
+        RefusalKind::Question,
+        "the question has a wrong form, more than 256 bytes, or a number that the table lacks",
+    ),
+    (
+        RefusalKind::NotAnInterface,
+        "the second type of an N question is not itself of kind iface",
+    ),
+    (
+        RefusalKind::AnswerTooLong,
+        "the answer is longer than the answer buffer",
+    ),
+    (
+        RefusalKind::PackageOrder,
+        "package out of order: its path does not come after the one before",
+    ),
 ];
 
-impl Refusal {
-    /// The refusal that a number below 0 stands for: minus (refusal × 65,536 + line).
-    pub(crate) fn of(number: i64) -> Refusal {
-        let size = number.unsigned_abs();
-        Refusal {
-            number: u8::try_from(size / 65_536).unwrap_or(u8::MAX),
-            line: (size % 65_536) as u16,
+impl RefusalKind {
+    /// The kind of a refusal's number.
+    pub(crate) fn of(number: u8) -> RefusalKind {
+        let place = usize::from(number).wrapping_sub(1);
+        KINDS.get(place).map_or(RefusalKind::Other(number), |k| k.0)
+    }
+
+    /// The refusal's number, 1 to 14.
+    ///
+    /// ```
+    /// assert_eq!(yifgrun::RefusalKind::PackageOrder.number(), 14);
+    /// ```
+    pub fn number(self) -> u8 {
+        match (self, self.place()) {
+            (RefusalKind::Other(number), _) => number,
+            (_, place) => place.map_or(0, |place| place as u8 + 1),
         }
+    }
+
+    /// What is refused, in words.
+    pub fn words(self) -> &'static str {
+        self.place()
+            .map_or("an unknown refusal", |place| KINDS[place].1)
     }
 
     /// Whether the table is refused, and so every question on it: refusals 2 to 10, and 14.
     ///
     /// ```
-    /// use yifgrun::Refusal;
+    /// use yifgrun::RefusalKind;
     ///
-    /// assert!(Refusal { number: 14, line: 3 }.is_of_table());
-    /// assert!(!Refusal { number: 13, line: 0 }.is_of_table());
+    /// assert!(RefusalKind::PackageOrder.is_of_table());
+    /// assert!(!RefusalKind::AnswerTooLong.is_of_table());
     /// ```
-    pub fn is_of_table(&self) -> bool {
-        matches!(self.number, 2..=10 | 14)
+    pub fn is_of_table(self) -> bool {
+        matches!(self.number(), 2..=10 | 14)
     }
 
-    /// What the refusal's number means, without the line.
-    pub fn words(&self) -> &'static str {
-        let place = usize::from(self.number).wrapping_sub(1);
-        WORDS.get(place).copied().unwrap_or("an unknown refusal")
+    fn place(self) -> Option<usize> {
+        KINDS.iter().position(|&(kind, _)| kind == self)
+    }
+}
+
+impl Refusal {
+    /// The refusal that a number below 0 stands for: minus (refusal × 65,536 + line).
+    pub(crate) fn of(number: i64) -> Refusal {
+        let size = number.unsigned_abs();
+        let kind = u8::try_from(size / 65_536).unwrap_or(u8::MAX);
+        Refusal {
+            kind: RefusalKind::of(kind),
+            line: (size % 65_536) as u16,
+        }
+    }
+
+    /// The refusal of a question, which names no line.
+    pub(crate) fn of_question(number: u8) -> Refusal {
+        Refusal {
+            kind: RefusalKind::of(number),
+            line: 0,
+        }
+    }
+
+    /// The refusal's number, 1 to 14.
+    pub fn number(&self) -> u8 {
+        self.kind.number()
+    }
+}
+
+impl Display for RefusalKind {
+    fn fmt(&self, f: &mut Formatter) -> fmt::Result {
+        write!(f, "{} (refusal {})", self.words(), self.number())
     }
 }
 
@@ -73,7 +195,7 @@ impl Display for Refusal {
         if self.line > 0 {
             write!(f, "line {}: ", self.line)?;
         }
-        write!(f, "{} (refusal {})", self.words(), self.number)
+        self.kind.fmt(f)
     }
 }
 

@@ -1,8 +1,9 @@
-// The exported calls: a question on a table, or many of them, answered into a lent buffer.
+// The exported calls: a question on a table, or many of them, answered into a lent buffer; and what a host asks of the library itself, how many words
+// of work area a call needs and which version it is.
 ghost use mathlib.Core.Path.{_≡_};
 ghost use Prim.Native.Nat.{_≤_};
 ghost use lib.ListN.{length, replicate};
-ghost use Rattle.objects.specs.Bounds.{roomFor, smallText, medianText, middleText, longText};
+ghost use Rattle.objects.specs.Bounds.{roomFor, smallText, medianText, middleText, longText, workWords};
 ghost use Rattle.rules.specs.Asked.{onTable, refusal, asked};
 ghost use Rattle.rules.specs.AskedAll.{askedAll};
 ghost use Rattle.objects.specs.Rows.{tableOf};
@@ -11,6 +12,7 @@ ghost use Rattle.rules.specs.Load.{load};
 ghost use Rattle.reply.specs.Done.{numberRead, Fits};
 ghost use Rattle.replies.specs.Replies.{saidOf, Ends};
 ghost use Rattle.yifgrun.specs.Gives.{Cleared, Gives, askedBy};
+ghost use Rattle.yifgrun.specs.Version.{version};
 use objects::bounds::ALL_WORDS;
 use objects::bounds::LONG_TEXT;
 use objects::bounds::LONG_WORDS;
@@ -28,6 +30,15 @@ use reply::Done;
 use signs::sign_members;
 use table::Loading;
 use table::load;
+
+// CHANGELOG.md has the versions; specs/Version.antt has the same three numbers.
+const MAJOR: u32 = 0;
+
+const MINOR: u32 = 7;
+
+const PATCH: u32 = 0;
+
+const VERSION: u32 = MAJOR * 65_536 + MINOR * 256 + PATCH;
 
 // Members are signed where many names are to be looked for.
 fn sign_for_many(table: &[u8], rows: &mut [u32], all: bool)
@@ -211,4 +222,20 @@ pub extern "C" fn yifgrun_ask_all(
     ensures { λ r. ⌜ Gives (askedAll (now (table .entry)) (now (questions .entry)) (now (answers .entry)) (now (work .entry))) r (now (answers .exit)) (now (work .exit)) ⌝ }
 {
     call(table, questions, answers, work, true)
+}
+
+// The words of work area that a call needs: fewer are refusal 1.
+#[no_mangle]
+pub extern "C" fn yifgrun_work_words() -> usize
+    ensures { λ r. ⌜ r ≡ workWords ⌝ }
+{
+    WORK_WORDS
+}
+
+// The library's version as one number.
+#[no_mangle]
+pub extern "C" fn yifgrun_version() -> u32
+    ensures { λ r. ⌜ r ≡ version ⌝ }
+{
+    VERSION
 }

@@ -1,0 +1,91 @@
+//! How the fields of a line are read, once for questions and answers.
+
+use crate::Package;
+use std::error::Error;
+use std::fmt::{self, Display, Formatter};
+
+/// A text that is no question or no answer.
+///
+/// ```
+/// use yifgrun::Question;
+///
+/// let error = "M\t07".parse::<Question>().unwrap_err();
+/// assert_eq!(error.to_string(), "`07` is not a number of one to four digits");
+/// ```
+#[derive(Clone, Debug, PartialEq, Eq)]
+#[non_exhaustive]
+pub struct ParseError {
+    /// What was found, and what it is not.
+    message: String,
+}
+
+impl ParseError {
+    pub(crate) fn not(expected: &str, found: &str) -> ParseError {
+        let found = found.replace('\t', " ");
+        let message = format!("`{}` is not {expected}", found.trim_end());
+        ParseError { message }
+    }
+}
+
+impl Display for ParseError {
+    fn fmt(&self, f: &mut Formatter) -> fmt::Result {
+        f.write_str(&self.message)
+    }
+}
+
+impl Error for ParseError {}
+
+/// Digits of a number of a type, package, member or place.
+const MOST_DIGITS: usize = 4;
+
+/// Bytes of a name.
+const MOST_NAME: usize = 64;
+
+/// A number of one to four digits, without sign and leading zeros.
+pub fn number<N: From<u16>>(field: &str) -> Result<N, ParseError> {
+    let digits = field.bytes().all(|b| b.is_ascii_digit());
+    let form = digits && field.len() <= MOST_DIGITS && (field == "0" || !field.starts_with('0'));
+    let number = field.parse::<u16>().ok().filter(|_| form);
+    let expected = "a number of one to four digits";
+    number
+        .map(N::from)
+        .ok_or_else(|| ParseError::not(expected, field))
+}
+
+/// 0 or 1.
+pub fn bit(field: &str) -> Result<bool, ParseError> {
+    match field {
+        "0" => Ok(false),
+        "1" => Ok(true),
+        _ => Err(ParseError::not("0 or 1", field)),
+    }
+}
+
+/// A package's number, or `-` for none.
+pub fn package(field: &str) -> Result<Option<Package>, ParseError> {
+    match field {
+        "-" => Ok(None),
+        _ => number(field).map(Some),
+    }
+}
+
+/// A name: ASCII letters, digits and `_`, and no digit first.
+pub fn name(field: &str) -> Result<String, ParseError> {
+    let in_name = |b: u8| b.is_ascii_alphanumeric() || b == b'_';
+    let form = field.bytes().all(in_name) && (1..=MOST_NAME).contains(&field.len());
+    if form && !field.starts_with(|c: char| c.is_ascii_digit()) {
+        return Ok(field.to_owned());
+    }
+    Err(ParseError::not("a name", field))
+}
+
+/// The places of a way, one at least.
+pub fn way(fields: &[&str]) -> Result<Vec<usize>, ParseError> {
+    if fields.is_empty() {
+        return Err(ParseError::not("a way", ""));
+    }
+    fields
+        .iter()
+        .map(|field| number::<u16>(field).map(usize::from))
+        .collect()
+}

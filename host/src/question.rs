@@ -1,0 +1,131 @@
+//! Questions as values.
+
+use crate::parse::{bit, name, number, package, ParseError};
+use crate::{Package, Type};
+use std::fmt::{self, Display, Formatter};
+use std::str::FromStr;
+
+/// A question on a table. It prints as its line, without the newline, and is read from it.
+///
+/// ```
+/// use yifgrun::{Question, Type};
+///
+/// let question: Question = "S\t7\t0\t-\tClose".parse()?;
+/// assert_eq!(question, Question::select(Type(7), false, None, "Close"));
+/// assert_eq!(question.to_string(), "S\t7\t0\t-\tClose");
+/// # Ok::<(), yifgrun::ParseError>(())
+/// ```
+#[derive(Clone, Debug, PartialEq, Eq, Hash)]
+#[non_exhaustive]
+pub enum Question {
+    /// `S t a pkg name`: which field or method is `x.name`?
+    Select {
+        /// The type of x.
+        receiver: Type,
+        /// Whether x is addressable, as a variable is.
+        addressable: bool,
+        /// The package that the selector stands in.
+        package: Option<Package>,
+        /// The selector.
+        name: String,
+    },
+    /// `M t`: what is the method set of a type?
+    MethodSet {
+        /// The type.
+        of: Type,
+    },
+    /// `N t i s`: does a type have the methods of an interface, or which does it lack?
+    Missing {
+        /// The type that should have them.
+        of: Type,
+        /// The interface: itself of kind `iface`, not a name of one.
+        interface: Type,
+        /// Of an interface `of`: whether every value must have the methods, or only some value might.
+        is_static: bool,
+    },
+    /// `I x y`: are two types identical?
+    Identical {
+        /// The one.
+        left: Type,
+        /// The other.
+        right: Type,
+    },
+    /// `C t`: can values of a type be compared?
+    Comparable {
+        /// The type.
+        of: Type,
+    },
+    /// `V`: how many packages, types and members has the table?
+    Loaded,
+}
+
+impl Question {
+    /// The question S; the others are as short as their variants.
+    pub fn select(
+        receiver: Type,
+        addressable: bool,
+        package: Option<Package>,
+        name: impl Into<String>,
+    ) -> Question {
+        Question::Select {
+            receiver,
+            addressable,
+            package,
+            name: name.into(),
+        }
+    }
+}
+
+impl Display for Question {
+    fn fmt(&self, f: &mut Formatter) -> fmt::Result {
+        match self {
+            Question::Select {
+                receiver,
+                addressable,
+                package,
+                name,
+            } => {
+                write!(f, "S\t{receiver}\t{}\t", u8::from(*addressable))?;
+                match package {
+                    Some(package) => write!(f, "{package}\t{name}"),
+                    None => write!(f, "-\t{name}"),
+                }
+            }
+            Question::MethodSet { of } => write!(f, "M\t{of}"),
+            Question::Missing {
+                of,
+                interface,
+                is_static,
+            } => write!(f, "N\t{of}\t{interface}\t{}", u8::from(*is_static)),
+            Question::Identical { left, right } => write!(f, "I\t{left}\t{right}"),
+            Question::Comparable { of } => write!(f, "C\t{of}"),
+            Question::Loaded => f.write_str("V"),
+        }
+    }
+}
+
+impl FromStr for Question {
+    type Err = ParseError;
+
+    fn from_str(line: &str) -> Result<Question, ParseError> {
+        let fields: Vec<&str> = line.split('\t').collect();
+        Ok(match fields[..] {
+            ["S", t, a, pkg, selector] => {
+                Question::select(number(t)?, bit(a)?, package(pkg)?, name(selector)?)
+            }
+            ["M", t] => Question::MethodSet { of: number(t)? },
+            ["N", t, i, s] => Question::Missing {
+                of: number(t)?,
+                interface: number(i)?,
+                is_static: bit(s)?,
+            },
+            ["I", x, y] => Question::Identical {
+                left: number(x)?,
+                right: number(y)?,
+            },
+            ["C", t] => Question::Comparable { of: number(t)? },
+            ["V"] => Question::Loaded,
+            _ => return Err(ParseError::not("a question", line)),
+        })
+    }
+}
