@@ -1,8 +1,16 @@
 /* Member selection over Go type tables: the proved library's two calls, for C and whatever calls C. yifgrun_ask is
  * for one question on a table, yifgrun_ask_all for several, which loads the table once.
  *
- * Link with libyifgrun.a, which `rt staticlib yifgrun` makes as target/staticlib/libyifgrun.a. The library keeps
- * nothing between calls and allocates nothing; calls on different buffers may run at the same time. */
+ *     uint32_t *work = malloc(yifgrun_work_words() * sizeof *work);
+ *     uint8_t answer[256];
+ *     int64_t length = yifgrun_ask(table, table_len, question, question_len, answer, sizeof answer,
+ *                                  work, yifgrun_work_words());
+ *     if (length < 0)
+ *         fprintf(stderr, "refusal %d at line %d\n", YIFGRUN_REFUSAL(length), YIFGRUN_LINE(length));
+ *
+ * Link with libyifgrun.a, which `rt staticlib yifgrun` makes as target/staticlib/libyifgrun.a, for x86-64 Linux. The
+ * library keeps nothing between calls and allocates nothing; calls on different buffers may run at the same time. A
+ * call takes less than 600 KB of stack. docs/MANUAL.md has the table text, the questions and the answers. */
 #ifndef YIFGRUN_H
 #define YIFGRUN_H
 
@@ -13,15 +21,22 @@
 extern "C" {
 #endif
 
-/* The words of the work area that a call needs. */
-#define YIFGRUN_WORK_WORDS 4096
+/* The words of work area that a call needs: fewer are refusal 1. The number stays the same as long as the archive does. */
+size_t yifgrun_work_words(void);
+
+/* The version of the archive that is linked, as one number, and its three parts. Of two versions the newer has the
+ * larger number. */
+uint32_t yifgrun_version(void);
+#define YIFGRUN_MAJOR(version) ((int)((version) >> 16))
+#define YIFGRUN_MINOR(version) ((int)((version) >> 8 & 255))
+#define YIFGRUN_PATCH(version) ((int)((version) & 255))
 
 /* Asks one question on a table.
  *
  *   table     the table text; it is only read
  *   question  one question line without its newline; it is only read
  *   answer    where the answer goes: lines that end in a newline, their fields parted by one tab
- *   work      a work area of at least YIFGRUN_WORK_WORDS words, at a multiple of four bytes; it may hold anything
+ *   work      a work area of at least yifgrun_work_words() words, at a multiple of four bytes; it may hold anything
  *
  * Each length counts bytes, that of the work area words. The buffers do not overlap. No pointer is null, also
  * where its length is 0.
@@ -73,7 +88,7 @@ int64_t yifgrun_ask_all(const uint8_t *table, size_t table_len,
 #define YIFGRUN_LINE(number) ((int)(-(number) % 65536))
 
 enum yifgrun_refusal {
-    YIFGRUN_WORK_TOO_SHORT = 1,      /* the work area has fewer than YIFGRUN_WORK_WORDS words */
+    YIFGRUN_WORK_TOO_SHORT = 1,      /* the work area has fewer words than a call needs */
     YIFGRUN_TABLE_TOO_LONG = 2,      /* the table has more than 65,536 bytes */
     YIFGRUN_HEADER = 3,              /* the first line is not exactly `typetable`, tab, `1`, newline */
     YIFGRUN_FORM = 4,                /* wrong form: letter, field count, value outside its range, or no newline */

@@ -59,5 +59,6 @@ fn a_c_program_asks() {
     );
     let ran = Command::new(&program).output().expect("it runs");
     assert!(ran.status.success());
-    assert_eq!(String::from_utf8_lossy(&ran.stdout), DUE);
+    let due = format!("version {}\n{DUE}", env!("CARGO_PKG_VERSION"));
+    assert_eq!(String::from_utf8_lossy(&ran.stdout), due);
 }

@@ -127,7 +127,7 @@ fn in_one_call(input: &str) -> String {
     let (table, questions) = typeask::texts(input.as_bytes());
     match yifgrun::Answers::new().ask_all(table, questions) {
         Ok(answers) => String::from_utf8(answers.to_vec()).expect("answers are text"),
-        Err(refusal) => format!("refused\t{}\t{}\n", refusal.number, refusal.line),
+        Err(refusal) => format!("refused\t{}\t{}\n", refusal.number(), refusal.line),
     }
 }
 

@@ -13,7 +13,7 @@ use crate::prng::Prng;
 use crate::random::{self, Shape};
 use crate::table::Table;
 use crate::{lent, many, refusals};
-use yifgrun::{each_answer, WORK_WORDS};
+use yifgrun::{each_answer, work_words, Answers};
 
 /// What a call is asked and lent.
 pub struct Call {
@@ -37,9 +37,9 @@ impl Call {
             _ => prng.below(1_000),
         };
         let words = match prng.below(20) {
-            0 => prng.below(WORK_WORDS),
-            1 => WORK_WORDS + prng.below(1_000),
-            _ => WORK_WORDS,
+            0 => prng.below(work_words()),
+            1 => work_words() + prng.below(1_000),
+            _ => work_words(),
         };
         // drawn last, so that a seed and a number stand for the call that they always stood for
         let questions = questions(&mut prng, &question, whole.as_ref());
@@ -163,7 +163,7 @@ impl Hammer {
         let result = lent::asked(&call.table, &call.question, &mut answer, &mut work);
         let given: Outcome = match result {
             Ok(length) => Ok(String::from_utf8_lossy(&answer[..length]).into_owned()),
-            Err(refusal) => Err((refusal.number, refusal.line.into())),
+            Err(refusal) => Err((refusal.number(), refusal.line.into())),
         };
         match &given {
             Ok(_) => self.counts.answered += 1,
@@ -186,8 +186,8 @@ impl Hammer {
     fn strike_all(&mut self, call: &Call) {
         let asked = (&*call.table, &*call.questions);
         let due = match call.words {
-            ..WORK_WORDS => Err((1, 0)),
-            _ => joined(asked.0, asked.1).map_err(|refusal| (refusal.number, refusal.line)),
+            words if words < work_words() => Err((1, 0)),
+            _ => joined(asked.0, asked.1).map_err(|refusal| (refusal.number(), refusal.line)),
         };
         if let Err(difference) = many::hold(asked, call.room % 20, call.words, &due) {
             panic!("{difference}");
@@ -208,9 +208,10 @@ impl Hammer {
     /// agree. Of an ambiguous name goscript shows one way, so that the two that are due are the library's own.
     fn whole(&mut self, call: &Call, (theirs, departs): Due) -> String {
         let whole = if is_ambiguous(&theirs) {
-            let answer = yifgrun::answer(&call.table, &call.question);
+            let mut answers = Answers::new();
+            let answer = answers.ask(&call.table, &call.question);
             let answer = answer.unwrap_or_else(|refusal| panic!("{refusal}, not {theirs}"));
-            String::from_utf8(answer).expect("an answer is text")
+            String::from_utf8(answer.to_vec()).expect("an answer is text")
         } else {
             theirs.clone()
         };
@@ -222,7 +223,7 @@ impl Hammer {
 
     /// What goscript's answer stands for, or the refusal that is due; no answer if there is nothing to compare with.
     fn due(&mut self, call: &Call) -> Result<Option<Due>, (u8, usize)> {
-        if call.words < WORK_WORDS {
+        if call.words < work_words() {
             return Err((1, 0));
         }
         let refused = |refused: refusals::Refused| (refused.number, refused.line);

@@ -10,7 +10,7 @@ pub type Outcome = Result<Vec<u8>, (u8, u16)>;
 fn given((table, questions): (&[u8], &[u8]), room: usize, words: usize) -> Outcome {
     let (mut answers, mut work) = (vec![0; room], vec![0; words]);
     let result = lent::asked_all(table, questions, &mut answers, &mut work);
-    let length = result.map_err(|refusal| (refusal.number, refusal.line))?;
+    let length = result.map_err(|refusal| (refusal.number(), refusal.line))?;
     answers.truncate(length);
     Ok(answers)
 }

@@ -5,7 +5,7 @@ use crate::departures::due;
 use crate::engine::Engine;
 use crate::many;
 use crate::table::Table;
-use yifgrun::WORK_WORDS;
+use yifgrun::work_words;
 
 /// Counts how the answers of goscript and the library agree; where two do not, gives the table, the question and both. The
 /// library's answers to all questions in one call are the same again.
@@ -39,6 +39,6 @@ pub fn hold(
     }
     let text = questions.join("\n");
     let asked = (table.as_bytes(), text.as_bytes());
-    many::hold(asked, 0, WORK_WORDS, &Ok(all))
+    many::hold(asked, 0, work_words(), &Ok(all))
         .map_err(|difference| format!("{table}\n{text}\n{difference}"))
 }

@@ -4,7 +4,7 @@ use crate::bounds;
 use crate::lent::{asked, asked_all};
 use crate::questions::given;
 use std::thread;
-use yifgrun::{ask, ask_all, Answers, WORK_WORDS};
+use yifgrun::{ask, ask_all, work_words, Answers};
 
 const TABLE: &str = "typetable\t1\nP\toffice/cat\nT\tbasic\t2\nT\ttuple\nT\tfunc\t0\t1\t1\nT\tnamed\t4\n\
     M\tClose\t0\t2\t1\nT\tstruct\nF\tLen\t0\t0\t0\nT\tpointer\t3\nT\tstruct\nF\tBlock\t0\t5\t1\nT\tnamed\t6\n\
@@ -44,10 +44,10 @@ fn answer_buffers_of_every_length() {
                 TABLE.as_bytes(),
                 question.as_bytes(),
                 &mut answer,
-                &mut [0; WORK_WORDS],
+                &mut vec![0; work_words()],
             );
             if room < due.len() {
-                assert_eq!(result.map_err(|r| (r.number, r.line)), Err((13, 0)));
+                assert_eq!(result.map_err(|r| (r.number(), r.line)), Err((13, 0)));
             } else {
                 let length = result.expect("there is room");
                 assert_eq!(&answer[..length], due.as_bytes(), "{question} {room}");
@@ -99,9 +99,9 @@ fn refusals_come_before_the_rooms() {
                 table.as_bytes(),
                 question.as_bytes(),
                 &mut answer,
-                &mut [0; WORK_WORDS],
+                &mut vec![0; work_words()],
             );
-            assert_eq!(result.map_err(|r| (r.number, r.line)), Err(due));
+            assert_eq!(result.map_err(|r| (r.number(), r.line)), Err(due));
         }
     }
 }
@@ -109,7 +109,7 @@ fn refusals_come_before_the_rooms() {
 /// Every word of a work area is 0 behind a call, however long it is; the answers are the same.
 #[test]
 fn work_areas_that_are_longer() {
-    let lengths = (WORK_WORDS..WORK_WORDS + 70).chain([5_000, 8_192, 65_536, 4_194_304]);
+    let lengths = (work_words()..work_words() + 70).chain([5_000, 8_192, 65_536, 4_194_304]);
     let [questions, due] = all_in_one();
     for words in lengths {
         let mut work = vec![0; words];
@@ -141,14 +141,14 @@ fn work_areas_that_are_shorter() {
         (TABLE, "X", 80),
         ("", "", 0),
     ];
-    let mut work = vec![0; WORK_WORDS];
-    for words in 0..WORK_WORDS {
+    let mut work = vec![0; work_words()];
+    for words in 0..work_words() {
         for (table, question, room) in calls {
             let mut answer = vec![0; room];
             let work = &mut work[..words];
             for call in [asked, asked_all] {
                 let result = call(table.as_bytes(), question.as_bytes(), &mut answer, work);
-                assert_eq!(result.map_err(|r| (r.number, r.line)), Err((1, 0)));
+                assert_eq!(result.map_err(|r| (r.number(), r.line)), Err((1, 0)));
             }
         }
     }
@@ -157,7 +157,7 @@ fn work_areas_that_are_shorter() {
 /// Nothing is left of a call that could change the next.
 #[test]
 fn calls_are_independent() {
-    let mut work = vec![0; WORK_WORDS];
+    let mut work = vec![0; work_words()];
     let [questions, all] = all_in_one();
     for _ in 0..3 {
         let (table, mut answers) = (TABLE.as_bytes(), [0; 400]);

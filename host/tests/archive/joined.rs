@@ -24,7 +24,7 @@ pub fn joined(table: &[u8], questions: &[u8]) -> Result<Vec<u8>, Refusal> {
 
 /// The line of a refused question.
 fn line(refusal: Refusal) -> Vec<u8> {
-    let Refusal { number, line } = refusal;
+    let (number, line) = (refusal.number(), refusal.line);
     assert!([11, 12].contains(&number) && line == 0, "{refusal}");
     format!("refused\t{number}\t{line}\n").into_bytes()
 }

@@ -1,7 +1,7 @@
 //! Calls on buffers that are filled before and looked at behind: what every call promises of them, whatever it is
 //! asked.
 
-use yifgrun::{ask, ask_all, Refusal, WORK_WORDS};
+use yifgrun::{ask, ask_all, work_words, Refusal};
 
 /// A call on a table, a question or questions, an answer buffer and a work area.
 type Call = fn(&[u8], &[u8], &mut [u8], &mut [u32]) -> Result<usize, Refusal>;
@@ -34,7 +34,7 @@ pub fn asked_all(
     work: &mut [u32],
 ) -> Result<usize, Refusal> {
     let result = checked(ask_all, table, questions, answers, work);
-    let of_question = |refusal: &Refusal| [11, 12].contains(&refusal.number);
+    let of_question = |refusal: &Refusal| [11, 12].contains(&refusal.number());
     assert!(!result.as_ref().is_err_and(of_question), "{result:?}");
     result
 }
@@ -74,7 +74,7 @@ fn checked(
 fn check_refusal(refusal: Refusal, table: &[u8]) {
     let line = usize::from(refusal.line);
     let lines = table.split_inclusive(|&b| b == b'\n').count();
-    match refusal.number {
+    match refusal.number() {
         1 | 2 | 11..=13 => assert_eq!(line, 0, "{refusal}"),
         3 => assert_eq!(line, 1, "{refusal}"),
         4..=10 => assert!((2..=lines).contains(&line), "{refusal} of {lines}"),
@@ -85,8 +85,8 @@ fn check_refusal(refusal: Refusal, table: &[u8]) {
 
 /// Refusal 1 is due for a short work area alone and leaves it; otherwise every word is 0.
 fn check_work(result: Result<usize, Refusal>, work: &[u32]) {
-    let few = matches!(result, Err(refusal) if refusal.number == 1);
-    assert_eq!(few, work.len() < WORK_WORDS, "{result:?}");
+    let few = matches!(result, Err(refusal) if refusal.number() == 1);
+    assert_eq!(few, work.len() < work_words(), "{result:?}");
     let due = |place| if few { word(place) } else { 0 };
     let first = (0..work.len()).find(|&place| work[place] != due(place));
     assert_eq!(first, None, "a word of the work area: {result:?}");

@@ -15,9 +15,11 @@ mod order;
 #[cfg(target_os = "linux")]
 mod pages;
 mod questions;
+mod rebuilt;
 #[cfg(target_os = "linux")]
 mod stack;
 mod stored;
 #[path = "../typeask/mod.rs"]
 mod typeask;
+mod values;
 mod vectors;

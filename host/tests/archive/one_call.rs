@@ -4,7 +4,7 @@ use crate::bounds;
 use crate::questions::given;
 use crate::stored::{cases, say, Case};
 use crate::typeask;
-use yifgrun::each_answer;
+use yifgrun::{each_answer, Answers};
 
 /// The number and line of a refusal, as it is printed.
 pub fn refusal(line: &[u8]) -> Option<(u8, u16)> {
@@ -37,7 +37,8 @@ fn due(case: &Case) -> Result<Vec<Vec<u8>>, (u8, u16)> {
     assert_eq!(due.len(), questions.len(), "{}", case.name);
     for (answer, question) in due.iter_mut().zip(questions) {
         if refusal(answer) == Some((13, 0)) {
-            *answer = yifgrun::answer(table, question).expect("there is room");
+            let whole = Answers::new().ask(table, question).map(<[u8]>::to_vec);
+            *answer = whole.expect("there is room");
             assert!(answer.len() > bounds::ANSWER, "{}", case.name);
         }
     }
@@ -75,7 +76,7 @@ impl Run {
         assert_eq!(shown.to_string(), due.to_string(), "{}", case.name);
         let parted = each_answer(&all).zip(each).all(|(given, due)| match given {
             Ok(answer) => answer == due,
-            Err(refused) => refusal(due) == Some((refused.number, refused.line)),
+            Err(refused) => refusal(due) == Some((refused.number(), refused.line)),
         });
         assert!(parted && each_answer(&all).count() == each.len());
         if let Some(less) = all.len().checked_sub(1) {

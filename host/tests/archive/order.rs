@@ -2,15 +2,15 @@
 
 use crate::bounds;
 use crate::lent::asked;
-use yifgrun::WORK_WORDS;
+use yifgrun::work_words;
 
 /// What loading gives: the counts that V answers, or the number and line of a refusal.
 type Loading = Result<String, (u8, u16)>;
 
 fn loading(table: &str) -> Loading {
     let mut answer = [0; 80];
-    let (table, work) = (table.as_bytes(), &mut [0; WORK_WORDS]);
-    let length = asked(table, b"V", &mut answer, work).map_err(|r| (r.number, r.line))?;
+    let (table, work) = (table.as_bytes(), &mut vec![0; work_words()]);
+    let length = asked(table, b"V", &mut answer, work).map_err(|r| (r.number(), r.line))?;
     Ok(String::from_utf8_lossy(&answer[..length]).into_owned())
 }
 

@@ -7,7 +7,7 @@ use crate::joined::joined;
 use crate::lent::{asked, asked_all};
 use crate::stored::{cases, say};
 use crate::typeask::{parted, texts, Ask};
-use yifgrun::{Refusal, WORK_WORDS};
+use yifgrun::{work_words, Refusal};
 
 const SIDES: [Side; 2] = [Side::Front, Side::Back];
 
@@ -28,7 +28,7 @@ impl Pages {
             table: Fenced::new(1 << 17),
             question: Fenced::new(1 << 17),
             answer: Fenced::new(1 << 20),
-            work: Fenced::new(4 * (WORK_WORDS + 1_000)),
+            work: Fenced::new(4 * (work_words() + 1_000)),
         }
     }
 
@@ -88,9 +88,9 @@ fn stored_questions_touch_only_what_is_lent() {
         // The second time the room is just the answer's length, so that the page behind follows its last byte.
         for question in questions {
             let room = pages
-                .ask([Side::Front; 4], (table, question), (1 << 14, WORK_WORDS))
+                .ask([Side::Front; 4], (table, question), (1 << 14, work_words()))
                 .map_or(64, |answer| answer.len());
-            let back = pages.ask([Side::Back; 4], (table, question), (room, WORK_WORDS));
+            let back = pages.ask([Side::Back; 4], (table, question), (room, work_words()));
             assert!(
                 back.map_or(64, |answer| answer.len()) == room,
                 "{}",
@@ -113,13 +113,13 @@ fn stored_texts_touch_only_what_is_lent() {
         let due = joined(table, questions);
         let room = due.as_ref().map_or(64, Vec::len);
         for side in SIDES {
-            let lent = (room, WORK_WORDS);
+            let lent = (room, work_words());
             let given = pages.ask_all([side; 4], (table, questions), lent);
             assert!(given == due, "{}", case.name);
-            let lent = (room.saturating_sub(1), WORK_WORDS);
+            let lent = (room.saturating_sub(1), work_words());
             let given = pages.ask_all([side; 4], (table, questions), lent);
             let short = due.as_ref().is_ok_and(|answers| !answers.is_empty());
-            let number = given.map_err(|refusal| refusal.number);
+            let number = given.map_err(|refusal| refusal.number());
             assert_eq!(number == Err(13), short, "{}", case.name);
         }
     }
@@ -158,14 +158,14 @@ fn every_choice_of_sides() {
         b"typetable\t1\nP\tab\nP\ta\n",
     ];
     let rooms = [0, 1, 3, 16, 40];
-    let words = [0, 1, WORK_WORDS - 1, WORK_WORDS, WORK_WORDS + 1];
+    let words = [0, 1, work_words() - 1, work_words(), work_words() + 1];
     for sides in all_sides() {
         for question in QUESTIONS {
             for lent in rooms.iter().flat_map(|&r| words.map(|w| (r, w))) {
                 for table in tables {
                     let result = pages.ask(sides, (table, question.as_bytes()), lent);
-                    let few = matches!(result, Err(refusal) if refusal.number == 1);
-                    assert_eq!(few, lent.1 < WORK_WORDS, "{question} {lent:?}");
+                    let few = matches!(result, Err(refusal) if refusal.number() == 1);
+                    assert_eq!(few, lent.1 < work_words(), "{question} {lent:?}");
                 }
             }
         }
@@ -194,15 +194,15 @@ fn every_choice_of_sides_for_many_questions() {
         let length = due.as_ref().map_or(0, Vec::len);
         for sides in all_sides() {
             let rooms = [0, 12, length.saturating_sub(1), length, length + 1];
-            let words = [0, WORK_WORDS - 1, WORK_WORDS, WORK_WORDS + 1];
+            let words = [0, work_words() - 1, work_words(), work_words() + 1];
             for lent in rooms.iter().flat_map(|&r| words.map(|w| (r, w))) {
                 let given = pages.ask_all(sides, (table, questions), lent);
-                let given = given.map_err(|refusal| refusal.number);
+                let given = given.map_err(|refusal| refusal.number());
                 let due = match &due {
-                    _ if lent.1 < WORK_WORDS => Err(1),
+                    _ if lent.1 < work_words() => Err(1),
                     Ok(answers) if answers.len() > lent.0 => Err(13),
                     Ok(answers) => Ok(answers.clone()),
-                    Err(refusal) => Err(refusal.number),
+                    Err(refusal) => Err(refusal.number()),
                 };
                 assert_eq!(given, due, "{lent:?} {}", questions.escape_ascii());
             }
@@ -230,15 +230,15 @@ fn longest_tables_and_questions() {
     let mut pages = Pages::new();
     for side in SIDES {
         for bytes in bounds::TEXT - 8..bounds::TEXT + 8 {
-            let result = pages.ask([side; 4], (&filled(bytes), b"V"), (40, WORK_WORDS));
+            let result = pages.ask([side; 4], (&filled(bytes), b"V"), (40, work_words()));
             let due = match bytes {
                 ..=bounds::TEXT => Ok(b"ok\t1\t9\t5\n".to_vec()),
                 _ => Err(2),
             };
-            assert_eq!(result.map_err(|refusal| refusal.number), due, "{bytes}");
-            let result = pages.ask_all([side; 4], (&filled(bytes), b"V\nV"), (22, WORK_WORDS));
+            assert_eq!(result.map_err(|refusal| refusal.number()), due, "{bytes}");
+            let result = pages.ask_all([side; 4], (&filled(bytes), b"V\nV"), (22, work_words()));
             let due = due.map(|answer| answer.repeat(2));
-            assert_eq!(result.map_err(|refusal| refusal.number), due, "{bytes}");
+            assert_eq!(result.map_err(|refusal| refusal.number()), due, "{bytes}");
         }
         for bytes in [
             bounds::QUESTION - 1,
@@ -249,9 +249,9 @@ fn longest_tables_and_questions() {
             for byte in [b'S', b'\t', b'0', 0, 255] {
                 let question = vec![byte; bytes];
                 let asked = (TABLE.as_bytes(), &*question);
-                let result = pages.ask([side; 4], asked, (40, WORK_WORDS));
-                assert_eq!(result.map_err(|refusal| refusal.number), Err(11));
-                let result = pages.ask_all([side; 4], asked, (13, WORK_WORDS));
+                let result = pages.ask([side; 4], asked, (40, work_words()));
+                assert_eq!(result.map_err(|refusal| refusal.number()), Err(11));
+                let result = pages.ask_all([side; 4], asked, (13, work_words()));
                 assert_eq!(result, Ok(b"refused\t11\t0\n".to_vec()));
             }
         }

@@ -4,13 +4,14 @@ use crate::bounds;
 use crate::joined::{joined, lines};
 use crate::lent::asked_all;
 use crate::numbers::Numbers;
-use yifgrun::{each_answer, Answers, WORK_WORDS};
+use yifgrun::{each_answer, work_words, Answers};
 
 /// What the call gives in a buffer of so many bytes: the answers, or the number and line of a refusal.
 pub fn given(table: &[u8], questions: &[u8], room: usize) -> Result<Vec<u8>, (u8, u16)> {
     let mut answers = vec![0; room];
-    let work = &mut [0; WORK_WORDS];
-    let length = asked_all(table, questions, &mut answers, work).map_err(|r| (r.number, r.line))?;
+    let work = &mut vec![0; work_words()];
+    let length =
+        asked_all(table, questions, &mut answers, work).map_err(|r| (r.number(), r.line))?;
     answers.truncate(length);
     Ok(answers)
 }
@@ -208,12 +209,12 @@ fn random_texts_get_what_their_lines_get_alone() {
 #[test]
 fn random_answers_are_parted() {
     let mut numbers = Numbers(2);
-    let mut answers = Answers::new();
+    let (mut answers, mut one) = (Answers::new(), Answers::new());
     for _ in 0..1_000 {
         let (table, questions) = (TABLE.as_bytes(), text(&mut numbers));
         let all = answers.ask_all(table, &questions).expect("the table loads");
         let each: Vec<_> = each_answer(all).map(|a| a.map(<[u8]>::to_vec)).collect();
-        let alone = lines(&questions).map(|question| yifgrun::answer(table, question));
+        let alone = lines(&questions).map(|question| one.ask(table, question).map(<[u8]>::to_vec));
         assert!(alone.eq(each), "{}", questions.escape_ascii());
     }
 }

@@ -7,7 +7,7 @@ use crate::stored::say;
 use crate::typeask::Ask;
 use std::ffi::c_void;
 use std::thread;
-use yifgrun::{Answers, Refusal, WORK_WORDS};
+use yifgrun::{work_words, Answers, Refusal};
 
 /// A table, a question or a text of questions, and what is due for it.
 struct Deep {
@@ -254,7 +254,7 @@ impl Deep {
 
     fn run(&self, ask: Ask) {
         let mut answer = vec![0; bounds::ANSWER];
-        let mut work = vec![0; WORK_WORDS];
+        let mut work = vec![0; work_words()];
         let (table, question) = (self.table.as_bytes(), self.question.as_bytes());
         let result = ask(table, question, &mut answer, &mut work);
         let length = result.unwrap_or_else(|refusal| panic!("{}: {refusal}", self.name));

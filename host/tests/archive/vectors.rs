@@ -7,7 +7,7 @@ use crate::questions::given;
 use crate::stored::{base_calls, calls, cases, say};
 use crate::typeask;
 use std::collections::BTreeSet;
-use yifgrun::WORK_WORDS;
+use yifgrun::work_words;
 
 #[test]
 fn typeask_prints_what_is_stored() {
@@ -137,14 +137,14 @@ impl Call<'_> {
             &self.table,
             &self.question,
             &mut answer,
-            &mut [0; WORK_WORDS],
+            &mut vec![0; work_words()],
         );
         let returned = match result {
             Ok(length) => {
                 assert_eq!(&answer[..length], self.answer, "{}", self.line);
                 length as i64
             }
-            Err(refusal) => -(i64::from(refusal.number) * 65_536 + i64::from(refusal.line)),
+            Err(refusal) => -(i64::from(refusal.number()) * 65_536 + i64::from(refusal.line)),
         };
         assert_eq!(returned, self.number, "{}", self.line);
     }

@@ -2,6 +2,7 @@
 #include "yifgrun.h"
 
 #include <stdio.h>
+#include <stdlib.h>
 #include <string.h>
 
 static const char table[] =
@@ -13,7 +14,10 @@ static const char table[] =
 static const char recurring[] = "typetable\t1\nP\toffice/cat\nP\toffice/cat\n";
 
 static uint8_t answer[64];
-static uint32_t work[YIFGRUN_WORK_WORDS + 1];
+
+/* A work area of a word more than a call needs, and the words that it needs. */
+static uint32_t *work;
+static size_t needed;
 
 /* The call that is tried: yifgrun_ask, then yifgrun_ask_all. */
 typedef int64_t call(const uint8_t *, size_t, const uint8_t *, size_t, uint8_t *, size_t, uint32_t *, size_t);
@@ -24,7 +28,7 @@ static int64_t ask(const char *text, const char *question, size_t room, size_t w
 {
     size_t i;
     memset(answer, '.', sizeof answer);
-    for (i = 0; i < sizeof work / sizeof work[0]; i++)
+    for (i = 0; i < needed + 1; i++)
         work[i] = 7;
     return asks((const uint8_t *)text, strlen(text), (const uint8_t *)question, strlen(question),
                 answer, room, work, words);
@@ -34,7 +38,7 @@ static int64_t ask(const char *text, const char *question, size_t room, size_t w
 static int work_is(uint32_t word, size_t words)
 {
     size_t i;
-    for (i = 0; i < sizeof work / sizeof work[0]; i++)
+    for (i = 0; i < needed + 1; i++)
         if (work[i] != (i < words ? word : 7))
             return 0;
     return 1;
@@ -42,11 +46,11 @@ static int work_is(uint32_t word, size_t words)
 
 static void print_answer(const char *question)
 {
-    int64_t length = ask(table, question, sizeof answer, YIFGRUN_WORK_WORDS);
+    int64_t length = ask(table, question, sizeof answer, needed);
     if (length >= 0)
         printf("%.*s", (int)length, (const char *)answer);
     printf("rest %s, work %s\n", answer[length < 0 ? 0 : length] == '.' ? "kept" : "changed",
-           work_is(0, YIFGRUN_WORK_WORDS) ? "zero" : "not zero");
+           work_is(0, needed) ? "zero" : "not zero");
 }
 
 static void print_refusal(const char *text, const char *question, size_t room, size_t words)
@@ -66,11 +70,11 @@ static void ask_one(void)
     print_answer("S\t8\t0\t0\tLen");
     print_answer("M\t7");
     print_answer("C\t2");
-    print_refusal(table, "V", sizeof answer, YIFGRUN_WORK_WORDS - 1);
-    print_refusal("typetable\t1\nT\tnamed\t9\n", "V", sizeof answer, YIFGRUN_WORK_WORDS);
-    print_refusal(recurring, "V", sizeof answer, YIFGRUN_WORK_WORDS);
-    print_refusal(table, "X", 0, YIFGRUN_WORK_WORDS + 1);
-    print_refusal(table, "M\t7", 3, YIFGRUN_WORK_WORDS);
+    print_refusal(table, "V", sizeof answer, needed - 1);
+    print_refusal("typetable\t1\nT\tnamed\t9\n", "V", sizeof answer, needed);
+    print_refusal(recurring, "V", sizeof answer, needed);
+    print_refusal(table, "X", 0, needed + 1);
+    print_refusal(table, "M\t7", 3, needed);
 }
 
 static void ask_all(void)
@@ -79,15 +83,24 @@ static void ask_all(void)
     print_answer("S\t8\t0\t0\tLen\nX\nC\t2\n");
     print_answer("N\t3\t7\t0\n\nC\t0");
     print_answer("");
-    print_refusal(table, "V\nV\n", sizeof answer, YIFGRUN_WORK_WORDS - 1);
-    print_refusal("typetable\t1\nT\tnamed\t9\n", "", sizeof answer, YIFGRUN_WORK_WORDS);
-    print_refusal(recurring, "X\n", 0, YIFGRUN_WORK_WORDS + 1);
-    print_refusal(table, "C\t2\nX\nC\t0\n", 19, YIFGRUN_WORK_WORDS);
+    print_refusal(table, "V\nV\n", sizeof answer, needed - 1);
+    print_refusal("typetable\t1\nT\tnamed\t9\n", "", sizeof answer, needed);
+    print_refusal(recurring, "X\n", 0, needed + 1);
+    print_refusal(table, "C\t2\nX\nC\t0\n", 19, needed);
 }
 
 int main(void)
 {
+    uint32_t version = yifgrun_version();
+    int refusal;
+    needed = yifgrun_work_words();
+    work = malloc((needed + 1) * sizeof *work);
+    if (work == NULL)
+        return 1;
+    printf("version %d.%d.%d\n", YIFGRUN_MAJOR(version), YIFGRUN_MINOR(version), YIFGRUN_PATCH(version));
     ask_one();
     ask_all();
-    return YIFGRUN_REFUSAL(ask(recurring, "V", sizeof answer, YIFGRUN_WORK_WORDS)) != YIFGRUN_PACKAGE_ORDER;
+    refusal = YIFGRUN_REFUSAL(ask(recurring, "V", sizeof answer, needed));
+    free(work);
+    return refusal != YIFGRUN_PACKAGE_ORDER;
 }

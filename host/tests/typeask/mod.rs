@@ -2,7 +2,7 @@
 
 use crate::bounds;
 use std::collections::BTreeSet;
-use yifgrun::{Refusal, WORK_WORDS};
+use yifgrun::{work_words, Refusal};
 
 /// Every answer word, and every refusal but the first: `typeask` has a work area of its own.
 pub const WORDS: [&str; 25] = [
@@ -69,7 +69,10 @@ pub fn print(input: &[u8], ask: Ask) -> Vec<u8> {
     }
     for question in questions {
         if let Err(refusal) = say_answer(table, question, ask, &mut printed) {
-            assert!(!refusal.is_of_table(), "the table loaded before: {refusal}");
+            assert!(
+                !refusal.kind.is_of_table(),
+                "the table loaded before: {refusal}"
+            );
             printed.extend(line(refusal));
         }
     }
@@ -82,14 +85,14 @@ fn say_answer(
     ask: Ask,
     printed: &mut Vec<u8>,
 ) -> Result<(), Refusal> {
-    let (mut answer, mut work) = ([0; bounds::ANSWER], [0; WORK_WORDS]);
+    let (mut answer, mut work) = ([0; bounds::ANSWER], vec![0; work_words()]);
     let length = ask(table, question, &mut answer, &mut work)?;
     printed.extend(&answer[..length]);
     Ok(())
 }
 
 fn line(refusal: Refusal) -> Vec<u8> {
-    format!("refused\t{}\t{}\n", refusal.number, refusal.line).into_bytes()
+    format!("refused\t{}\t{}\n", refusal.number(), refusal.line).into_bytes()
 }
 
 /// The word that each line printed starts with, for a refusal with its number.

@@ -6,7 +6,7 @@
 use compare::engine;
 use compare::hammer::{Call, Hammer};
 use std::io::{self, Write};
-use yifgrun::WORK_WORDS;
+use yifgrun::work_words;
 
 /// An input is no longer than this, so that many can be stored.
 const LONGEST: usize = 1_000;
@@ -29,7 +29,7 @@ fn main() -> io::Result<()> {
             break;
         }
         let call = Call {
-            words: WORK_WORDS,
+            words: work_words(),
             ..Call::new(seed, number)
         };
         let Some(input) = input(&call) else { continue };
