@@ -1,49 +1,15 @@
 //! The examples of the documents, run: each block ```typeask is an input of the program, and the block ```prints
 //! behind it is what the program prints, and what one call gives for all its questions.
 
+mod blocks;
 mod bounds;
 mod typeask;
 
+use blocks::{blocks, only, read, Block};
 use std::collections::BTreeSet;
-use std::fs;
 use std::path::Path;
-
-/// The words that may stand behind an opening fence, so that a slip in one is no example lost.
-const KINDS: [&str; 6] = ["typeask", "prints", "rust", "go", "sh", "text"];
-
-/// A fenced block, and the number of its first line in the document.
-struct Block<'a> {
-    kind: &'a str,
-    lines: Vec<&'a str>,
-    first: usize,
-    /// Whether nothing but empty lines stands between it and the block before.
-    follows: bool,
-}
-
-/// The fenced blocks of a document.
-fn blocks(text: &str) -> Vec<Block<'_>> {
-    let mut blocks: Vec<Block> = Vec::new();
-    let (mut open, mut follows) = (false, false);
-    for (line, n) in text.lines().zip(1..) {
-        match line.strip_prefix("```") {
-            Some("") if open => (open, follows) = (false, true),
-            Some(kind) if !open => {
-                assert!(KINDS.contains(&kind), "line {n}: no kind of block: {line}");
-                blocks.push(Block {
-                    kind,
-                    lines: Vec::new(),
-                    first: n + 1,
-                    follows,
-                });
-                open = true;
-            }
-            _ if open => blocks.last_mut().expect("an open block").lines.push(line),
-            _ => follows = follows && line.is_empty(),
-        }
-    }
-    assert!(!open, "the last block has no end");
-    blocks
-}
+use std::process::Command;
+use std::{fs, os};
 
 /// An input of `typeask`, what it prints, and the line of the document where it stands.
 struct Example {
@@ -116,12 +82,6 @@ fn written(line: &str) -> String {
         .collect()
 }
 
-/// A file of the repository, by its path from the root.
-fn read(path: &str) -> String {
-    let root = Path::new(env!("CARGO_MANIFEST_DIR")).join("..");
-    fs::read_to_string(root.join(path)).unwrap_or_else(|e| panic!("{path}: {e}"))
-}
-
 /// What one call gives for all questions of an example, with the refusal of its table as the program prints it.
 fn in_one_call(input: &str) -> String {
     let (table, questions) = typeask::texts(input.as_bytes());
@@ -155,6 +115,45 @@ fn run(document: &str, least: usize) -> Vec<Example> {
 #[test]
 fn the_readme_is_right() {
     run("README.md", 1);
+}
+
+/// What a package says beside the README's lines. It is a workspace of its own, since the tests' folder lies within another.
+const PROGRAM: &str = "\
+[workspace]
+
+[package]
+name = \"program\"
+version = \"0.1.0\"
+edition = \"2021\"
+
+";
+
+/// The program of the README in a package of its own, as its lines say: beside the repository, and linked with the archive.
+#[test]
+fn the_program_of_the_readme_is_linked() {
+    let folder = Path::new(env!("CARGO_TARGET_TMPDIR")).join("linked");
+    let _ = fs::remove_dir_all(&folder);
+    fs::create_dir_all(folder.join("program/src")).expect("a folder");
+    let root = Path::new(env!("CARGO_MANIFEST_DIR")).parent();
+    os::unix::fs::symlink(root.expect("a folder"), folder.join("yifgrun")).expect("a link");
+    let manifest = PROGRAM.to_owned() + &only("README.md", "toml");
+    fs::write(folder.join("program/Cargo.toml"), manifest).expect("a file");
+    fs::write(
+        folder.join("program/src/main.rs"),
+        only("README.md", "rust"),
+    )
+    .expect("a file");
+    let ran = Command::new(env!("CARGO"))
+        .args(["run", "--offline", "--quiet"])
+        .current_dir(folder.join("program"))
+        .env("YIFGRUN_ARCHIVE", env!("YIFGRUN_LINKED"))
+        .env("CARGO_TARGET_DIR", folder.join("target"))
+        .output();
+    let ran = ran.expect("cargo runs");
+    assert!(ran.status.success(), "{ran:?}");
+    let printed = String::from_utf8(ran.stdout).expect("text");
+    let said = format!("It prints `{}`", printed.trim_end());
+    assert!(read("README.md").contains(&said), "{said}");
 }
 
 /// Every letter of a question with every word that its answer may begin with.
@@ -197,6 +196,7 @@ fn the_newest_entry_of_the_changelog_is_this_version() {
     let compare = read("host/compare/Cargo.toml");
     let version = format!("version = \"{}\"", env!("CARGO_PKG_VERSION"));
     assert!(compare.lines().any(|line| line == version), "not {version}");
+    assert_eq!(yifgrun::version().to_string(), env!("CARGO_PKG_VERSION"));
 }
 
 const INPUT: &str = "```typeask\ntypetable 1\nT basic 2  // int\nQ\nC 0\n```\n";
