@@ -24,11 +24,11 @@ const (
 	isTypeParameter reason = "type parameter"
 	badName         reason = "name not ASCII or too long"
 	badPath         reason = "path not ASCII or too long"
-	manyTypeMembers reason = "members of one type"
-	manyTypes       reason = "types"
-	manyMembers     reason = "members"
-	manyPackages    reason = "packages"
-	manyBytes       reason = "bytes"
+	manyTypeMembers reason = "too many members of one type"
+	manyTypes       reason = "too many types"
+	manyMembers     reason = "too many members"
+	manyPackages    reason = "too many packages"
+	manyBytes       reason = "too many bytes"
 )
 
 // reasons are all of them, in the order in which they are told.
