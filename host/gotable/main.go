@@ -77,7 +77,7 @@ func run(o options) bool {
 		err = os.MkdirAll(o.folder, 0o777)
 	}
 	if err != nil {
-		return tell(err)
+		return tell(fmt.Errorf("gotable: %w", err))
 	}
 	written := map[string]bool{}
 	all := true
