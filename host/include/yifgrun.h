@@ -1,16 +1,10 @@
 /* Member selection over Go type tables: the proved library's two calls, for C and whatever calls C. yifgrun_ask is
  * for one question on a table, yifgrun_ask_all for several, which loads the table once.
  *
- *     uint32_t *work = malloc(yifgrun_work_words() * sizeof *work);
- *     uint8_t answer[256];
- *     int64_t length = yifgrun_ask(table, table_len, question, question_len, answer, sizeof answer,
- *                                  work, yifgrun_work_words());
- *     if (length < 0)
- *         fprintf(stderr, "refusal %d at line %d\n", YIFGRUN_REFUSAL(length), YIFGRUN_LINE(length));
- *
  * Link with libyifgrun.a, which `rt staticlib yifgrun` makes as target/staticlib/libyifgrun.a, for x86-64 Linux. The
  * library keeps nothing between calls and allocates nothing; calls on different buffers may run at the same time. A
- * call takes less than 600 KB of stack. docs/MANUAL.md has the table text, the questions and the answers. */
+ * call takes less than 600 KB of stack. docs/ENTRY.md has a program, docs/MANUAL.md the table text, the questions and
+ * the answers. */
 #ifndef YIFGRUN_H
 #define YIFGRUN_H
 

@@ -1,5 +1,9 @@
-//! A C program over the header `include/yifgrun.h`, compiled and linked with the archive where there is a C compiler.
+//! C programs over the header `include/yifgrun.h`, compiled and linked with the archive where there is a C compiler.
 
+mod blocks;
+
+use blocks::only;
+use std::fs;
 use std::io::{self, Write};
 use std::path::Path;
 use std::process::Command;
@@ -36,29 +40,43 @@ refusal 14 line 3, kept, work right
 refusal 13 line 0, kept, work right
 ";
 
-#[test]
-fn a_c_program_asks() {
+/// What a C program prints that is compiled with the header and linked with the archive; nothing where there is no compiler.
+fn printed(source: &Path, name: &str) -> Option<String> {
     let root = Path::new(env!("CARGO_MANIFEST_DIR"));
-    let program = Path::new(env!("CARGO_TARGET_TMPDIR")).join("ask");
+    let program = Path::new(env!("CARGO_TARGET_TMPDIR")).join(name);
     let compiled = Command::new("cc")
         .args(["-std=c99", "-Wall", "-Wextra", "-Werror", "-pedantic", "-I"])
         .arg(root.join("include"))
-        .arg(root.join("tests/c/ask.c"))
+        .arg(source)
         .arg(env!("YIFGRUN_LINKED"))
         .arg("-o")
         .arg(&program)
         .output();
     let Ok(compiled) = compiled else {
-        writeln!(io::stderr(), "there is no cc: the C program is not run").expect("a line");
-        return;
+        writeln!(io::stderr(), "there is no cc: {name} is not run").expect("a line");
+        return None;
     };
-    assert!(
-        compiled.status.success(),
-        "{}",
-        String::from_utf8_lossy(&compiled.stderr)
-    );
+    let said = String::from_utf8_lossy(&compiled.stderr);
+    assert!(compiled.status.success(), "{said}");
     let ran = Command::new(&program).output().expect("it runs");
-    assert!(ran.status.success());
-    let due = format!("version {}\n{DUE}", env!("CARGO_PKG_VERSION"));
-    assert_eq!(String::from_utf8_lossy(&ran.stdout), due);
+    assert!(ran.status.success(), "{ran:?}");
+    Some(String::from_utf8(ran.stdout).expect("text"))
+}
+
+#[test]
+fn a_c_program_asks() {
+    let source = Path::new(env!("CARGO_MANIFEST_DIR")).join("tests/c/ask.c");
+    if let Some(printed) = printed(&source, "ask") {
+        let due = format!("version {}\n{DUE}", env!("CARGO_PKG_VERSION"));
+        assert_eq!(printed, due);
+    }
+}
+
+#[test]
+fn the_program_of_the_documents_asks() {
+    let source = Path::new(env!("CARGO_TARGET_TMPDIR")).join("entry.c");
+    fs::write(&source, only("docs/ENTRY.md", "c")).expect("a file");
+    if let Some(printed) = printed(&source, "entry") {
+        assert_eq!(printed.replace('\t', " "), only("docs/ENTRY.md", "text"));
+    }
 }

@@ -4,12 +4,14 @@
 
 #[path = "gotable/answers.rs"]
 mod answers;
+mod blocks;
 #[path = "gotable/limits.rs"]
 mod limits;
 #[path = "gotable/program.rs"]
 mod program;
 
 use answers::{compare_all, pairs};
+use blocks::only;
 use program::{command, empty_folder, go, gotable, host, run, say, sum, written};
 use std::fs;
 use std::path::{Path, PathBuf};
@@ -59,6 +61,8 @@ fn the_standard_library() {
     let lines = compare_packages("the standard library", &[], &STANDARD);
     if let Some(lines) = lines {
         assert!(sum(&lines, "selectors") >= SELECTORS);
+        let shown = only("host/gotable/README.md", "text");
+        assert!(lines.contains(&shown), "the README shows {shown}");
     }
 }
 
