@@ -1,6 +1,6 @@
 //! Answers as values.
 
-use crate::parse::{bit, number, way, ParseError};
+use crate::parse::{Fields, ParseError};
 use crate::Member;
 use std::fmt::{self, Display, Formatter};
 use std::str::FromStr;
@@ -167,87 +167,75 @@ impl FromStr for Answer {
     fn from_str(text: &str) -> Result<Answer, ParseError> {
         let none = || ParseError::not("an answer", text);
         let body = text.strip_suffix('\n').ok_or_else(none)?;
-        let lines: Vec<Vec<&str>> = body.split('\n').map(fields).collect();
-        let (first, behind) = lines.split_first().ok_or_else(none)?;
-        match (&first[..], behind) {
-            (["set", count], methods) => method_set(count, methods),
-            (["ambiguous", first @ ..], [and]) => ambiguous(first, and),
-            (line, []) => one_line(line).unwrap_or_else(|| Err(none())),
-            _ => Err(none()),
-        }
+        let mut lines = body.split('\n').map(|line| Fields::of(line, "an answer"));
+        let first = lines.next().ok_or_else(none)?;
+        let answer = read(first, &mut lines)?;
+        lines.next().map_or(Ok(answer), |_| Err(none()))
     }
 }
 
-fn fields(line: &str) -> Vec<&str> {
-    line.split('\t').collect()
+/// The answer that begins with a line, with those of the lines behind that go on with it.
+fn read<'a>(
+    mut line: Fields<'a>,
+    behind: &mut impl Iterator<Item = Fields<'a>>,
+) -> Result<Answer, ParseError> {
+    let answer = match line.field()? {
+        "entry" => Answer::Selection(entry(&mut line)?),
+        "badreceiver" => Answer::Selection(Selection::BadReceiver),
+        "ambiguous" => Answer::Selection(Selection::Ambiguous {
+            first: line.way()?,
+            second: second(behind.next().ok_or_else(|| line.wrong())?)?,
+        }),
+        "notfound" => Answer::Selection(Selection::NotFound),
+        "set" => {
+            let count = line.number::<u16>()?;
+            let each = (0..count).map(|_| method(behind.next().ok_or_else(|| line.wrong())?));
+            Answer::MethodSet(each.collect::<Result<_, _>>()?)
+        }
+        "satisfied" => Answer::Satisfaction(Satisfaction::Satisfied),
+        "missing" => Answer::Satisfaction(Satisfaction::Missing {
+            method: line.number()?,
+            wrong_type: line.bit()?,
+        }),
+        "yes" => Answer::Holds(true),
+        "no" => Answer::Holds(false),
+        "ok" => Answer::Loaded(counts(&mut line)?),
+        _ => return Err(line.wrong()),
+    };
+    line.end(answer)
 }
 
-/// An answer of one line, if its fields are as many as its first one asks for.
-fn one_line(line: &[&str]) -> Option<Result<Answer, ParseError>> {
-    Some(match line {
-        ["entry", member, indirect, places @ ..] => entry(member, indirect, places),
-        ["badreceiver"] => Ok(Answer::Selection(Selection::BadReceiver)),
-        ["notfound"] => Ok(Answer::Selection(Selection::NotFound)),
-        ["satisfied"] => Ok(Answer::Satisfaction(Satisfaction::Satisfied)),
-        ["missing", method, wrong_type] => missing(method, wrong_type),
-        ["yes"] => Ok(Answer::Holds(true)),
-        ["no"] => Ok(Answer::Holds(false)),
-        ["ok", packages, types, members] => loaded(packages, types, members),
-        _ => return None,
+fn entry(line: &mut Fields) -> Result<Selection, ParseError> {
+    Ok(Selection::Entry {
+        member: line.number()?,
+        indirect: line.bit()?,
+        way: line.way()?,
     })
 }
 
-fn entry(member: &str, indirect: &str, places: &[&str]) -> Result<Answer, ParseError> {
-    Ok(Answer::Selection(Selection::Entry {
-        member: number(member)?,
-        indirect: bit(indirect)?,
-        way: way(places)?,
-    }))
-}
-
-fn missing(method: &str, wrong_type: &str) -> Result<Answer, ParseError> {
-    Ok(Answer::Satisfaction(Satisfaction::Missing {
-        method: number(method)?,
-        wrong_type: bit(wrong_type)?,
-    }))
-}
-
-fn loaded(packages: &str, types: &str, members: &str) -> Result<Answer, ParseError> {
-    Ok(Answer::Loaded(Counts {
-        packages: number(packages)?,
-        types: number(types)?,
-        members: number(members)?,
-    }))
-}
-
-fn ambiguous(first: &[&str], line: &[&str]) -> Result<Answer, ParseError> {
-    match line {
-        ["and", second @ ..] => Ok(Answer::Selection(Selection::Ambiguous {
-            first: way(first)?,
-            second: way(second)?,
-        })),
-        _ => Err(ParseError::not("a second way", &line.join("\t"))),
+/// The second way of an ambiguous name.
+fn second(mut line: Fields) -> Result<Vec<usize>, ParseError> {
+    match line.field()? {
+        "and" => line.way(),
+        _ => Err(line.wrong()),
     }
 }
 
-fn method_set(count: &str, lines: &[Vec<&str>]) -> Result<Answer, ParseError> {
-    let methods: Vec<Method> = lines
-        .iter()
-        .map(|line| method(line))
-        .collect::<Result<_, _>>()?;
-    if usize::from(number::<u16>(count)?) != methods.len() {
-        return Err(ParseError::not("the count of the lines behind", count));
-    }
-    Ok(Answer::MethodSet(methods))
-}
-
-fn method(line: &[&str]) -> Result<Method, ParseError> {
-    match line {
-        ["sel", member, indirect, places @ ..] => Ok(Method {
-            member: number(member)?,
-            indirect: bit(indirect)?,
-            way: way(places)?,
+fn method(mut line: Fields) -> Result<Method, ParseError> {
+    match line.field()? {
+        "sel" => Ok(Method {
+            member: line.number()?,
+            indirect: line.bit()?,
+            way: line.way()?,
         }),
-        _ => Err(ParseError::not("a method", &line.join("\t"))),
+        _ => Err(line.wrong()),
     }
+}
+
+fn counts(line: &mut Fields) -> Result<Counts, ParseError> {
+    Ok(Counts {
+        packages: line.number()?,
+        types: line.number()?,
+        members: line.number()?,
+    })
 }

@@ -2,6 +2,7 @@
 
 use crate::{each_answer, Answer, Answers, Counts, Method, Package, Question, Refusal};
 use crate::{Satisfaction, Selection, Type};
+use std::fmt::Write;
 use std::str;
 
 /// A table that loads, with the buffers of its questions.
@@ -142,7 +143,8 @@ impl Library {
     /// # Ok::<(), yifgrun::Refusal>(())
     /// ```
     pub fn ask_all(&mut self, questions: &[Question]) -> Vec<Result<Answer, Refusal>> {
-        let lines: String = questions.iter().map(line).collect();
+        let mut lines = String::new();
+        questions.iter().for_each(|q| push_line(&mut lines, q));
         match self.answers.ask_all(&self.table, lines.as_bytes()) {
             Ok(answers) => each_answer(answers).map(|a| a.map(read)).collect(),
             Err(refusal) => panic!("a table that loaded is refused: {refusal}"),
@@ -150,14 +152,15 @@ impl Library {
     }
 }
 
-/// A question with its newline. No line has a newline within: for a name with one an empty line is asked, which has a
+/// Puts a question behind others. No line has a newline within: for a name with one an empty line is asked, which has a
 /// wrong form too.
-fn line(question: &Question) -> String {
-    let line = question.to_string();
-    if line.contains('\n') {
-        return "\n".to_owned();
+fn push_line(lines: &mut String, question: &Question) {
+    let begin = lines.len();
+    write!(lines, "{question}").expect("a text takes a line");
+    if lines[begin..].contains('\n') {
+        lines.truncate(begin);
     }
-    line + "\n"
+    lines.push('\n');
 }
 
 /// An answer of the archive as a value. It is proved that answers have these forms.

@@ -3,6 +3,8 @@
 use crate::Package;
 use std::error::Error;
 use std::fmt::{self, Display, Formatter};
+use std::iter;
+use std::str::Split;
 
 /// A text that is no question or no answer.
 ///
@@ -41,8 +43,82 @@ const MOST_DIGITS: usize = 4;
 /// Bytes of a name.
 const MOST_NAME: usize = 64;
 
+/// The fields of a line, read one after the other.
+pub struct Fields<'a> {
+    line: &'a str,
+    /// What the line should be.
+    expected: &'static str,
+    rest: Split<'a, char>,
+}
+
+impl<'a> Fields<'a> {
+    pub fn of(line: &'a str, expected: &'static str) -> Fields<'a> {
+        Fields {
+            line,
+            expected,
+            rest: line.split('\t'),
+        }
+    }
+
+    /// The line is not what it should be.
+    pub fn wrong(&self) -> ParseError {
+        ParseError::not(self.expected, self.line)
+    }
+
+    pub fn field(&mut self) -> Result<&'a str, ParseError> {
+        self.rest.next().ok_or_else(|| self.wrong())
+    }
+
+    pub fn number<N: From<u16>>(&mut self) -> Result<N, ParseError> {
+        number(self.field()?)
+    }
+
+    /// 0 or 1.
+    pub fn bit(&mut self) -> Result<bool, ParseError> {
+        match self.field()? {
+            "0" => Ok(false),
+            "1" => Ok(true),
+            other => Err(ParseError::not("0 or 1", other)),
+        }
+    }
+
+    /// A package's number, or `-` for none.
+    pub fn package(&mut self) -> Result<Option<Package>, ParseError> {
+        match self.field()? {
+            "-" => Ok(None),
+            other => number(other).map(Some),
+        }
+    }
+
+    /// A name: ASCII letters, digits and `_`, and no digit first.
+    pub fn name(&mut self) -> Result<&'a str, ParseError> {
+        let field = self.field()?;
+        let in_name = |b: u8| b.is_ascii_alphanumeric() || b == b'_';
+        let form = field.bytes().all(in_name) && (1..=MOST_NAME).contains(&field.len());
+        if form && !field.starts_with(|c: char| c.is_ascii_digit()) {
+            return Ok(field);
+        }
+        Err(ParseError::not("a name", field))
+    }
+
+    /// The places of a way, one at least: all fields that are left.
+    pub fn way(&mut self) -> Result<Vec<usize>, ParseError> {
+        let first = number::<u16>(self.field()?);
+        let places = iter::once(first).chain(self.rest.by_ref().map(number));
+        places.map(|place| place.map(usize::from)).collect()
+    }
+
+    /// What was read, if no field is left.
+    pub fn end<T>(mut self, read: T) -> Result<T, ParseError> {
+        match self.rest.next() {
+            None => Ok(read),
+            Some(_) => Err(self.wrong()),
+        }
+    }
+}
+
 /// A number of one to four digits, without sign and leading zeros.
-pub fn number<N: From<u16>>(field: &str) -> Result<N, ParseError> {
+fn number<N: From<u16>>(field: &str) -> Result<N, ParseError> {
     let digits = field.bytes().all(|b| b.is_ascii_digit());
     let form = digits && field.len() <= MOST_DIGITS && (field == "0" || !field.starts_with('0'));
     let number = field.parse::<u16>().ok().filter(|_| form);
@@ -50,42 +126,4 @@ pub fn number<N: From<u16>>(field: &str) -> Result<N, ParseError> {
     number
         .map(N::from)
         .ok_or_else(|| ParseError::not(expected, field))
-}
-
-/// 0 or 1.
-pub fn bit(field: &str) -> Result<bool, ParseError> {
-    match field {
-        "0" => Ok(false),
-        "1" => Ok(true),
-        _ => Err(ParseError::not("0 or 1", field)),
-    }
-}
-
-/// A package's number, or `-` for none.
-pub fn package(field: &str) -> Result<Option<Package>, ParseError> {
-    match field {
-        "-" => Ok(None),
-        _ => number(field).map(Some),
-    }
-}
-
-/// A name: ASCII letters, digits and `_`, and no digit first.
-pub fn name(field: &str) -> Result<String, ParseError> {
-    let in_name = |b: u8| b.is_ascii_alphanumeric() || b == b'_';
-    let form = field.bytes().all(in_name) && (1..=MOST_NAME).contains(&field.len());
-    if form && !field.starts_with(|c: char| c.is_ascii_digit()) {
-        return Ok(field.to_owned());
-    }
-    Err(ParseError::not("a name", field))
-}
-
-/// The places of a way, one at least.
-pub fn way(fields: &[&str]) -> Result<Vec<usize>, ParseError> {
-    if fields.is_empty() {
-        return Err(ParseError::not("a way", ""));
-    }
-    fields
-        .iter()
-        .map(|field| number::<u16>(field).map(usize::from))
-        .collect()
 }

@@ -1,6 +1,6 @@
 //! Questions as values.
 
-use crate::parse::{bit, name, number, package, ParseError};
+use crate::parse::{Fields, ParseError};
 use crate::{Package, Type};
 use std::fmt::{self, Display, Formatter};
 use std::str::FromStr;
@@ -108,24 +108,32 @@ impl FromStr for Question {
     type Err = ParseError;
 
     fn from_str(line: &str) -> Result<Question, ParseError> {
-        let fields: Vec<&str> = line.split('\t').collect();
-        Ok(match fields[..] {
-            ["S", t, a, pkg, selector] => {
-                Question::select(number(t)?, bit(a)?, package(pkg)?, name(selector)?)
-            }
-            ["M", t] => Question::MethodSet { of: number(t)? },
-            ["N", t, i, s] => Question::Missing {
-                of: number(t)?,
-                interface: number(i)?,
-                is_static: bit(s)?,
+        let mut fields = Fields::of(line, "a question");
+        let question = match fields.field()? {
+            "S" => Question::Select {
+                receiver: fields.number()?,
+                addressable: fields.bit()?,
+                package: fields.package()?,
+                name: fields.name()?.to_owned(),
             },
-            ["I", x, y] => Question::Identical {
-                left: number(x)?,
-                right: number(y)?,
+            "M" => Question::MethodSet {
+                of: fields.number()?,
             },
-            ["C", t] => Question::Comparable { of: number(t)? },
-            ["V"] => Question::Loaded,
-            _ => return Err(ParseError::not("a question", line)),
-        })
+            "N" => Question::Missing {
+                of: fields.number()?,
+                interface: fields.number()?,
+                is_static: fields.bit()?,
+            },
+            "I" => Question::Identical {
+                left: fields.number()?,
+                right: fields.number()?,
+            },
+            "C" => Question::Comparable {
+                of: fields.number()?,
+            },
+            "V" => Question::Loaded,
+            _ => return Err(fields.wrong()),
+        };
+        fields.end(question)
     }
 }
