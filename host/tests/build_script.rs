@@ -1,6 +1,9 @@
 //! What a build says where the archive is missing, or is made for another target; and that the package is checked and
 //! documented without it.
 
+// Tests are built by the Rust of the day; `rust-version` is for those who link the library.
+#![allow(clippy::incompatible_msrv)]
+
 use std::path::{Path, PathBuf};
 use std::process::{Command, Output};
 use std::{env, fs};

@@ -1,5 +1,8 @@
 //! C programs over the header `include/yifgrun.h`, compiled and linked with the archive where there is a C compiler.
 
+// Tests are built by the Rust of the day; `rust-version` is for those who link the library.
+#![allow(clippy::incompatible_msrv)]
+
 mod blocks;
 
 use blocks::only;

@@ -1,6 +1,9 @@
 //! The examples of the documents, run: each block ```typeask is an input of the program, and the block ```prints
 //! behind it is what the program prints, and what one call gives for all its questions.
 
+// Tests are built by the Rust of the day; `rust-version` is for those who link the library.
+#![allow(clippy::incompatible_msrv)]
+
 mod blocks;
 mod bounds;
 mod typeask;

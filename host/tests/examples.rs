@@ -1,5 +1,8 @@
 //! The programs in `examples`, run as a reader runs them: each prints what stands beside it in a file `.out`.
 
+// Tests are built by the Rust of the day; `rust-version` is for those who link the library.
+#![allow(clippy::incompatible_msrv)]
+
 use std::path::{Path, PathBuf};
 use std::process::Command;
 use std::{env, fs};

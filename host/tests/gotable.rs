@@ -2,6 +2,9 @@
 //! with go/types' answers: the library gives the same answers, on a stored sample and, where Go 1.19 is at hand, on
 //! packages of the standard library.
 
+// Tests are built by the Rust of the day; `rust-version` is for those who link the library.
+#![allow(clippy::incompatible_msrv)]
+
 #[path = "gotable/answers.rs"]
 mod answers;
 mod blocks;
@@ -190,14 +193,18 @@ fn wrong_use() {
     assert_eq!(run(&["-h"]), (0, usage.to_owned(), String::new()));
 }
 
-/// gotable's own tests, in Go.
+/// gotable's own tests, in Go; its files are formatted, and go vet finds nothing.
 #[test]
 fn its_own_tests() {
     let Some(go) = go() else {
         return say("gotable's own tests: Go 1.19 is not at hand: not run");
     };
-    let ran = command(go, &host("gotable")).args(["test", "."]).output();
-    let ran = ran.expect("go runs");
-    let text = String::from_utf8_lossy(&ran.stdout);
-    assert!(ran.status.success(), "{text}");
+    for arguments in [&["test", "."][..], &["vet", "."]] {
+        let ran = command(&go, &host("gotable")).args(arguments).output();
+        let ran = ran.expect("go runs");
+        assert!(ran.status.success(), "{arguments:?}: {ran:?}");
+    }
+    let gofmt = Path::new(&go).with_file_name("gofmt");
+    let unformatted = command(gofmt, &host("gotable")).args(["-l", "."]).output();
+    assert_eq!(unformatted.expect("gofmt runs").stdout, b"");
 }

@@ -1,5 +1,8 @@
 //! The library's two calls through its archive: answers, refusals, and what they leave in the buffers lent.
 
+// Tests are built by the Rust of the day; `rust-version` is for those who link the library.
+#![allow(clippy::incompatible_msrv)]
+
 #[path = "../bounds/mod.rs"]
 mod bounds;
 mod buffers;
