@@ -64,6 +64,7 @@ mod answers;
 mod archive;
 mod builder;
 mod each;
+mod explain;
 mod library;
 mod numbers;
 mod parse;

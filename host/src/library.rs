@@ -1,7 +1,7 @@
 //! A table with its buffers, asked by typed questions.
 
 use crate::{each_answer, Answer, Answers, Counts, Method, Package, Question, Refusal};
-use crate::{Satisfaction, Selection, Type};
+use crate::{explain, Satisfaction, Selection, Type};
 use std::fmt::Write;
 use std::str;
 
@@ -149,6 +149,23 @@ impl Library {
             Ok(answers) => each_answer(answers).map(|a| a.map(read)).collect(),
             Err(refusal) => panic!("a table that loaded is refused: {refusal}"),
         }
+    }
+
+    /// The answer to a question in words, with the names of the table: lines that each end in a newline. The words
+    /// are for a person and may change; a program asks by [`ask`](Library::ask).
+    ///
+    /// ```
+    /// use yifgrun::{Library, Question, Type};
+    ///
+    /// // type Block struct { Len int }, struct { *Block }
+    /// let table = "typetable 1\nT basic 2\nT struct\nF Len - 0 0\nT named 1\nT pointer 2\nT struct\nF Block - 3 1\n";
+    /// let mut library = Library::new(table.replace(' ', "\t"))?;
+    /// let words = library.explain(&Question::select(Type(4), false, None, "Len"))?;
+    /// assert_eq!(words, ".Block.Len: a field, member 0, through a pointer\n");
+    /// # Ok::<(), yifgrun::Refusal>(())
+    /// ```
+    pub fn explain(&mut self, question: &Question) -> Result<String, Refusal> {
+        explain::explain(self, question)
     }
 }
 
