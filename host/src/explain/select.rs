@@ -80,11 +80,29 @@ pub fn cause(library: &mut Library, contents: &Contents, selector: &Selector) ->
     if contents.is_pointer_to_interface(selector.receiver) {
         return "; the type is a pointer to an interface".to_owned();
     }
+    if has_methods_without_name(library, contents, selector) {
+        return "; a named pointer type has no methods".to_owned();
+    }
     let others = in_other_packages(library, contents, selector);
     if others.is_empty() {
         return others.concat();
     }
     format!("; there is one {}", others.join(" and "))
+}
+
+/// Whether a type is a name of a pointer type, and that pointer type has what is asked for.
+fn has_methods_without_name(
+    library: &mut Library,
+    contents: &Contents,
+    selector: &Selector,
+) -> bool {
+    let pointer = Selector {
+        receiver: contents.underlying(selector.receiver),
+        ..*selector
+    };
+    let is_name = pointer.receiver != selector.receiver;
+    let not_found = Ok(Answer::Selection(Selection::NotFound));
+    is_name && library.ask(&pointer.asked_from(selector.package)) != not_found
 }
 
 /// The packages in which the name is found, if it is one that each package has for itself.
