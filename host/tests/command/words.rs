@@ -3,7 +3,7 @@
 
 use std::fs;
 use std::path::Path;
-use yifgrun::{Answer, Answers, Library, Question, Selection};
+use yifgrun::{Answer, Answers, Library, Method, Question, Satisfaction, Selection};
 
 /// The stored inputs of `typeask`, each ended by a line `---`.
 fn inputs() -> Vec<String> {
@@ -64,43 +64,69 @@ fn hold(library: &mut Library, line: &str) -> bool {
 }
 
 fn agrees(question: &Question, answer: &Answer, lines: &[&str]) -> bool {
-    let asked = match question {
-        Question::Select { name, .. } => name,
-        _ => "",
-    };
-    match (answer, lines) {
+    match (question, answer, lines) {
+        (Question::Select { name, .. }, Answer::Selection(selection), lines) => {
+            is_selection(lines, name, selection)
+        }
+        (_, Answer::MethodSet(methods), [_, lines @ ..]) => {
+            let mut pairs = methods.iter().zip(lines);
+            let is_told = |(method, line): (&Method, &&str)| {
+                is_way(line, "", method.way.len()) && member(line) == Some(method.member.0)
+            };
+            methods.len() == lines.len() && pairs.all(is_told)
+        }
+        (_, Answer::Satisfaction(satisfaction), [line]) => is_satisfaction(line, *satisfaction),
+        (_, Answer::Holds(holds), [line]) => line.contains("not ") != *holds,
+        (_, Answer::Loaded(_), [_]) => true,
+        _ => false,
+    }
+}
+
+fn is_selection(lines: &[&str], asked: &str, selection: &Selection) -> bool {
+    match (selection, lines) {
         (
-            Answer::Selection(Selection::Entry {
-                member,
+            Selection::Entry {
+                member: found,
                 indirect,
                 way,
-            }),
+            },
             [line],
         ) => {
-            let pointer = line.ends_with(", through a pointer");
+            let through_pointer = line.ends_with(", through a pointer");
             is_way(line, asked, way.len())
-                && line.contains(&format!(", member {member}"))
-                && pointer == *indirect
+                && member(line) == Some(found.0)
+                && through_pointer == *indirect
         }
-        (Answer::Selection(Selection::BadReceiver), [line]) => line.contains(&format!(
-            ".{asked}: a method with pointer receiver, member "
-        )),
-        (Answer::Selection(Selection::Ambiguous { first, second }), [_, one, two]) => {
+        (Selection::BadReceiver, [line]) => {
+            let told = format!(".{asked}: a method with pointer receiver, member ");
+            line.contains(&told)
+        }
+        (Selection::Ambiguous { first, second }, [_, one, two]) => {
             is_way(one, asked, first.len()) && is_way(two, asked, second.len())
         }
-        (Answer::Selection(Selection::NotFound), [line]) => {
+        (Selection::NotFound, [line]) => {
             line.starts_with(&format!(".{asked}: no field or method of that name"))
         }
-        (Answer::MethodSet(methods), [_, lines @ ..]) => {
-            let mut pairs = methods.iter().zip(lines);
-            methods.len() == lines.len()
-                && pairs.all(|(method, line)| {
-                    is_way(line, "", method.way.len())
-                        && line.contains(&format!(", member {}", method.member))
-                })
-        }
-        (Answer::Satisfaction(_) | Answer::Holds(_) | Answer::Loaded(_), [_]) => true,
         _ => false,
+    }
+}
+
+/// The member that a line tells.
+fn member(line: &str) -> Option<u16> {
+    let (_, behind) = line.split_once(", member ")?;
+    behind.split([',', ';']).next()?.parse().ok()
+}
+
+/// Whether a line tells the method that is missing. Where none has its type, no other method takes its place.
+fn is_satisfaction(line: &str, satisfaction: Satisfaction) -> bool {
+    let every = line.contains(" every method of interface type ");
+    match satisfaction {
+        Satisfaction::Satisfied => every,
+        Satisfaction::Missing { method, wrong_type } => {
+            line.contains(&format!(" member {method} of interface type "))
+                && line.contains(" with another type than ") == wrong_type
+                && !line.contains(" is a method")
+        }
     }
 }
 
