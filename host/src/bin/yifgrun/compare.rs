@@ -3,7 +3,7 @@
 use crate::answer::shown;
 use crate::files;
 use crate::input::Input;
-use crate::output::{counted, one_line, Output, Status};
+use crate::output::{counted, grouped, one_line, Output, Status};
 use std::ffi::OsString;
 use std::fs;
 use std::path::{Path, PathBuf};
@@ -28,7 +28,7 @@ impl Tally {
         let questions = counted(self.questions, "question");
         match self.differences {
             0 => format!("{questions}, as due"),
-            differences => format!("{questions}, {differences} not as due"),
+            differences => format!("{questions}, {} not as due", grouped(differences)),
         }
     }
 }

@@ -70,7 +70,7 @@ pub fn counted(count: usize, what: &str) -> String {
 }
 
 /// A number with a comma before each three digits.
-fn grouped(number: usize) -> String {
+pub fn grouped(number: usize) -> String {
     if number < 1_000 {
         return number.to_string();
     }
