@@ -73,21 +73,12 @@ impl<'a> Fields<'a> {
         number(self.field()?)
     }
 
-    /// 0 or 1.
     pub fn bit(&mut self) -> Result<bool, ParseError> {
-        match self.field()? {
-            "0" => Ok(false),
-            "1" => Ok(true),
-            other => Err(ParseError::not("0 or 1", other)),
-        }
+        bit(self.field()?)
     }
 
-    /// A package's number, or `-` for none.
     pub fn package(&mut self) -> Result<Option<Package>, ParseError> {
-        match self.field()? {
-            "-" => Ok(None),
-            other => number(other).map(Some),
-        }
+        package(self.field()?)
     }
 
     /// A name: ASCII letters, digits and `_`, and no digit first.
@@ -117,8 +108,25 @@ impl<'a> Fields<'a> {
     }
 }
 
+/// 0 or 1.
+pub fn bit(field: &str) -> Result<bool, ParseError> {
+    match field {
+        "0" => Ok(false),
+        "1" => Ok(true),
+        _ => Err(ParseError::not("0 or 1", field)),
+    }
+}
+
+/// A package's number, or `-` for none.
+pub fn package(field: &str) -> Result<Option<Package>, ParseError> {
+    match field {
+        "-" => Ok(None),
+        _ => number(field).map(Some),
+    }
+}
+
 /// A number of one to four digits, without sign and leading zeros.
-fn number<N: From<u16>>(field: &str) -> Result<N, ParseError> {
+pub fn number<N: From<u16>>(field: &str) -> Result<N, ParseError> {
     let digits = field.bytes().all(|b| b.is_ascii_digit());
     let form = digits && field.len() <= MOST_DIGITS && (field == "0" || !field.starts_with('0'));
     let number = field.parse::<u16>().ok().filter(|_| form);

@@ -1,11 +1,13 @@
-//! The examples of the documents, run: each block ```typeask is an input of the program, and the block ```prints
-//! behind it is what the program prints, and what one call gives for all its questions.
+//! What the documents show, run: each block ```typeask is an input of the program, and the block ```prints behind it
+//! is what the program prints, and what one call gives for all its questions; each block ```console is typed at a
+//! terminal; the README's program is a package of its own.
 
 // Tests are built by the Rust of the day; `rust-version` is for those who link the library.
 #![allow(clippy::incompatible_msrv)]
 
 mod blocks;
 mod bounds;
+mod transcript;
 mod typeask;
 
 use blocks::{blocks, only, read, Block};
@@ -118,6 +120,40 @@ fn run(document: &str, least: usize) -> Vec<Example> {
 #[test]
 fn the_readme_is_right() {
     run("README.md", 1);
+}
+
+/// The documents that a reader follows; all their blocks are of a known kind.
+const DOCUMENTS: [&str; 7] = [
+    "README.md",
+    "docs/MANUAL.md",
+    "docs/REFUSALS.md",
+    "docs/ENTRY.md",
+    "docs/CONTRIBUTING.md",
+    "host/README.md",
+    "host/gotable/README.md",
+];
+
+/// Each block ```console is a transcript of the command.
+#[test]
+fn commands_print_what_the_documents_show() {
+    let folder = Path::new(env!("CARGO_MANIFEST_DIR")).join("testdata/command");
+    let mut run = 0;
+    for document in DOCUMENTS {
+        let text = read(document);
+        for block in blocks(&text).iter().filter(|b| b.kind == "console") {
+            let lines = block.lines.join("\n") + "\n";
+            transcript::compare(document, &lines, block.first, &folder);
+            run += 1;
+        }
+    }
+    assert!(run >= 3, "{run} blocks console");
+}
+
+/// The file `shelf.in` that commands name is the manual's first table.
+#[test]
+fn the_first_table_is_a_file_too() {
+    let first = &examples(&read("docs/MANUAL.md"))[0];
+    assert_eq!(first.input, read("host/testdata/command/shelf.in"));
 }
 
 /// What a package says beside the README's lines. It is a workspace of its own, since the tests' folder lies within another.

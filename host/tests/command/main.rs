@@ -1,6 +1,9 @@
 //! The command `yifgrun`: what it prints, what it says on standard error, and its exit status. Most of it stands in
 //! the transcripts of `testdata/command`; here is what they cannot show.
 
+// Tests are built by the Rust of the day; `rust-version` is for those who link the library.
+#![allow(clippy::incompatible_msrv)]
+
 mod arguments;
 #[path = "../bounds/mod.rs"]
 mod bounds;
