@@ -158,57 +158,29 @@ fn a_library_keeps_its_table_and_its_counts() {
     assert_eq!((refusal.kind, refusal.line), (RefusalKind::Header, 1));
 }
 
-/// Texts that are nearly questions or answers.
+/// Texts that are nearly questions.
+#[rustfmt::skip]
+const NO_QUESTIONS: [&str; 23] = [
+    "", "S", "X\t1", "M", "M\t", "M\t-1", "M\t+1", "M\t00", "M\t01", "M\t12345", "M\t1\t", "M 1", "M\t1\n",
+    "S\t0\t2\t-\tX", "S\t0\t0\t\tX", "S\t0\t0\t-\t", "S\t0\t0\t-\t1X", "S\t0\t0\t-\tX-", "N\t0\t1\t2", "I\t0",
+    "C\t0\t0", "V\t", "v",
+];
+
+/// Texts that are nearly answers.
+#[rustfmt::skip]
+const NO_ANSWERS: [&str; 21] = [
+    "", "\n", "yes", "yes\n\n", "no\t\n", "entry\t1\t0\n", "entry\t1\t2\t0\n", "entry\t1\t0\t\n", "ambiguous\t0\n",
+    "ambiguous\t0\nand\n", "ambiguous\t0\nsel\t0\n", "and\t0\n", "set\t1\n", "set\t0\nsel\t0\t0\t0\n",
+    "set\t1\nsel\t0\t0\n", "set\t1\t1\nsel\t0\t0\t0\n", "missing\t1\n", "ok\t1\t2\n", "refused\t11\t0\n",
+    "notfound\nnotfound\n", "satisfied\nand\t0\n",
+];
+
 #[test]
 fn other_texts_are_no_values() {
-    let questions = [
-        "",
-        "S",
-        "X\t1",
-        "M",
-        "M\t",
-        "M\t-1",
-        "M\t+1",
-        "M\t00",
-        "M\t01",
-        "M\t12345",
-        "M\t1\t",
-        "M 1",
-        "M\t1\n",
-        "S\t0\t2\t-\tX",
-        "S\t0\t0\t\tX",
-        "S\t0\t0\t-\t",
-        "S\t0\t0\t-\t1X",
-        "S\t0\t0\t-\tX-",
-        "N\t0\t1\t2",
-        "I\t0",
-        "C\t0\t0",
-        "V\t",
-        "v",
-    ];
-    for line in questions {
+    for line in NO_QUESTIONS {
         assert!(line.parse::<Question>().is_err(), "{line:?}");
     }
-    let answers = [
-        "",
-        "\n",
-        "yes",
-        "yes\n\n",
-        "no\t\n",
-        "entry\t1\t0\n",
-        "entry\t1\t2\t0\n",
-        "ambiguous\t0\n",
-        "ambiguous\t0\nand\n",
-        "and\t0\n",
-        "set\t1\n",
-        "set\t0\nsel\t0\t0\t0\n",
-        "set\t1\nsel\t0\t0\n",
-        "missing\t1\n",
-        "ok\t1\t2\n",
-        "refused\t11\t0\n",
-        "notfound\nnotfound\n",
-    ];
-    for text in answers {
+    for text in NO_ANSWERS {
         assert!(text.parse::<Answer>().is_err(), "{text:?}");
     }
 }
