@@ -3,7 +3,7 @@
 
 use std::fs;
 use std::path::Path;
-use yifgrun::{Answer, Answers, Library, Method, Question, Satisfaction, Selection};
+use yifgrun::{Answer, Answers, Library, Method, Question, Satisfaction, Selection, Type};
 
 /// The stored inputs of `typeask`, each ended by a line `---`.
 fn inputs() -> Vec<String> {
@@ -39,6 +39,19 @@ fn words_tell_the_answer() {
     let (answered, refused) = counts;
     assert!(answered > 500, "{answered} answered");
     assert!(refused > 20, "{refused} refused");
+}
+
+/// Each struct has the one before twice: whoever goes into every part comes to no end.
+#[test]
+fn a_part_that_recurs_is_gone_into_once() {
+    let twice = |t: usize| format!("T struct\nF A - {t} 0\nF B - {t} 0\n");
+    let structs: String = (0..100).map(twice).collect();
+    let last = "T slice 0\nT struct\nF Deep - 100 0\nF X - 101 0\n";
+    let table = format!("typetable 1\nT basic 2\n{structs}{last}").replace(' ', "\t");
+    let mut library = Library::new(table).expect("it loads");
+    let words = library.explain(&Question::Comparable { of: Type(102) });
+    let due = "values of type 102 cannot be compared: .X is a slice\n";
+    assert_eq!(words.as_deref(), Ok(due));
 }
 
 /// Whether a question is answered; its words are held against the answer.
