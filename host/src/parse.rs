@@ -23,8 +23,8 @@ pub struct ParseError {
 
 impl ParseError {
     pub(crate) fn not(expected: &str, found: &str) -> ParseError {
-        let found = found.replace('\t', " ");
-        let message = format!("`{}` is not {expected}", found.trim_end());
+        let found = found.trim_end_matches('\n').replace('\t', " ");
+        let message = format!("`{}` is not {expected}", found.escape_debug());
         ParseError { message }
     }
 }

@@ -10,6 +10,9 @@ minor = 7
 abbrev pub patch : ℕ
 patch = 0
 
--- of two versions the newer has the larger number, as long as minor and patch stay below 256
+-- minor and patch stay below it, so that of two versions the newer has the larger number
+abbrev pub versionUnit : ℕ
+versionUnit = 256
+
 abbrev pub version : ℕ
-version = major * 65_536 + minor * 256 + patch
+version = (major * versionUnit + minor) * versionUnit + patch

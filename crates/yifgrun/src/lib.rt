@@ -38,7 +38,10 @@ const MINOR: u32 = 7;
 
 const PATCH: u32 = 0;
 
-const VERSION: u32 = MAJOR * 65_536 + MINOR * 256 + PATCH;
+// Minor and patch stay below it.
+const VERSION_UNIT: u32 = 256;
+
+const VERSION: u32 = (MAJOR * VERSION_UNIT + MINOR) * VERSION_UNIT + PATCH;
 
 // Members are signed where many names are to be looked for.
 fn sign_for_many(table: &[u8], rows: &mut [u32], all: bool)

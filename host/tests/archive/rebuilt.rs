@@ -298,7 +298,7 @@ fn stored_tables_are_made_by_calls() {
     say(&format!(
         "{tables} tables made by calls, {questions} questions"
     ));
-    assert!(tables > 100 && questions > 1_000);
+    assert!(tables > 40 && questions > 700);
 }
 
 /// Which refusal a table gets that was made by calls.

@@ -66,7 +66,7 @@ fn stored_lines_are_values() {
     say(&format!(
         "{questions} questions as values, {refused} lines refused"
     ));
-    assert!(questions > 1_000 && refused > 10);
+    assert!(questions > 800 && refused > 10);
 }
 
 /// What `Library` gives by the method that a question has.
