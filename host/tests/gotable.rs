@@ -14,7 +14,7 @@ mod limits;
 mod program;
 
 use answers::{compare_all, pairs};
-use blocks::only;
+use blocks::{first, only};
 use program::{command, empty_folder, go, gotable, host, run, say, sum, written};
 use std::fs;
 use std::path::{Path, PathBuf};
@@ -25,6 +25,10 @@ fn the_stored_sample() {
     let count = compare_all(&host("testdata/gotable"));
     say(&format!("gotable, the stored sample: {count:?}"));
     assert!(count.tables > 0 && count.first_way > 0 && count.second_way > 0);
+    let compare = &["compare", "testdata/gotable"];
+    let (status, out, err) = run(Path::new(env!("CARGO_BIN_EXE_yifgrun")), &host(""), compare);
+    assert_eq!((status, &*err), (0, ""));
+    assert!(out.ends_with("2 files: 3,860 questions, as due\n"), "{out}");
 }
 
 /// The sample is what gotable writes of a module whose packages import one another.
@@ -116,6 +120,28 @@ fn compare_packages(what: &str, options: &[&str], packages: &[&str]) -> Option<S
         totals.join(", ")
     ));
     Some(lines)
+}
+
+/// The README's commands, with folders of this test: the table of a package written, then compared by the command.
+#[test]
+fn the_commands_of_the_readme() {
+    let Some(go) = go() else {
+        return say("gotable, the README's commands: Go 1.19 is not at hand: not run");
+    };
+    let to = empty_folder("gotable-readme");
+    let package = host("gotable/testdata/office/cat");
+    let text = |path: &Path| path.to_str().expect("a path that is text").to_owned();
+    let lines = first("host/gotable/README.md", "sh")
+        .replace("/tmp/tables", &text(&to))
+        .replace("/home/you/module/package", &text(&package))
+        .replace("go run", &format!("{go} run"))
+        .replace("host/target/release/yifgrun", env!("CARGO_BIN_EXE_yifgrun"));
+    let ran = command("sh", &host("..")).args(["-ec", &lines]).output();
+    let ran = ran.expect("a shell runs");
+    let printed = String::from_utf8_lossy(&ran.stdout);
+    assert!(ran.status.success(), "{lines}{ran:?}");
+    assert!(printed.contains("\nnet/http: tables 6, "), "{printed}");
+    assert!(printed.ends_with(" questions, as due\n"), "{printed}");
 }
 
 /// A folder with one Go file, outside of every module.

@@ -53,10 +53,20 @@ pub fn read(path: &str) -> String {
 
 /// The only block of a kind in a document, as a text.
 pub fn only(document: &str, kind: &str) -> String {
+    let mut texts = texts(document, kind);
+    assert_eq!(texts.len(), 1, "blocks {kind} in {document}");
+    texts.remove(0)
+}
+
+/// The first block of a kind in a document, as a text.
+pub fn first(document: &str, kind: &str) -> String {
+    let first = texts(document, kind).into_iter().next();
+    first.unwrap_or_else(|| panic!("no block {kind} in {document}"))
+}
+
+/// The blocks of a kind in a document, as texts.
+fn texts(document: &str, kind: &str) -> Vec<String> {
     let text = read(document);
     let blocks = blocks(&text).into_iter().filter(|block| block.kind == kind);
-    match &blocks.collect::<Vec<_>>()[..] {
-        [block] => block.lines.join("\n") + "\n",
-        found => panic!("{} blocks {kind} in {document}", found.len()),
-    }
+    blocks.map(|block| block.lines.join("\n") + "\n").collect()
 }
