@@ -16,18 +16,19 @@ import tempfile
 
 from bounds import ANSWER, TEXT, TYPES
 
-WORDS = 4096
 LAST_LINES = 12
 CALL = r'''
 #include <stdio.h>
+#include <stdlib.h>
 #include "yifgrun.h"
 static uint8_t table[TEXT], answer[ANSWER];
-static uint32_t work[YIFGRUN_WORK_WORDS];
-int main(int count, char **words) {
-    FILE *file = fopen(words[1], "rb");
+int main(int count, char **arguments) {
+    FILE *file = fopen(arguments[1], "rb");
     size_t length = fread(table, 1, sizeof table, file);
     fclose(file);
-    return yifgrun_ask(table, length, (const uint8_t *)"V", 1, answer, sizeof answer, work, YIFGRUN_WORK_WORDS) < -20000000;
+    size_t words = yifgrun_work_words();
+    uint32_t *work = calloc(words, sizeof *work);
+    return yifgrun_ask(table, length, (const uint8_t *)"V", 1, answer, sizeof answer, work, words) < -20000000;
 }
 '''
 
@@ -41,14 +42,17 @@ class Library:
         with open(source, 'w') as out:
             out.write(CALL)
         subprocess.run(['gcc', '-O2', f'-DTEXT={TEXT}', f'-DANSWER={ANSWER}', '-I', include, '-o', self.program, source, archive], check=True)
-        self.ask = ctypes.CDLL(shared).yifgrun_ask
+        library = ctypes.CDLL(shared)
+        self.ask = library.yifgrun_ask
         self.ask.restype = ctypes.c_int64
+        library.yifgrun_work_words.restype = ctypes.c_size_t
+        self.words = library.yifgrun_work_words()
         self.answer = ctypes.create_string_buffer(ANSWER)
-        self.work = (ctypes.c_uint32 * WORDS)()
+        self.work = (ctypes.c_uint32 * self.words)()
 
     def refusal(self, table):
         size = ctypes.c_size_t
-        number = self.ask(table, size(len(table)), b'V', size(1), self.answer, size(ANSWER), self.work, size(WORDS))
+        number = self.ask(table, size(len(table)), b'V', size(1), self.answer, size(ANSWER), self.work, size(self.words))
         return divmod(-number, 65536) if number < 0 else (0, 0)
 
     def instructions(self, table):
