@@ -27,7 +27,7 @@ struct Checked {
 
 fn main() -> Result<(), Refusal> {
     let checked = checked();
-    let mut library = Library::new(checked.table.text())?;
+    let mut library = Library::new(&checked.table)?;
     let names = ["Name", "Close", "Len", "next", "Open"];
     let questions = names.map(|name| Question::select(checked.shelf, false, checked.package, name));
     for (name, answer) in names.iter().zip(library.ask_all(&questions)) {
@@ -57,7 +57,7 @@ impl Checked {
 /// Puts the types of the Go code into a table.
 fn checked() -> Checked {
     let mut table = TableBuilder::new(&["office/cat"]);
-    let package = table.package("office/cat");
+    let package = Some(table.package("office/cat"));
     let (int, string) = (table.basic(Basic::Int), table.basic(Basic::String));
     let close = table.func(&[], &[]);
 

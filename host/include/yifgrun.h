@@ -90,12 +90,13 @@ enum yifgrun_refusal {
                                         interface */
     YIFGRUN_TOO_MANY = 6,            /* a 65th package, 513th type, 2,049th member, or 256th member of one type */
     YIFGRUN_LACKING = 7,             /* a package or type number that the table lacks */
-    YIFGRUN_KIND = 8,                /* a kind of type that is not allowed there */
+    YIFGRUN_KIND = 8,                /* a type that may not be referred to there: it comes later, or is of a kind that
+                                        is not allowed; or a pointer receiver in an interface */
     YIFGRUN_CLASH = 9,               /* a member's identity clashes, or an interface's methods do not ascend */
     YIFGRUN_CONTAINS_ITSELF = 10,    /* a type contains itself by value */
     YIFGRUN_QUESTION = 11,           /* the question has a wrong form, more than 256 bytes, or a number that the
                                         table lacks */
-    YIFGRUN_NOT_AN_INTERFACE = 12,   /* the second type of an N question is not itself of kind iface */
+    YIFGRUN_NOT_AN_INTERFACE = 12,   /* the second type of an N question is not an interface itself */
     YIFGRUN_ANSWER_TOO_LONG = 13,    /* the answer, or all answers together, is longer than the answer buffer */
     YIFGRUN_PACKAGE_ORDER = 14       /* package out of order: its path does not come after the one before */
 };

@@ -84,8 +84,9 @@ impl Library {
         }
     }
 
-    /// Whether a type has the methods of an interface, or which it lacks: the question N. Where `of` is an interface
-    /// too, `is_static` asks whether every value of it has them, and otherwise whether some value might, as a type
+    /// Whether a type has the methods of an interface, or which it lacks: the question N. `interface` is the interface
+    /// itself: of `type Stringer interface { .. }` it is the type under the name, and the name is refused by
+    /// [`NotAnInterface`](crate::RefusalKind::NotAnInterface). Where `of` is an interface too, `is_static` asks whether every value of it has them, and otherwise whether some value might, as a type
     /// assertion does.
     pub fn missing(
         &mut self,

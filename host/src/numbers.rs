@@ -20,6 +20,12 @@ macro_rules! number {
                 $name(number)
             }
         }
+
+        impl From<$name> for usize {
+            fn from(number: $name) -> usize {
+                number.0.into()
+            }
+        }
     };
 }
 

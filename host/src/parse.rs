@@ -12,7 +12,7 @@ use std::str::Split;
 /// use yifgrun::Question;
 ///
 /// let error = "M\t07".parse::<Question>().unwrap_err();
-/// assert_eq!(error.to_string(), "`07` is not a number of one to four digits");
+/// assert_eq!(error.to_string(), "`07` is not a number of one to four digits without leading zeros");
 /// ```
 #[derive(Clone, Debug, PartialEq, Eq)]
 #[non_exhaustive]
@@ -130,7 +130,7 @@ pub fn number<N: From<u16>>(field: &str) -> Result<N, ParseError> {
     let digits = field.bytes().all(|b| b.is_ascii_digit());
     let form = digits && field.len() <= MOST_DIGITS && (field == "0" || !field.starts_with('0'));
     let number = field.parse::<u16>().ok().filter(|_| form);
-    let expected = "a number of one to four digits";
+    let expected = "a number of one to four digits without leading zeros";
     number
         .map(N::from)
         .ok_or_else(|| ParseError::not(expected, field))

@@ -5,7 +5,8 @@ use crate::{Package, Type};
 use std::fmt::{self, Display, Formatter};
 use std::str::FromStr;
 
-/// A question on a table. It prints as its line, without the newline, and is read from it.
+/// A question on a table. It prints as its line, without the newline, and is read from it. (A name that has a newline
+/// within prints as two lines; the library refuses such a question, alone and in a batch.)
 ///
 /// ```
 /// use yifgrun::{Question, Type};

@@ -1,7 +1,7 @@
 //! Refusals: their kinds, and the papers' words for each, document 01's and for 14 document 02's.
 
 use std::error::Error;
-use std::fmt::{self, Display, Formatter};
+use std::fmt::{self, Debug, Display, Formatter};
 
 /// Why a call gave no answer: the kind of refusal, and the line of the table where it names one.
 ///
@@ -12,7 +12,7 @@ use std::fmt::{self, Display, Formatter};
 /// assert_eq!((refusal.kind, refusal.line), (RefusalKind::ContainsItself, 2));
 /// assert_eq!(refusal.to_string(), "line 2: a type contains itself by value (refusal 10)");
 /// ```
-#[derive(Clone, Copy, Debug, PartialEq, Eq, Hash)]
+#[derive(Clone, Copy, PartialEq, Eq, Hash)]
 #[non_exhaustive]
 pub struct Refusal {
     /// Which refusal it is.
@@ -39,7 +39,8 @@ pub enum RefusalKind {
     TooMany,
     /// 7: a package or type number is referred to that the table lacks.
     Lacking,
-    /// 8: a kind of type is referred to that is not allowed there.
+    /// 8: a type is referred to that may not be: it comes later in the table, or is of a kind that is not allowed
+    /// there; or a method of an interface has a pointer receiver.
     Kind,
     /// 9: a member's identity clashes with another's, or an interface's methods do not ascend.
     Clash,
@@ -89,7 +90,8 @@ const KINDS: [(RefusalKind, &str); 14] = [
     ),
     (
         RefusalKind::Kind,
-        "a kind of type is referred to that is not allowed there",
+        "a type is referred to that may not be: it comes later in the table, or is of a kind that is not allowed \
+         there; or a method of an interface has a pointer receiver",
     ),
     (
         RefusalKind::Clash,
@@ -105,7 +107,7 @@ const KINDS: [(RefusalKind, &str); 14] = [
     ),
     (
         RefusalKind::NotAnInterface,
-        "the second type of an N question is not itself of kind iface",
+        "the second type of an N question is not an interface itself (of a named one, give the type under it)",
     ),
     (
         RefusalKind::AnswerTooLong,
@@ -195,7 +197,18 @@ impl Display for Refusal {
         if self.line > 0 {
             write!(f, "line {}: ", self.line)?;
         }
-        self.kind.fmt(f)
+        Display::fmt(&self.kind, f)
+    }
+}
+
+/// With the words too, since a `main` that ends in a refusal shows this form of it.
+impl Debug for Refusal {
+    fn fmt(&self, f: &mut Formatter) -> fmt::Result {
+        f.debug_struct("Refusal")
+            .field("kind", &self.kind)
+            .field("line", &self.line)
+            .field("words", &self.kind.words())
+            .finish()
     }
 }
 

@@ -12,12 +12,14 @@ use text::{clean, Lines};
 
 /// Makes a table: each call adds a type and gives its number, or adds a member to a type.
 ///
-/// A type refers to types that were added before it. One that leads back to itself does so through a named type, as in
-/// Go: add that first, and its underlying type and its methods later. A type without members is written once, however
-/// often it is added.
+/// **A type refers to types that were added before it, but for named types and interfaces**: add the types of a
+/// struct's fields before the struct. A type that leads back to itself does so through a named type, as in Go: add that
+/// first, and its underlying type and its methods later. A type without members is written once, however often it is
+/// added.
 ///
-/// No call fails for what a table may not have: such a table is refused when it is loaded. Types and members are to be
-/// this builder's own; a call with a number that it has not given may panic.
+/// No call fails for what a table may not have: such a table is refused when it is loaded, at a line that
+/// [`Table::line`] shows. Types and members are to be this builder's own; a call with a number that it has not given
+/// may panic, or mean another type.
 ///
 /// ```
 /// use yifgrun::{Basic, Library, Receiver, Selection, TableBuilder};
@@ -26,7 +28,7 @@ use text::{clean, Lines};
 /// // type Block struct { Len int; next *Block }
 /// // func (b *Block) Close() {}
 /// let mut table = TableBuilder::new(&["office/cat"]);
-/// let cat = table.package("office/cat");
+/// let cat = Some(table.package("office/cat"));
 /// let int = table.basic(Basic::Int);
 /// let block = table.named();
 /// let pointer = table.pointer(block);
@@ -38,7 +40,7 @@ use text::{clean, Lines};
 /// let close = table.method(block, "Close", cat, signature, Receiver::Pointer);
 ///
 /// let table = table.finish();
-/// let mut library = Library::new(table.text())?;
+/// let mut library = Library::new(&table)?;
 /// let entry = Selection::Entry { member: table.member(close), indirect: false, way: vec![0] };
 /// assert_eq!(library.select(block, true, cat, "Close")?, entry);
 /// assert_eq!(library.select(block, false, cat, "Close")?, Selection::BadReceiver);
@@ -74,10 +76,15 @@ impl TableBuilder {
         }
     }
 
-    /// The package of a path, if it is one of the table's.
-    pub fn package(&self, path: &str) -> Option<Package> {
-        let place = self.paths.iter().position(|known| known == path)?;
-        u16::try_from(place).ok().map(Package)
+    /// The package of a path. Where a package is asked for, `None` stands for none, as of the methods of `error`.
+    ///
+    /// # Panics
+    ///
+    /// If the path is not one of the table's.
+    pub fn package(&self, path: &str) -> Package {
+        let place = self.paths.iter().position(|known| known == path);
+        let place = place.unwrap_or_else(|| panic!("no package {path} was named at first"));
+        Package(u16::try_from(place).unwrap_or(u16::MAX))
     }
 
     /// `int`, `string`, ..
@@ -120,13 +127,15 @@ impl TableBuilder {
         self.signature(true, parameters, results)
     }
 
-    /// `struct { .. }`, which gets its fields by [`field`](Self::field) and [`embedded`](Self::embedded).
+    /// `struct { .. }`, which gets its fields by [`field`](Self::field) and [`embedded`](Self::embedded). Their types are
+    /// added before it, but for named types and interfaces; otherwise the table is refused by
+    /// [`Kind`](crate::RefusalKind::Kind).
     pub fn structure(&mut self) -> Type {
         self.add(Lines::of("struct".to_owned()))
     }
 
     /// `interface { .. }`, which gets its methods by [`method`](Self::method): all of them, those of embedded
-    /// interfaces too. They are put in the order of their ids.
+    /// interfaces too, each once. They are put in the order of their ids.
     pub fn interface(&mut self) -> Type {
         self.add(Lines::ordered("iface".to_owned()))
     }
@@ -137,7 +146,8 @@ impl TableBuilder {
         self.add(Lines::of("named".to_owned()))
     }
 
-    /// Says the underlying type of a named one, once.
+    /// Says the underlying type of a named one. It is said once: without it, or with two, the table is refused by
+    /// [`Form`](crate::RefusalKind::Form).
     pub fn underlying(&mut self, named: Type, underlying: Type) {
         self.lines(named).extend(&underlying.to_string());
     }
@@ -164,9 +174,12 @@ impl TableBuilder {
         self.member(structure, "F", name, package, [of.0, 1])
     }
 
-    /// Gives a field its tag, once.
+    /// Gives a field its tag, once: 1 to 128 bytes from 32 to 126, others are refused when the table is loaded. An empty
+    /// one is no tag, as in Go.
     pub fn tag(&mut self, field: Added, tag: &str) {
-        self.lines(field.of).extend_member(field.nth, &clean(tag));
+        if !tag.is_empty() {
+            self.lines(field.of).extend_member(field.nth, &clean(tag));
+        }
     }
 
     /// Adds a method to a named type or an interface; its type is one of [`func`](Self::func)'s.
@@ -181,7 +194,8 @@ impl TableBuilder {
         self.member(of, "M", name, package, [signature.0, receiver as u16])
     }
 
-    /// The table, whose members have their numbers now.
+    /// The table, whose members have their numbers now. To go on with more types, finish a clone: types keep their
+    /// numbers, members may get others.
     pub fn finish(self) -> Table {
         Table::of(&self.paths, self.types)
     }

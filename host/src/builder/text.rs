@@ -1,7 +1,7 @@
 //! The text that a builder's calls make.
 
 use super::Added;
-use crate::Member;
+use crate::{Member, Type};
 
 /// A T line and the lines of its members.
 #[derive(Clone, Debug)]
@@ -121,12 +121,32 @@ impl Table {
         &self.text
     }
 
-    /// The number of a member.
-    ///
-    /// # Panics
-    ///
-    /// If it was added to another table.
+    /// A line of the text, the first being 1, such as a refusal names.
+    pub fn line(&self, number: u16) -> Option<&str> {
+        self.text.lines().nth(usize::from(number).checked_sub(1)?)
+    }
+
+    /// The number of a member. For one that was added to another builder it gives a wrong one, or panics.
     pub fn member(&self, added: Added) -> Member {
-        self.numbers[usize::from(added.of.0)][added.nth]
+        self.numbers[usize::from(added.of)][added.nth]
+    }
+
+    /// The member of a number, if the table has it.
+    pub fn added(&self, member: Member) -> Option<Added> {
+        let found = |numbers: &Vec<Member>| numbers.iter().position(|&number| number == member);
+        let mut types = (0..).map(Type).zip(&self.numbers);
+        types.find_map(|(of, numbers)| {
+            Some(Added {
+                of,
+                nth: found(numbers)?,
+            })
+        })
+    }
+}
+
+/// The text, as [`Library::new`](crate::Library::new) takes it.
+impl From<&Table> for Vec<u8> {
+    fn from(table: &Table) -> Vec<u8> {
+        table.text.clone().into_bytes()
     }
 }

@@ -337,8 +337,13 @@ fn texts_of_other_bytes_are_refused() {
             table.tag(field, tag);
         }
     };
-    assert_eq!(refused(tag("")), Some((RefusalKind::Form, 4)));
-    assert_eq!(refused(tag("a\nb")), Some((RefusalKind::Form, 4)));
+    for wrong in ["a\nb", "a\tb", "\u{e9}"] {
+        assert_eq!(
+            refused(tag(wrong)),
+            Some((RefusalKind::Form, 4)),
+            "{wrong:?}"
+        );
+    }
 }
 
 /// What a table may not have is refused when it is loaded, at the line of it.
@@ -370,11 +375,42 @@ fn tables_that_may_not_be_are_refused() {
     assert_eq!(many, Some((RefusalKind::TooMany, 515)));
 }
 
+/// A refusal's line is found in the text, an empty tag is none, and a package that was not named is no package.
+#[test]
+fn a_table_shows_its_lines_and_members() {
+    let mut table = TableBuilder::new(&["a"]);
+    let int = table.basic(Basic::Int);
+    let structure = table.structure();
+    let x = table.field(structure, "x", Some(table.package("a")), int);
+    table.tag(x, "");
+    let pointer = table.pointer(structure);
+    let y = table.embedded(structure, "y", None, pointer);
+    let before = table.clone().finish();
+    let table = table.finish();
+    assert_eq!(before.text(), table.text());
+    let refusal = Library::new(&table).unwrap_err();
+    assert_eq!(refusal.kind, RefusalKind::Kind);
+    assert_eq!(table.line(refusal.line), Some("F\ty\t-\t2\t1"));
+    assert_eq!((table.line(0), table.line(8)), (None, None));
+    for added in [x, y] {
+        assert_eq!(table.added(table.member(added)), Some(added));
+    }
+    assert_eq!(table.added(Member(2)), None);
+    let words = format!("{refusal:?}");
+    assert!(words.contains("it comes later in the table"), "{words}");
+}
+
+#[test]
+#[should_panic(expected = "no package b was named at first")]
+fn a_package_that_was_not_named() {
+    TableBuilder::new(&["a"]).package("b");
+}
+
 /// The methods of an interface come in any order, and stand in that of their ids.
 #[test]
 fn methods_of_an_interface_are_put_in_order() {
     let mut table = TableBuilder::new(&["b", "a"]);
-    let (a, b) = (table.package("a"), table.package("b"));
+    let (a, b) = (Some(table.package("a")), Some(table.package("b")));
     assert_eq!((a, b), (Some(Package(0)), Some(Package(1))));
     let signature = table.func(&[], &[]);
     let interface = table.interface();
