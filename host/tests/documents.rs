@@ -149,6 +149,23 @@ fn commands_print_what_the_documents_show() {
     assert!(run >= 3, "{run} blocks console");
 }
 
+/// The documents say how an example is made the text that it stands for: by `sed` and `tr`.
+#[test]
+fn an_example_is_made_a_text() {
+    let filter = "sed 's,  *//.*,,' | tr ' ' '\\t'";
+    for document in ["README.md", "docs/MANUAL.md"] {
+        assert!(read(document).contains(filter), "{document}: {filter}");
+    }
+    let file = Path::new(env!("CARGO_TARGET_TMPDIR")).join("example");
+    fs::write(&file, only("README.md", "typeask")).expect("a file");
+    let made = Command::new("sh")
+        .args(["-c", filter])
+        .stdin(fs::File::open(&file).expect("the file"))
+        .output();
+    let made = String::from_utf8(made.expect("a shell runs").stdout).expect("text");
+    assert_eq!(made, examples(&read("README.md"))[0].input);
+}
+
 /// The file `shelf.in` that commands name is the manual's first table.
 #[test]
 fn the_first_table_is_a_file_too() {

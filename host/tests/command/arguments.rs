@@ -3,9 +3,6 @@
 use crate::bounds;
 use crate::run::{file, run, says, FIRST, TABLE};
 
-const WRONG: &str =
-    "the question has a wrong form, more than 256 bytes, or a number that the table lacks (refusal 11)";
-
 /// A table that contains itself by value: line 2.
 const CYCLE: &str = "typetable\t1\nT\tarray\t3\t1\nT\tnamed\t0\n";
 
@@ -24,14 +21,18 @@ fn a_question_that_is_none() {
     let long = "x".repeat(bounds::QUESTION + 1);
     let shown = format!("{}..", &long[..64]);
     for (question, shown, cause) in [
-        ("", "", "it is empty"),
-        (" ", "", "it is empty"),
-        (&*long, &*format!(" {shown}"), "it has 257 bytes"),
-        ("C\n0", " C\\n0", "it has a newline"),
-        ("C 0\r", " C 0\\r", "it has a carriage return"),
-        ("C é", " C é", "it has the byte 195"),
+        ("", "", "is empty"),
+        (" ", "", "is empty"),
+        (
+            &*long,
+            &*format!(" {shown}"),
+            "has 257 bytes, more than 256",
+        ),
+        ("C\n0", " C\\n0", "has a newline"),
+        ("C 0\r", " C 0\\r", "has a carriage return"),
+        ("C é", " C é", "has the byte 195"),
     ] {
-        let err = format!("yifgrun: question{shown}: {WRONG}: {cause}\n");
+        let err = format!("yifgrun: question{shown}: the question {cause} (refusal 11)\n");
         assert_eq!(run(&["-", question], TABLE), says(1, "", &err));
     }
 }
@@ -49,7 +50,8 @@ fn a_file_of_questions() {
 
 #[test]
 fn a_refused_table_is_told_once() {
-    let cycle = "yifgrun: standard input:2: a type contains itself by value (refusal 10)\n";
+    let cycle =
+        "yifgrun: standard input:2: a type contains itself by value (refusal 10): `T array 3 1`\n";
     for questions in ["", "Q\n", "Q\nV\nX\nV\n"] {
         let input = format!("{CYCLE}{questions}");
         assert_eq!(run(&[], &input), says(1, "", cycle));
@@ -65,7 +67,7 @@ fn a_table_past_a_bound() {
     assert_eq!(run(&["-", "V"], &table), says(1, "", long));
     let many = "too many: a 65th package, 513th type, 2,049th member, or 256th member of one type";
     let line = 1 + bounds::TYPES + 1;
-    let many = format!("yifgrun: standard input:{line}: {many} (refusal 6)\n");
+    let many = format!("yifgrun: standard input:{line}: {many} (refusal 6): `T basic 2`\n");
     let types = "T\tbasic\t2\n".repeat(bounds::TYPES + 1);
     let table = format!("typetable\t1\n{types}");
     assert_eq!(run(&[], &table), says(1, "", &many));
@@ -80,15 +82,15 @@ fn lines_of_wrong_form() {
     let (status, out, err) = run(&[], &input);
     assert_eq!((status, &*out), (1, "no\nyes\nok\t1\t9\t5\n"));
     let wrong = [
-        (0, "it is empty"),
-        (2, "it has a carriage return"),
-        (3, "it has the byte 0"),
-        (5, "it has 257 bytes"),
-        (7, "it is empty"),
+        (0, "is empty"),
+        (2, "has a carriage return"),
+        (3, "has the byte 0"),
+        (5, "has 257 bytes, more than 256"),
+        (7, "is empty"),
     ];
     let wrong = wrong.map(|(nth, cause)| {
         let line = FIRST + nth;
-        format!("yifgrun: standard input:{line}: {WRONG}: {cause}\n")
+        format!("yifgrun: standard input:{line}: the question {cause} (refusal 11)\n")
     });
     assert_eq!(err, wrong.concat());
 }

@@ -1,6 +1,6 @@
 //! Standard output and standard error: their order, and what comes of one that takes nothing.
 
-use crate::run::{file, FIRST, TABLE};
+use crate::run::{file, TABLE};
 use std::fs;
 use std::io::{self, PipeWriter};
 use std::process::Command;
@@ -22,19 +22,11 @@ fn a_refusal_is_told_in_its_place() {
     let ran = yifgrun(&[&input]).stdout(out).stderr(err).status();
     assert_eq!(ran.expect("the command ends").code(), Some(1));
     let said = fs::read_to_string(&both).expect("text");
-    let begins = said.lines().map(|line| match line.split_once(": the ") {
-        Some((which, _)) => which.to_owned(),
+    let begins = said.lines().map(|line| match line.strip_suffix(")") {
+        Some(refused) => refused.rsplit(' ').next().unwrap_or_default().to_owned(),
         None => line.to_owned(),
     });
-    let at = |nth: usize| format!("yifgrun: {input}:{}", FIRST + nth);
-    let due = [
-        "no",
-        &at(1),
-        "set\t1",
-        "sel\t0\t1\t0\t0",
-        &at(3),
-        "ok\t1\t9\t5",
-    ];
+    let due = ["no", "11", "set\t1", "sel\t0\t1\t0\t0", "12", "ok\t1\t9\t5"];
     assert_eq!(begins.collect::<Vec<_>>(), due);
 }
 

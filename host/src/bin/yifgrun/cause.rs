@@ -1,5 +1,6 @@
-//! Why a question is refused by 11, said closer than its words do.
+//! Why a table or a question is refused, said closer than the words of its refusal do.
 
+use crate::answer::shown;
 use crate::output::counted;
 use std::str;
 use yifgrun::{Counts, Library, Package, Question, Refusal, RefusalKind, Type};
@@ -17,7 +18,37 @@ pub fn told(refusal: Refusal, question: &[u8], table: &[u8]) -> String {
         RefusalKind::Question => cause(question, table),
         _ => None,
     };
-    cause.map_or_else(|| kind.to_string(), |cause| format!("{kind}: {cause}"))
+    let number = kind.number();
+    cause.map_or_else(|| kind.to_string(), |c| format!("{c} (refusal {number})"))
+}
+
+/// The words of a table's refusal, with what stands on its line.
+pub fn of_table(refusal: Refusal, table: &[u8]) -> String {
+    let words = refusal.kind.to_string();
+    let lines = table.split_inclusive(|&b| b == b'\n');
+    match lines.zip(1..).find(|(_, number)| *number == refusal.line) {
+        Some((line, _)) => format!("{words}: {}", seen(line)),
+        None => words,
+    }
+}
+
+/// A line of a table, or what is wrong with its bytes.
+fn seen(line: &[u8]) -> String {
+    let is_in_line = |b: &u8| (b' '..=b'~').contains(b) || *b == b'\t';
+    let (bare, ended) = match line.strip_suffix(b"\n") {
+        Some(bare) => (bare, true),
+        None => (line, false),
+    };
+    let strange = bare.iter().find(|&b| !is_in_line(b));
+    match strange {
+        Some(b'\r') => "the line has a carriage return".to_owned(),
+        Some(byte) => format!("the line has the byte {byte}"),
+        None if !ended => "the line has no newline".to_owned(),
+        None if bare.contains(&b' ') && !bare.contains(&b'\t') => {
+            "the line has blanks, and fields are parted by tabs".to_owned()
+        }
+        None => format!("`{}`", shown(bare)),
+    }
 }
 
 fn cause(question: &[u8], table: &[u8]) -> Option<String> {
@@ -26,7 +57,7 @@ fn cause(question: &[u8], table: &[u8]) -> Option<String> {
     }
     let line = str::from_utf8(question).ok()?;
     if let Some(form) = another_form(line) {
-        return Some(format!("its form is `{form}`"));
+        return Some(format!("the form of the question is `{form}`"));
     }
     match line.parse::<Question>() {
         Ok(question) => lacking(&question, Library::new(table).ok()?.counts()),
@@ -37,19 +68,22 @@ fn cause(question: &[u8], table: &[u8]) -> Option<String> {
 /// What is wrong with its bytes, whatever they mean.
 fn of_bytes(question: &[u8]) -> Option<String> {
     if question.is_empty() {
-        return Some("it is empty".to_owned());
+        return Some("the question is empty".to_owned());
     }
     if question.len() > MOST_BYTES {
-        return Some(format!("it has {}", counted(question.len(), "byte")));
+        return Some(format!(
+            "the question has {}, more than {MOST_BYTES}",
+            counted(question.len(), "byte")
+        ));
     }
     let strange = question
         .iter()
         .find(|&&b| b != b'\t' && !b.is_ascii_graphic());
     strange.map(|byte| match byte {
-        b' ' => "it has a blank, and fields are parted by a tab".to_owned(),
-        b'\r' => "it has a carriage return".to_owned(),
-        b'\n' => "it has a newline".to_owned(),
-        byte => format!("it has the byte {byte}"),
+        b' ' => "the question has a blank, and fields are parted by tabs".to_owned(),
+        b'\r' => "the question has a carriage return".to_owned(),
+        b'\n' => "the question has a newline".to_owned(),
+        byte => format!("the question has the byte {byte}"),
     })
 }
 

@@ -1,5 +1,6 @@
 //! A file of a table, and perhaps a line `Q` and questions.
 
+use crate::cause;
 use std::ffi::OsStr;
 use std::fs;
 use std::io::{self, Read};
@@ -83,6 +84,6 @@ impl Input {
 
     /// What is said of a refused table.
     pub fn refused(&self, refusal: Refusal) -> String {
-        self.at(refusal.line.into(), &refusal.kind.to_string())
+        self.at(refusal.line.into(), &cause::of_table(refusal, self.table()))
     }
 }
