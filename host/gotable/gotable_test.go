@@ -91,6 +91,10 @@ Q
 S 1 1 0 Next
 M 0
 M 1
+type 0: x.Node
+type 1: *x.Node
+type 2: struct{Next *x.Node}
+line 8: x/x.go:2:67: S 1 1 0 Next
 entry 0 1 0
 set 0
 set 0
@@ -165,7 +169,7 @@ func TestAPathThatNoTableTakes(t *testing.T) {
 
 func TestFilesOfAnEarlierRunAreRemoved(t *testing.T) {
 	folder := t.TempDir()
-	for _, name := range []string{"x.2.in", "x.2.out", "x.3.in", "x.3.out", "y.2.in"} {
+	for _, name := range []string{"x.2.in", "x.2.out", "x.3.in", "x.3.out", "x.3.names", "x.4.names", "y.2.in"} {
 		if err := os.WriteFile(filepath.Join(folder, name), nil, 0o666); err != nil {
 			t.Fatal(err)
 		}
@@ -174,8 +178,51 @@ func TestFilesOfAnEarlierRunAreRemoved(t *testing.T) {
 		t.Fatal(err)
 	}
 	left, _ := filepath.Glob(filepath.Join(folder, "*"))
-	if len(left) != 3 {
+	if len(left) != 4 {
 		t.Error(left)
+	}
+}
+
+// Types of one name are told apart by the place of their declaration.
+func TestTheNamesOfTypesWithinFunctions(t *testing.T) {
+	text, _ := written(t, source(t, `
+type G[T any] struct { F *T }
+func (g G[T]) f() *T { return g.F }
+func f() *int { type L struct { G[int] }; return L{}.F }
+func g() *int { type L struct { *G[int] }; var l *G[L]; return l.F.F }`), false)
+	for _, due := range []string{
+		": x.L at x/x.go:5:22\n", ": x.L at x/x.go:6:22\n", ": *x.L at x/x.go:6:22\n",
+		": x.G[x.L] at x/x.go:6:22\n", ": x.G[T] at x/x.go:4:11\n", ": x.G[T any]\n", ": x.G[int]\n",
+		": T at x/x.go:3:8 (not entered)\n", ": T at x/x.go:4:11 (not entered)\n", ": x/x.go:4:33: S ", ": x/x.go:6:66: S ",
+	} {
+		if strings.Count(text, due) != 1 {
+			t.Errorf("not once %q in\n%s", due, text)
+		}
+	}
+}
+
+// namedOf is the line of a type T of a package.
+func namedOf(path, name string) *line {
+	t := types.NewTypeName(token.NoPos, types.NewPackage(path, name), "T", nil)
+	return &line{typ: types.NewNamed(t, nothing, nil)}
+}
+
+// A package has its name, and its path where another package has that name, or a path that is that name.
+func TestTheNamesOfPackages(t *testing.T) {
+	inOrder := []*line{namedOf("a/p", "p"), namedOf("b/p", "p"), namedOf("c/q", "q"), namedOf("q", "r"), namedOf("d/s", "s")}
+	n := namingOf(inOrder)
+	for i, due := range []string{"a/p.T", "b/p.T", "c/q.T", "r.T", "s.T"} {
+		if name := types.TypeString(inOrder[i].typ, n.word); name != due {
+			t.Errorf("%s, not %s", name, due)
+		}
+	}
+}
+
+// A line comment, such as generators write, does not change a place.
+func TestAPlaceIsInTheFileThatWasRead(t *testing.T) {
+	text, _ := written(t, source(t, "type S struct { F int }\n//line /else/x.y:90\nvar f = S{}.F"), false)
+	if !strings.Contains(text, ": x/x.go:4:13: S 0 0 0 F\n") {
+		t.Error(text)
 	}
 }
 

@@ -19,7 +19,8 @@ import (
 // A checked package is one that go/types has found right.
 type checked struct {
 	*types.Package
-	info *types.Info
+	info  *types.Info
+	files *token.FileSet
 }
 
 // A loader checks packages from source. One importer serves them all, so that what several import is checked once.
@@ -57,6 +58,9 @@ func isFolder(argument string) bool {
 // find asks go/build, which asks the go command for packages of modules. It runs in build.Default.Dir: the module that counts is that of a given folder,
 // otherwise that of the working folder.
 func (l *loader) find(argument string) (*build.Package, error) {
+	if strings.Contains(argument, "...") {
+		return nil, fmt.Errorf("patterns are not expanded: name packages, as by $(go list %s)", argument)
+	}
 	if !isFolder(argument) {
 		build.Default.Dir = l.folder
 		return build.Import(argument, l.folder, 0)
@@ -132,7 +136,7 @@ func (l *loader) check(path string, files []*ast.File) (*checked, error) {
 	if len(wrong) > 0 {
 		return nil, l.failure(path, wrong)
 	}
-	return &checked{pkg, info}, err
+	return &checked{pkg, info, l.files}, err
 }
 
 // listed are the errors of a file that does not parse.

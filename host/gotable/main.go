@@ -12,9 +12,9 @@ import (
 const usage = `usage: gotable [-o FOLDER] [-every] PACKAGE..
 
 Writes the types of Go packages as tables, and their selectors (S) and method sets (M) as questions, with the answers of go/types.
-A PACKAGE is an import path (net/http) or a folder (., ./x).
+A PACKAGE is an import path (net/http) or a folder (., ./x). Patterns (./...) are not expanded.
 
-  -o FOLDER  where NAME.1.in, NAME.1.out, NAME.2.in, .. are written, NAME being the import path with - for / (default: tables)
+  -o FOLDER  where NAME.1.in, NAME.1.out, NAME.1.names, NAME.2.in, .. are written, NAME being the import path with - for / (default: tables)
   -every     also asks every name on every receiver
 `
 

@@ -26,7 +26,7 @@ func writePackage(c *checked, folder string, every bool) (*report, error) {
 	stem := filepath.Join(folder, fileName(c.Path()))
 	for i, t := range w.split.tables {
 		a := w.askAll(t, every)
-		if err := writeFiles(stem, i+1, a); err != nil {
+		if err := writeFiles(numbered(stem, i+1), a.head()+a.in.String(), a.out.String(), w.names(a)); err != nil {
 			return nil, err
 		}
 	}
@@ -76,8 +76,10 @@ func (w *writer) askSelectors(a *asker) {
 	for _, s := range w.at[a.table] {
 		selection := w.info.Selections[s]
 		addressable := selection.Kind() != types.MethodExpr && w.info.Types[s.X].Addressable()
-		if a.selector(selection.Recv(), addressable, s.Sel.Name, a.selection(selection)) {
+		question := a.selector(selection.Recv(), addressable, s.Sel.Name)
+		if a.ask(question, a.selection(selection)) {
 			w.report.asked++
+			a.note(question, w.place(w.Package, s.Sel.Pos()))
 		}
 	}
 }
@@ -92,36 +94,40 @@ func (w *writer) askEvery(a *asker) {
 // fileName is an import path as the beginning of a file's name.
 func fileName(path string) string { return strings.ReplaceAll(path, "/", "-") }
 
-// numbered are the names of a table's two files.
-func numbered(stem string, number int) (in, out string) {
+// numbered are the names of a table's three files.
+func numbered(stem string, number int) []string {
 	stem = fmt.Sprintf("%s.%d", stem, number)
-	return stem + ".in", stem + ".out"
+	return []string{stem + ".in", stem + ".out", stem + ".names"}
 }
 
-func writeFiles(stem string, number int, a *asker) error {
-	in, out := numbered(stem, number)
-	if err := os.WriteFile(in, []byte(a.text+"Q\n"+a.in.String()), 0o666); err != nil {
-		return err
+func writeFiles(names []string, texts ...string) error {
+	for i, name := range names {
+		if err := os.WriteFile(name, []byte(texts[i]), 0o666); err != nil {
+			return err
+		}
 	}
-	return os.WriteFile(out, []byte(a.out.String()), 0o666)
+	return nil
 }
 
 // removeLeft removes what an earlier run wrote of a package that had more tables then.
 func removeLeft(stem string, from int) error {
 	for ; ; from++ {
-		in, out := numbered(stem, from)
-		if err := os.Remove(in); err != nil {
-			return unlessMissing(err)
-		}
-		if err := os.Remove(out); err != nil {
-			return unlessMissing(err)
+		some, err := remove(numbered(stem, from))
+		if err != nil || !some {
+			return err
 		}
 	}
 }
 
-func unlessMissing(err error) error {
-	if os.IsNotExist(err) {
-		return nil
+// remove removes files, and reports whether there were some of them.
+func remove(names []string) (bool, error) {
+	some := false
+	for _, name := range names {
+		err := os.Remove(name)
+		if err != nil && !os.IsNotExist(err) {
+			return some, err
+		}
+		some = some || err == nil
 	}
-	return err
+	return some, nil
 }

@@ -13,6 +13,7 @@ type asker struct {
 	*registry
 	pkg      *types.Package
 	in, out  strings.Builder
+	sources  strings.Builder // where the questions of selectors stand, here and in the source
 	answered map[string]string
 	shared   int // members whose object has several places in the table
 }
@@ -35,10 +36,18 @@ func (a *asker) ask(question, answer string) bool {
 	return true
 }
 
-// selector asks what a name means on a receiver.
-func (a *asker) selector(receiver types.Type, addressable bool, name, answer string) bool {
-	question := row("S", a.numbers.typ(receiver), bit(addressable), a.numbers.pkg(a.pkg), name)
-	return a.ask(question, answer)
+// selector is the question what a name means on a receiver.
+func (a *asker) selector(receiver types.Type, addressable bool, name string) string {
+	return row("S", a.numbers.typ(receiver), bit(addressable), a.numbers.pkg(a.pkg), name)
+}
+
+// head is what stands above the questions.
+func (a *asker) head() string { return a.text + "Q\n" }
+
+// note notes the place in the source of the question that was asked last, with blanks for tabs as the command yifgrun prints it.
+func (a *asker) note(question, place string) {
+	line := strings.Count(a.head(), "\n") + len(a.answered)
+	fmt.Fprintf(&a.sources, "line %d: %s: %s", line, place, strings.ReplaceAll(question, "\t", " "))
 }
 
 // selection is what go/types recorded for a selector.
@@ -161,5 +170,5 @@ func (a *asker) every(receiver types.Type, names []string) int {
 
 // lookUp asks a name on a receiver, and gives 1 if the question is new.
 func (a *asker) lookUp(receiver types.Type, addressable bool, name string) int {
-	return bit(a.selector(receiver, addressable, name, a.found(receiver, addressable, name)))
+	return bit(a.ask(a.selector(receiver, addressable, name), a.found(receiver, addressable, name)))
 }

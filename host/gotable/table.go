@@ -11,6 +11,7 @@ type table struct {
 	closure
 	cost    cost
 	numbers numbers
+	inOrder []*line
 	first   map[*line]int // the number of each line's first member
 	text    string
 	count   int // of members
@@ -61,12 +62,12 @@ func (t *table) take(c *closure) reason {
 // write numbers the lines and writes the text.
 func (t *table) write() {
 	paths := t.paths()
-	inOrder := ordered(&t.closure)
-	t.numbers = numbers{numberTypes(t.lines, inOrder), numberPaths(paths)}
+	t.inOrder = ordered(&t.closure)
+	t.numbers = numbers{numberTypes(t.lines, t.inOrder), numberPaths(paths)}
 	t.first = map[*line]int{}
 	var b strings.Builder
 	b.WriteString(head + packageLines(paths))
-	for _, l := range inOrder {
+	for _, l := range t.inOrder {
 		entered := t.entered.has[l]
 		t.first[l] = t.count
 		t.count += len(membersOf(l.typ, entered))

@@ -10,11 +10,13 @@ mod answers;
 mod blocks;
 #[path = "gotable/limits.rs"]
 mod limits;
+#[path = "gotable/names.rs"]
+mod names;
 #[path = "gotable/program.rs"]
 mod program;
 
 use answers::{compare_all, pairs};
-use blocks::{first, only};
+use blocks::{first, only, read};
 use program::{command, empty_folder, go, gotable, host, run, say, sum, written};
 use std::fs;
 use std::path::{Path, PathBuf};
@@ -47,6 +49,39 @@ fn the_sample_is_written_again() {
         assert_eq!(again.name, stored.name);
         assert!(again.input == stored.input, "{}.in", stored.name);
         assert!(again.output == stored.output, "{}.out", stored.name);
+        assert!(again.names == stored.names, "{}.names", stored.name);
+    }
+}
+
+/// Each place that the sample names has the name that is asked for.
+#[test]
+fn the_places_in_the_source() {
+    let mut count = 0;
+    for pair in pairs(&host("testdata/gotable")) {
+        for source in names::sources(&pair) {
+            let [file, line, column] = source.place;
+            let number = |text: &str| text.parse::<usize>().expect("a number") - 1;
+            let text = read(&format!("host/gotable/testdata/{file}"));
+            let line = text.lines().nth(number(line)).expect("a line");
+            let (before, here) = line.split_at(number(column));
+            assert!(before.ends_with('.'), "{}: {line}", source.place.join(":"));
+            assert!(here.starts_with(source.name()), "{line}");
+            count += 1;
+        }
+    }
+    assert_eq!(count, sum(include_str!("gotable/sample.txt"), "S"));
+}
+
+/// The lines that the README shows of a file of names stand in that of the sample.
+#[test]
+fn the_names_of_the_readme() {
+    let names = read("host/testdata/gotable/office-cat.1.names");
+    let readme = read("host/gotable/README.md");
+    let is_line = |text: &&str| text.starts_with("type ") || text.starts_with("line ");
+    let shown: Vec<&str> = readme.split('`').filter(is_line).collect();
+    assert_eq!(shown.len(), 4, "{shown:?}");
+    for line in shown {
+        assert!(names.lines().any(|due| due == line), "{line}");
     }
 }
 
@@ -102,6 +137,7 @@ fn compare_packages(what: &str, options: &[&str], packages: &[&str]) -> Option<S
     assert_eq!(lines.lines().count(), packages.len());
     assert_eq!(count.tables, total("tables"));
     assert_eq!(count.same, total("S") + total("M") + total("every"));
+    assert_eq!(count.sources, total("S"));
     let words = [
         "tables",
         "types",
@@ -181,6 +217,30 @@ fn a_package_that_is_not_found() {
         err.contains("\ngotable: ./none: cannot find package "),
         "{err}"
     );
+}
+
+/// A pattern is told, and what the go command makes of it can be written.
+#[test]
+fn a_pattern() {
+    let Some(gotable) = gotable("patterns") else {
+        return;
+    };
+    let (module, to) = (
+        host("gotable/testdata/office"),
+        empty_folder("gotable-pattern"),
+    );
+    let into = to.to_str().expect("a path that is text");
+    let due = "gotable: ./...: patterns are not expanded: name packages, as by $(go list ./...)\n";
+    assert_eq!(
+        run(gotable, &module, &["-o", into, "./..."]),
+        (1, String::new(), due.to_owned())
+    );
+    let go = go().expect("gotable was built by it");
+    let (status, listed, _) = run(Path::new(&go), &module, &["list", "./..."]);
+    assert_eq!(status, 0);
+    let packages: Vec<&str> = listed.split_whitespace().collect();
+    let said = written(gotable, &module, &to, &packages);
+    assert_eq!(said.lines().count(), 2, "{said}");
 }
 
 #[test]

@@ -1,13 +1,15 @@
 //! What gotable writes, and the library's answers held against it.
 
+use crate::names;
 use std::fs;
 use std::path::Path;
 
-/// What gotable writes for one table: the table with its questions, and go/types' answers.
+/// What gotable writes for one table: the table with its questions, go/types' answers, and the names for people.
 pub struct Pair {
     pub name: String,
     pub input: String,
     pub output: String,
+    pub names: String,
 }
 
 /// The pairs of a folder, by name.
@@ -24,12 +26,13 @@ pub fn pairs(folder: &Path) -> Vec<Pair> {
 }
 
 fn pair(input: &Path) -> Pair {
-    let text = |path: &Path| fs::read_to_string(path).expect("both files of a pair");
+    let text = |path: &Path| fs::read_to_string(path).expect("each file of a table");
     let name = input.file_stem().and_then(|name| name.to_str());
     Pair {
         name: name.expect("a name that is text").to_owned(),
         input: text(input),
         output: text(&input.with_extension("out")),
+        names: text(&input.with_extension("names")),
     }
 }
 
@@ -50,20 +53,22 @@ fn library(name: &str, table: &str, questions: &str) -> Vec<String> {
 }
 
 /// How many answers are the same, and of these how many are ambiguous: go/types shows one way, the first or the second
-/// of the library's.
+/// of the library's. Sources are the questions that have a place in the source.
 #[derive(Debug, Default)]
 pub struct Count {
     pub tables: usize,
     pub same: usize,
+    pub sources: usize,
     pub first_way: usize,
     pub second_way: usize,
 }
 
-/// Holds the library's answers on every pair of a folder against go/types'.
+/// Holds the library's answers on every pair of a folder against go/types', and its names against the table.
 pub fn compare_all(folder: &Path) -> Count {
     let mut count = Count::default();
     for pair in pairs(folder) {
         compare(&pair, &mut count);
+        count.sources += names::check(&pair);
     }
     count
 }
