@@ -185,6 +185,19 @@ fn other_texts_are_no_values() {
     }
 }
 
+/// A name is one for the types exactly if it is one for the archive, whatever its length and its bytes.
+#[test]
+fn names_are_judged_alike() {
+    let mut answers = Answers::new();
+    let lengths = (0..70).map(|length| "x".repeat(length));
+    let bytes = (0..128u8).flat_map(|b| [format!("{}", b as char), format!("x{}", b as char)]);
+    for name in lengths.chain(bytes) {
+        let line = format!("S\t0\t0\t-\t{name}");
+        let asked = answers.ask(TABLE.as_bytes(), line.as_bytes()).is_ok();
+        assert_eq!(line.parse::<Question>().is_ok(), asked, "{name:?}");
+    }
+}
+
 #[test]
 fn every_refusal_has_a_kind_and_words() {
     let mut kinds = Vec::new();
