@@ -4,10 +4,11 @@
 #![allow(clippy::incompatible_msrv)]
 
 mod blocks;
+mod said;
 
 use blocks::only;
+use said::say;
 use std::fs;
-use std::io::{self, Write};
 use std::path::Path;
 use std::process::Command;
 
@@ -56,7 +57,7 @@ fn printed(source: &Path, name: &str) -> Option<String> {
         .arg(&program)
         .output();
     let Ok(compiled) = compiled else {
-        writeln!(io::stderr(), "there is no cc: {name} is not run").expect("a line");
+        say(&format!("there is no cc: {name} is not run"));
         return None;
     };
     let said = String::from_utf8_lossy(&compiled.stderr);

@@ -8,16 +8,20 @@
 #[path = "gotable/answers.rs"]
 mod answers;
 mod blocks;
+mod go;
 #[path = "gotable/limits.rs"]
 mod limits;
 #[path = "gotable/names.rs"]
 mod names;
 #[path = "gotable/program.rs"]
 mod program;
+mod said;
 
 use answers::{compare_all, pairs};
 use blocks::{first, only, read};
-use program::{command, empty_folder, go, gotable, host, run, say, sum, written};
+use go::go;
+use program::{command, empty_folder, gotable, host, run, sum, written};
+use said::say;
 use std::fs;
 use std::path::{Path, PathBuf};
 use std::time::Instant;

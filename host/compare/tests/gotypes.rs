@@ -1,6 +1,9 @@
 //! Go's own checker, package go/types of 1.19, on the same tables: every difference is one that docs/DIFFERENCES.md explains.
 
 mod batches;
+#[path = "../../tests/go/mod.rs"]
+mod go;
+#[path = "../../tests/said/mod.rs"]
 mod said;
 
 use compare::agreement::{agrees, Agreement};
@@ -11,20 +14,13 @@ use compare::question::Question;
 use compare::random::{self, Shape};
 use compare::table::Table;
 use compare::{refusals, typeask};
+use go::go;
 use said::say;
 use std::io::Write;
 use std::path::{Path, PathBuf};
 use std::process::{Command, Stdio};
 use std::sync::OnceLock;
 use std::{env, thread};
-
-/// Go 1.19's command, if it is installed: `GO`, or where Debian's package golang-1.19-go puts it.
-fn go() -> Option<String> {
-    let command = env::var("GO").unwrap_or("/usr/lib/go-1.19/bin/go".to_owned());
-    let version = Command::new(&command).arg("version").output().ok()?;
-    let version = String::from_utf8_lossy(&version.stdout).into_owned();
-    version.contains("go1.19").then_some(command)
-}
 
 /// The program over go/types, built once, if Go 1.19 is installed.
 fn program() -> Option<&'static Path> {

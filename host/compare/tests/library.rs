@@ -1,6 +1,7 @@
 //! The library against goscript and against the refusals that are due: short runs of the programs `compare` and
 //! `hammer`, and the hard tables.
 
+#[path = "../../tests/said/mod.rs"]
 mod said;
 
 use compare::agreement::Agreed;

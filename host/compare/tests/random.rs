@@ -1,6 +1,7 @@
 //! Random tables load, are read as they are written, are refused where their packages are put out of order, and give
 //! answers of every form.
 
+#[path = "../../tests/said/mod.rs"]
 mod said;
 
 use compare::damage::disorder;

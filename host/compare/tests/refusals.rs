@@ -4,6 +4,7 @@
 mod batches;
 #[path = "../../tests/due/mod.rs"]
 mod due;
+#[path = "../../tests/said/mod.rs"]
 mod said;
 
 use compare::refusals::{self, Refused};

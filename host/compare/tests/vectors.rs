@@ -3,6 +3,7 @@
 mod batches;
 #[path = "../../tests/due/mod.rs"]
 mod due;
+#[path = "../../tests/said/mod.rs"]
 mod said;
 
 use compare::agreement::{agrees, agrees_with, Agreed};

@@ -19,6 +19,8 @@ mod order;
 mod pages;
 mod questions;
 mod rebuilt;
+#[path = "../said/mod.rs"]
+mod said;
 #[cfg(target_os = "linux")]
 mod stack;
 mod stored;
@@ -26,3 +28,4 @@ mod stored;
 mod typeask;
 mod values;
 mod vectors;
+mod words;

@@ -2,7 +2,8 @@
 
 use crate::bounds;
 use crate::questions::given;
-use crate::stored::{cases, say, Case};
+use crate::said::say;
+use crate::stored::{cases, Case};
 use crate::typeask;
 use yifgrun::{each_answer, Answers};
 

@@ -5,7 +5,8 @@ use crate::bounds;
 use crate::fenced::{Fenced, Side};
 use crate::joined::joined;
 use crate::lent::{asked, asked_all};
-use crate::stored::{cases, say};
+use crate::said::say;
+use crate::stored::cases;
 use crate::typeask::{parted, texts, Ask};
 use yifgrun::{work_words, Refusal};
 

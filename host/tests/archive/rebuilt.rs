@@ -1,7 +1,8 @@
 //! `TableBuilder`: every stored table that loads is made again by calls, and answers every stored question as before,
 //! with the numbers that the builder gave.
 
-use crate::stored::{cases, say};
+use crate::said::say;
+use crate::stored::cases;
 use crate::typeask;
 use std::collections::HashMap;
 use yifgrun::{Added, Answer, Basic, Direction, Library, Member, Method, Package, Question};

@@ -3,7 +3,7 @@
 use crate::bounds;
 use crate::lent::{asked, asked_all};
 use crate::numbers::Numbers;
-use crate::stored::say;
+use crate::said::say;
 use crate::typeask::Ask;
 use std::ffi::c_void;
 use std::thread;

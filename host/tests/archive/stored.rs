@@ -2,7 +2,7 @@
 //! tools/host_sample.py makes, and the vectors where they are at hand.
 
 use crate::due::{self, ordered, Due};
-use std::io::{self, Write};
+use crate::said::say;
 use std::path::{Path, PathBuf};
 use std::{env, fs};
 
@@ -61,11 +61,6 @@ fn folder(variable: &str, usual: &str) -> Option<PathBuf> {
 
 fn sample() -> PathBuf {
     Path::new(env!("CARGO_MANIFEST_DIR")).join("testdata")
-}
-
-/// Says on standard error what was run. The harness hides what is printed, but not what is written.
-pub fn say(what: &str) {
-    writeln!(io::stderr(), "{what}").expect("standard error takes a line");
 }
 
 /// The base's pairs of files and document 02's, each with what tells the print that is due now from the stored one.

@@ -2,7 +2,8 @@
 //! `Library` gives by values what the calls give by texts.
 
 use crate::numbers::Numbers;
-use crate::stored::{cases, say};
+use crate::said::say;
+use crate::stored::cases;
 use crate::typeask;
 use yifgrun::{each_answer, Answer, Answers, Counts, Library, Package, Question, Refusal};
 use yifgrun::{RefusalKind, Type};

@@ -11,7 +11,6 @@ mod run;
 mod streams;
 #[path = "../transcript/mod.rs"]
 mod transcript;
-mod words;
 
 use std::fs;
 use std::path::Path;

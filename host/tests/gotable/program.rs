@@ -1,15 +1,11 @@
 //! gotable built and run, where Go 1.19 is at hand.
 
-use std::io::{self, Write};
+use crate::go::go;
+use crate::said::say;
+use std::fs;
 use std::path::{Path, PathBuf};
 use std::process::Command;
 use std::sync::OnceLock;
-use std::{env, fs};
-
-/// Says on standard error what was run. The harness hides what is printed, but not what is written.
-pub fn say(what: &str) {
-    writeln!(io::stderr(), "{what}").expect("standard error takes a line");
-}
 
 /// A path of this package.
 pub fn host(path: &str) -> PathBuf {
@@ -29,14 +25,6 @@ pub fn empty_folder(name: &str) -> PathBuf {
     }
     fs::create_dir_all(&folder).expect("a new folder");
     folder
-}
-
-/// Go 1.19's command, if it is installed: `GO`, or where Debian's package golang-1.19-go puts it.
-pub fn go() -> Option<String> {
-    let command = env::var("GO").unwrap_or("/usr/lib/go-1.19/bin/go".to_owned());
-    let version = Command::new(&command).arg("version").output().ok()?;
-    let version = String::from_utf8_lossy(&version.stdout).into_owned();
-    version.contains("go1.19").then_some(command)
 }
 
 /// A command that runs in a folder, with a build cache of the tests' own and without the settings of the one who runs them.

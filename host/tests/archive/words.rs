@@ -1,44 +1,26 @@
 //! Answers in words, for every question of the stored inputs: there are words where there is an answer, and they tell
 //! the same.
 
-use std::fs;
-use std::path::Path;
-use yifgrun::{Answer, Answers, Library, Method, Question, Satisfaction, Selection, Type};
-
-/// The stored inputs of `typeask`, each ended by a line `---`.
-fn inputs() -> Vec<String> {
-    let sample = Path::new(env!("CARGO_MANIFEST_DIR")).join("testdata/sample.in");
-    let text = fs::read(sample).expect("the sample");
-    let text = String::from_utf8_lossy(&text);
-    let cases = text.strip_prefix("BATCH\n").expect("a line BATCH");
-    cases.split_terminator("---\n").map(str::to_owned).collect()
-}
-
-/// A table and its questions.
-fn parted(input: &str) -> (&str, Vec<&str>) {
-    let (table, questions) = match (input.strip_prefix("Q\n"), input.split_once("\nQ\n")) {
-        (Some(questions), _) => ("", questions),
-        (None, Some((table, questions))) => (&input[..=table.len()], questions),
-        (None, None) => (input, "V"),
-    };
-    (table, questions.split_terminator('\n').collect())
-}
+use crate::said::say;
+use crate::stored::cases;
+use crate::typeask;
+use yifgrun::{Answer, Library, Method, Question, Satisfaction, Selection, Type};
 
 #[test]
 fn words_tell_the_answer() {
-    let mut counts = (0, 0);
-    for input in inputs() {
-        let (table, questions) = parted(&input);
+    let (mut answered, mut refused) = (0, 0);
+    for case in cases() {
+        let (table, questions) = typeask::parted(&case.input);
         if let Ok(mut library) = Library::new(table) {
-            let answered = questions.iter().filter(|q| hold(&mut library, q));
-            let answered = answered.count();
-            counts.0 += answered;
-            counts.1 += questions.len() - answered;
+            let told = questions.iter().filter(|q| hold(&mut library, q)).count();
+            answered += told;
+            refused += questions.len() - told;
         }
     }
-    let (answered, refused) = counts;
-    assert!(answered > 500, "{answered} answered");
-    assert!(refused > 20, "{refused} refused");
+    say(&format!(
+        "{answered} answers in words, {refused} lines refused"
+    ));
+    assert!(answered > 500 && refused > 20, "{answered}, {refused}");
 }
 
 /// Each struct has the one before twice: whoever goes into every part comes to no end.
@@ -54,11 +36,11 @@ fn a_part_that_recurs_is_gone_into_once() {
     assert_eq!(words.as_deref(), Ok(due));
 }
 
-/// Whether a question is answered; its words are held against the answer.
-fn hold(library: &mut Library, line: &str) -> bool {
+/// Whether a line is answered; the words are held against the answer. That no other line is answered is tried where
+/// lines are read as values.
+fn hold(library: &mut Library, line: &[u8]) -> bool {
+    let line = String::from_utf8_lossy(line);
     let Ok(question) = line.parse::<Question>() else {
-        let asked = Answers::new().ask(library.table(), line.as_bytes()).is_ok();
-        assert!(!asked, "{line} is answered, and is no question");
         return false;
     };
     match (library.ask(&question), library.explain(&question)) {
