@@ -4,6 +4,8 @@ pub const SLICE: u32 = 2;
 
 pub const POINTER: u32 = 3;
 
+pub const CHAN: u32 = 5;
+
 pub const TUPLE: u32 = 6;
 
 pub const FUNC: u32 = 7;

@@ -69,7 +69,7 @@ pub fn put_decimal(out: &mut [u8], at: usize, n: u32) -> usize
 }
 
 // A tab and a number.
-fn put_field(out: &mut [u8], at: usize, n: u32) -> usize
+pub fn put_field(out: &mut [u8], at: usize, n: u32) -> usize
     requires { ⌜ at + length (9 ∷ decimal n) ≤ length (now out) ⌝ }
     ensures { λ r. ⌜ Wrote (now (out .entry)) at (9 ∷ decimal n) (now (out .exit)) r ⌝ }
 {

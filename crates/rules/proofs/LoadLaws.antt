@@ -27,10 +27,10 @@ pub record WellFormed (k : Kind) : Type 0 where
   pub few : length (membersOf k) ≤ maxPerType
 
 -- a kind that may have members at all
-abbrev hasMembers : Kind → Bool
+abbrev pub hasMembers : Kind → Bool
 hasMembers k = isStruct k || (isNamed k || isIface k)
 
-stands-has : (e : Entity) (k : Kind) → stands e k ≡ true → hasMembers k ≡ true
+pub stands-has : (e : Entity) (k : Kind) → stands e k ≡ true → hasMembers k ≡ true
 stands-has (Field emb tag) k h = rw h
 stands-has (Method ptr) k h = rw (h, or-true)
 

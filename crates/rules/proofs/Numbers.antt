@@ -43,7 +43,8 @@ table-bound n (inr e) = (omega arith, omega arith)
 abbrev pub Numbered : ℕ → ℕ → Type 0
 Numbered n line = (2 ≤ n) × (n ≤ lastRefusal) × (line < refusalUnit)
 
-abbrev Refuses : Outcome → Type 0
+-- what refuses so, or is said
+abbrev pub Refuses : Outcome → Type 0
 Refuses (refuse n line) = Numbered n line
 Refuses (say bytes) = Unit {0}
 
@@ -77,7 +78,7 @@ fitted-bounded room (refuse n line) h = h
 fitted-bounded room (say bytes) h = cases (ltb room (length bytes)) (λ e. rw e (omega arith, omega arith, omega arith)) (λ e. rw e (ltb-false room (length bytes) e))
 
 -- a table's refusal, or what is said of it if it fits
-due-bounded : (said : Table → Outcome) → ((T : Table) → Refuses (said T)) → (table : Bytes) (room : ℕ) → Bounded room (fitted room (onTable said (load table)))
+pub due-bounded : (said : Table → Outcome) → ((T : Table) → Refuses (said T)) → (table : Bytes) (room : ℕ) → Bounded room (fitted room (onTable said (load table)))
 unfolding onTable
 due-bounded said h table room = fitted-bounded room (onTable said (load table)) (go (load table) (load-right table))
   where

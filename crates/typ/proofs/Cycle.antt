@@ -44,9 +44,6 @@ module _ (T : Table) (x y : TypeKey) where
   pub mismatch-apart : (r : Bool) → r ≡ mismatch T (pairOf x y) → r ≡ true → Same T x y → ⊥
   mismatch-apart r e h s = clash (sym e ∙ h) (once-match (s 1))
 
-  pub no-mismatch : (r : Bool) → r ≡ mismatch T (pairOf x y) → r ≡ false → x .0 < size T → y .0 < size T → Peers T x y
-  no-mismatch r e h hx hy = record { left = hx; right = hy; alike = sym e ∙ h }
-
   pub at-once-told : (l c : List ℕ) → AtOnce T l l c c x y false
   unfolding AtOnce
   at-once-told l c _ = (refl, refl, refl)

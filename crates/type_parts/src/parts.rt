@@ -78,7 +78,7 @@ fn own_of(rows: &[u32], t: TypeKey) -> u32
 }
 
 // The same. Of struct, iface and tuple it is how many members or elements there are, which is read at once.
-fn own_number(rows: &[u32], t: TypeKey) -> u32
+pub fn own_number(rows: &[u32], t: TypeKey) -> u32
     ensures { λ r. ⌜ r ≡ ownRead (now (rows .entry)) t ⌝ }
 {
     let k = type_word(rows, t, 0);

@@ -11,16 +11,15 @@ use borrow.Fn.Kinds.{In}
 use borrow.Fn.PlainCycle.{Measures, is, falls, and}
 use Rattle.objects.specs.Rows.{tableOf}
 use Rattle.objects.proofs.ListLaws.{cases}
-use Rattle.objects.proofs.RowLaws.{size-read}
 use Rattle.type_parts.specs.Parts.{Peers}
 use Rattle.type_parts.proofs.Rank.{rank, high, rankSpan}
-use Rattle.type_parts.proofs.KinLaws.{peers-kin, left-place, right-place, left-inside, right-inside}
+use Rattle.type_parts.proofs.KinLaws.{peers-kin, peers-of, left-place, right-place, left-inside, right-inside}
 use Rattle.pair_marks.specs.Marks.{met, unmet}
 use Rattle.pair_marks.specs.Pairs.{pair}
 use Rattle.typ.proofs.Marked.{went-self, went-apart}
 use Rattle.typ.proofs.Passing.{Passed, passed-none, at-end, at-differ, at-same}
 use Rattle.typ.proofs.DepthLaws.{parts-within, next-within, part-within}
-use Rattle.typ.proofs.Cycle.{mismatch-apart, no-mismatch, at-once-told, at-once-else, self-match, key-small, in-labels, in-marks, known-match, known-went, entered-not, entered-well, entered-went, entered-falls, part-falls}
+use Rattle.typ.proofs.Cycle.{mismatch-apart, at-once-told, at-once-else, self-match, key-small, in-labels, in-marks, known-match, known-went, entered-not, entered-well, entered-went, entered-falls, part-falls}
 use Rattle.typ.proofs.identical.identical_impl.Reads as identical-impl
 use Rattle.typ.proofs.identical.identical_impl.Kinds as identical-impl-kinds
 use Rattle.typ.proofs.identical.+identical_impl+identical_impl_o.Lts-identical_impl as identical-impl-lts
@@ -121,8 +120,7 @@ identical-impl-returns-3 t c =
 peers-past : (t : ℕ) (c : identical-impl-lts.Else3 (calls t) (identical-impl-at t) identical-impl.Post) → let at-entry = c .before .before .before .before .before .before .before .before .before .before .before .before .before in Peers (tableOf (at-entry .args .text .now) (at-entry .args .rows .now)) (at-entry .args .x) (at-entry .args .y)
 peers-past t c =
     let at-entry = c .before .before .before .before .before .before .before .before .before .before .before .before .before in
-    let size = size-read (at-entry .args .text .now) (at-entry .args .rows .now) in
-    no-mismatch _ _ _ _ (c .before .mismatch .ensures) (c .if3 .left) (rw size (at-entry .pre .1 .1 .0 .0)) (rw size (at-entry .pre .1 .1 .0 .1))
+    peers-of _ _ _ _ (at-entry .pre .1 .1 .0 .0) (at-entry .pre .1 .1 .0 .1) (c .before .mismatch .ensures) (c .if3 .left)
 
 -- and their pair was not met
 unmet-past : (t : ℕ) (c : identical-impl-lts.Else3 (calls t) (identical-impl-at t) identical-impl.Post) → let at-entry = c .before .before .before .before .before .before .before .before .before .before .before .before .before in met (at-entry .args .marks .now) (pair (at-entry .args .x) (at-entry .args .y)) ≡ false

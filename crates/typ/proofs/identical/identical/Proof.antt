@@ -7,12 +7,12 @@ use lib.ListN.{length}
 use lib.Seq.{length-take-le}
 use Rattle.objects.specs.Bounds.{maxTypes, pairWords}
 use Rattle.objects.specs.Rows.{typeCount, tableOf}
-use Rattle.objects.proofs.RowLaws.{size-read}
 use Rattle.rules.proofs.Sounds.{library-sound}
 use Rattle.type_parts.specs.Parts.{Peers}
+use Rattle.type_parts.proofs.KinLaws.{peers-of}
 use Rattle.pair_marks.proofs.Zero.{zero-front, front-back}
 use Rattle.pair_marks.proofs.PairLaws.{words-more, words-of}
-use Rattle.typ.proofs.Cycle.{mismatch-apart, no-mismatch}
+use Rattle.typ.proofs.Cycle.{mismatch-apart}
 use Rattle.typ.proofs.Top.{selfsame, differed}
 use Rattle.typ.proofs.identical.identical.Statement.{statement}
 use Rattle.typ.proofs.identical.identical.Tie as tie
@@ -32,8 +32,7 @@ returns-2 c =
 peers-past : (c : tie.Else2) → let at-entry = c .before .before .before .before .before .before .before .before in Peers (tableOf (at-entry .args .text .now) (at-entry .args .rows .now)) (at-entry .args .x) (at-entry .args .y)
 peers-past c =
     let at-entry = c .before .before .before .before .before .before .before .before in
-    let size = size-read (at-entry .args .text .now) (at-entry .args .rows .now) in
-    no-mismatch _ _ _ _ (c .before .mismatch .ensures) (c .if2 .left) (rw size (at-entry .pre .1 .0 .0)) (rw size (at-entry .pre .1 .0 .1))
+    peers-of _ _ _ _ (at-entry .pre .1 .0 .0) (at-entry .pre .1 .0 .1) (c .before .mismatch .ensures) (c .if2 .left)
 
 apart-requires : tie.Need-apart-requires
 apart-requires c κs = (c .before .before .before .before .before .before .before .before .pre .0, peers-past c)
