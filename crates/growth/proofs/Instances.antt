@@ -17,7 +17,7 @@ use Rattle.rules.specs.Question.{Question, askS, askN, questionOf}
 use Rattle.rules.specs.Asked.{wrongSecond}
 use Rattle.rules.specs.Rows.{Case, buffer, called}
 use Rattle.growth.specs.Grown.{GrownTexts}
-use Rattle.growth.specs.Calls.{carryQuestion, Lent, oldBytes, newBytes, PutAgain, Said}
+use Rattle.growth.specs.Calls.{Lent, putAgain, oldBytes, newBytes, PutAgain, Said}
 use Rattle.growth.specs.Incident.{Again, rows, noGrowth}
 use Rattle.growth.proofs.Promised.{grown-calls}
 use Rattle.growth.proofs.Disk.{disk-grown}
@@ -38,7 +38,7 @@ instances-promised i = grown-calls (i .row .before .table) (i .row .after .table
 
 -- the question that a row puts, with room for both answers
 put : (row : Again) (texts : GrownTexts (row .before .table) (row .after .table)) (q : Question)
-    → questionOf (texts .old) (row .before .question) ≡ some q → questionOf (texts .new) (row .after .question) ≡ some (carryQuestion (texts .numbers) q)
+    → questionOf (texts .old) (row .before .question) ≡ some q → questionOf (texts .new) (row .after .question) ≡ some (putAgain texts q)
     → wrongSecond (texts .old) q ≡ false
     → leb (length (oldBytes texts q)) (length buffer) ≡ true → leb (length (newBytes texts q)) (length buffer) ≡ true → Instance
 put row texts q asks again second fits fitsAgain = record {

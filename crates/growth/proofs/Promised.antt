@@ -23,7 +23,8 @@ use Rattle.rules.specs.Answer.{answer, answerBytes, selectedBytes}
 use Rattle.rules.specs.Asked.{Outcome, say, wrongSecond, onTable, outcomeWithin, outcome, numberOf, written, given, askedWithin}
 use Rattle.growth.specs.Grown.{Numbers, Grown, GrownTexts}
 use Rattle.growth.specs.Promise.{Shortest, carrySelected, newWay, oldName, newName, oldAnswer, Promised}
-use Rattle.growth.specs.Calls.{carryQuestion, Lent, called, answersWith, oldBytes, newBytes, PutAgain, Said}
+use Rattle.edits.specs.Carried.{carryQuestion}
+use Rattle.growth.specs.Calls.{putAgain, Lent, called, answersWith, oldBytes, newBytes, PutAgain, Said}
 use Rattle.growth.proofs.GrowKinds.{kind-kept}
 use Rattle.growth.proofs.GrowSelect.{promise-S}
 use Rattle.growth.proofs.GrowMissing.{promise-N}
@@ -40,7 +41,7 @@ module _ (n : Numbers) (A B : Table) (soundA : Sound A) (soundB : Sound B) (g : 
   promised (askI x y) h = tt
   promised askV h = tt
 
-  second-kept : (q : Question) → inTable A q ≡ true → wrongSecond B (carryQuestion n q) ≡ wrongSecond A q
+  second-kept : (q : Question) → inTable A q ≡ true → wrongSecond B (carryQuestion (n .ty) (n .pk) q) ≡ wrongSecond A q
   second-kept (askS t a pkg name) h = refl
   second-kept (askM t) h = refl
   second-kept (askC t) h = refl
@@ -102,7 +103,7 @@ module _ (a b : Bytes) (g : GrownTexts a b) where
   grown-calls q old new put =
       let i = asked-in (g .old) (old .line) q (put .asks) in
       let before = outcome-says a (old .line) (length (old .buffer)) (g .old) q (g .oldLoads) (put .asks) (put .second) (put .fits) in
-      let after = outcome-says b (new .line) (length (new .buffer)) (g .new) (carryQuestion (g .numbers) q) (g .newLoads) (put .asksAgain)
+      let after = outcome-says b (new .line) (length (new .buffer)) (g .new) (putAgain g q) (g .newLoads) (put .asksAgain)
       (second-kept (g .numbers) (g .old) (g .new) oldSound newSound (g .grown) q i ∙ put .second) (put .fitsAgain) in
       record {
         outcomeBefore = before;

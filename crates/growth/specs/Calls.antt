@@ -8,20 +8,12 @@ use lib.IntN.{pos}
 use lib.ListN.{length, drop, replicate}
 use Rattle.objects.specs.Bounds.{workWords}
 use Rattle.objects.specs.Lists.{Bytes}
-use Rattle.rules.specs.Question.{Question, askS, askM, askN, askI, askC, askV, questionOf}
+use Rattle.rules.specs.Question.{Question, questionOf}
 use Rattle.rules.specs.Answer.{answer, answerBytes}
 use Rattle.rules.specs.Asked.{wrongSecond, outcome, say, Asked, asked}
-use Rattle.growth.specs.Grown.{Numbers, carryPkg, GrownTexts}
+use Rattle.edits.specs.Carried.{carryQuestion}
+use Rattle.growth.specs.Grown.{GrownTexts}
 use Rattle.growth.specs.Promise.{Promised}
-
--- "The old question is put again, its type and package numbers carried"
-abbrev pub carryQuestion : Numbers → Question → Question
-carryQuestion n (askS t a pkg name) = askS (n .ty t) a (carryPkg n pkg) name
-carryQuestion n (askM t) = askM (n .ty t)
-carryQuestion n (askC t) = askC (n .ty t)
-carryQuestion n (askN t i s) = askN (n .ty t) (n .ty i) s
-carryQuestion n (askI x y) = askI (n .ty x) (n .ty y)
-carryQuestion n askV = askV
 
 -- what a host lends beside the table text: the question line, the answer buffer and the work area
 pub record Lent : Type 0 where
@@ -41,13 +33,17 @@ module _ {a b : Bytes} (g : GrownTexts a b) (q : Question) where
   abbrev pub oldBytes : Bytes
   oldBytes = answerBytes (answer (g .old) q)
 
+  -- "The old question is put again, its type and package numbers carried"
+  abbrev pub putAgain : Question
+  putAgain = carryQuestion (g .numbers .ty) (g .numbers .pk) q
+
   abbrev pub newBytes : Bytes
-  newBytes = answerBytes (answer (g .new) (carryQuestion (g .numbers) q))
+  newBytes = answerBytes (answer (g .new) putAgain)
 
   -- the two calls: lines of right form (11), in N a second type of kind iface (12), room for both answers (13); "refusal 1 is due neither time"
   pub record PutAgain (old new : Lent) : Type 0 where
     pub asks : questionOf (g .old) (old .line) ≡ some q
-    pub asksAgain : questionOf (g .new) (new .line) ≡ some (carryQuestion (g .numbers) q)
+    pub asksAgain : questionOf (g .new) (new .line) ≡ some putAgain
     pub second : wrongSecond (g .old) q ≡ false
     pub fits : length oldBytes ≤ length (old .buffer)
     pub fitsAgain : length newBytes ≤ length (new .buffer)
