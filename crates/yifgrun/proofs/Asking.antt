@@ -21,6 +21,7 @@ use Rattle.table.specs.Loading.{loadingMeant, Loads}
 use Rattle.reply.specs.declared.Done.{Done}
 use Rattle.reply.specs.Done.{numberRead, Fits}
 use Rattle.replies.specs.Replies.{saidOf, Ends}
+use Rattle.edits.specs.Tidying.{saysTidied, tidyOutcome, tidiedCall}
 use Rattle.yifgrun.specs.Gives.{Cleared, Gives, askedBy}
 
 -- ---- refused by the loader, or asked
@@ -69,23 +70,40 @@ module _ (text question buffer : Bytes) (work : Words) {r : ℤ} {after : Bytes}
 
 -- ---- the whole call
 
-module _ (all : Bool) (text question before : Bytes) (work : Words) (r : ℤ) where
+-- whatever is said of a table
+module _ (said : Table → Outcome) (text before : Bytes) (work : Words) (r : ℤ) where
+  abbrev gives : ℤ → Bytes → Words → Type 0
+  gives = Gives (given (fitted (length before) (onTable said (load text))) before work)
+
   -- 1
-  pub few-words : length work < workWords → r ≡ numberRead (Done.Refused 1 0) → Gives (askedBy all text question before work) r before work
-  unfolding askedBy numberRead
-  few-words h e = rw (lt-ltb (length work) workWords h) (record { number = e; answer = refl; work = refl })
+  few : length work < workWords → r ≡ numberRead (Done.Refused 1 0) → gives r before work
+  unfolding numberRead
+  few h e = rw (lt-ltb (length work) workWords h) (record { number = e; answer = refl; work = refl })
 
   -- the rest: what was decided, with the work area clear
+  enough : workWords ≤ length work → {d : Done} {after : Bytes} {clear last : Words} → Ends (onTable said (load text)) d before after → r ≡ numberRead d
+      → clear ≡ replicate (length work) 0 → last ≡ clear → gives r after last
+  enough h p e z k = rw (le-ltb (length work) workWords h) (record { number = e ∙ p .number; answer = p .answer; work = k ∙ z })
+
+module _ (all : Bool) (text question before : Bytes) (work : Words) (r : ℤ) where
+  pub few-words : length work < workWords → r ≡ numberRead (Done.Refused 1 0) → Gives (askedBy all text question before work) r before work
+  unfolding askedBy
+  few-words = few (saidOf all question) text before work r
+
   pub enough-words : workWords ≤ length work → {d : Done} {after : Bytes} {clear last : Words} → Ends (onTable (saidOf all question) (load text)) d before after → r ≡ numberRead d
       → clear ≡ replicate (length work) 0 → last ≡ clear → Gives (askedBy all text question before work) r after last
   unfolding askedBy
-  enough-words h p e z k =
-      rw (le-ltb (length work) workWords h)
-      (record {
-        number = e ∙ p .number;
-        answer = p .answer;
-        work = k ∙ z;
-      })
+  enough-words h p e z k = enough (saidOf all question) text before work r h p e z k
+
+module _ (text before : Bytes) (work : Words) (r : ℤ) where
+  pub few-tidied : length work < workWords → r ≡ numberRead (Done.Refused 1 0) → Gives (tidiedCall text before work) r before work
+  unfolding tidiedCall tidyOutcome
+  few-tidied = few saysTidied text before work r
+
+  pub enough-tidied : workWords ≤ length work → {d : Done} {after : Bytes} {clear : Words} → Ends (onTable saysTidied (load text)) d before after → r ≡ numberRead d
+      → clear ≡ replicate (length work) 0 → Gives (tidiedCall text before work) r after clear
+  unfolding tidiedCall tidyOutcome
+  enough-tidied h p e z = enough saysTidied text before work r h p e z refl
 
 -- the whole area is cleared
 pub words-cleared : (work : Words) {clear : Words} → workWords ≤ length work → length clear ≡ length work → clear ≡ replicate (length work) 0 → Cleared clear

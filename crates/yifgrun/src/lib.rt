@@ -1,11 +1,12 @@
-// The exported calls: a question on a table, or many of them, answered into a lent buffer; and what a host asks of the library itself, how many words
-// of work area a call needs and which version it is.
+// The exported calls: a question on a table, or many of them, answered into a lent buffer; a table written out tidy; and what a host asks of the library itself,
+// how many words of work area a call needs and which version it is.
 ghost use mathlib.Core.Path.{_≡_};
 ghost use Prim.Native.Nat.{_≤_};
 ghost use lib.ListN.{length, replicate};
 ghost use Rattle.objects.specs.Bounds.{roomFor, smallText, medianText, middleText, longText, workWords};
 ghost use Rattle.rules.specs.Asked.{onTable, refusal, asked};
 ghost use Rattle.rules.specs.AskedAll.{askedAll};
+ghost use Rattle.edits.specs.Tidying.{tidiedCall};
 ghost use Rattle.objects.specs.Rows.{tableOf};
 ghost use Rattle.rules.specs.Library.{Library};
 ghost use Rattle.rules.specs.Load.{load};
@@ -13,6 +14,8 @@ ghost use Rattle.reply.specs.Done.{numberRead, Fits};
 ghost use Rattle.replies.specs.Replies.{saidOf, Ends};
 ghost use Rattle.yifgrun.specs.Gives.{Cleared, Gives, askedBy};
 ghost use Rattle.yifgrun.specs.Version.{version};
+use crate::tidying::tidy_large;
+use crate::tidying::tidy_long;
 use objects::bounds::ALL_WORDS;
 use objects::bounds::LONG_TEXT;
 use objects::bounds::LONG_WORDS;
@@ -31,10 +34,12 @@ use signs::sign_members;
 use table::Loading;
 use table::load;
 
+pub mod tidying; // a table loaded and written out tidy
+
 // CHANGELOG.md has the versions; specs/Version.antt has the same three numbers.
 const MAJOR: u32 = 0;
 
-const MINOR: u32 = 7;
+const MINOR: u32 = 8;
 
 const PATCH: u32 = 0;
 
@@ -225,6 +230,22 @@ pub extern "C" fn yifgrun_ask_all(
     ensures { λ r. ⌜ Gives (askedAll (now (table .entry)) (now (questions .entry)) (now (answers .entry)) (now (work .entry))) r (now (answers .exit)) (now (work .exit)) ⌝ }
 {
     call(table, questions, answers, work, true)
+}
+
+// The table with only the least-numbered type of each set of identical types. It uses none of the work area, and has functions of its own for its rows: they
+// leave the frames of the other calls as they are.
+#[no_mangle]
+pub extern "C" fn yifgrun_tidy(table: &[u8], output: &mut [u8], work: &mut [u32]) -> i64
+    ensures { λ r. ⌜ Gives (tidiedCall (now (table .entry)) (now (output .entry)) (now (work .entry))) r (now (output .exit)) (now (work .exit)) ⌝ }
+{
+    if work.len() < WORK_WORDS {
+        return number(Done::Refused(1, 0));
+    }
+    clear(work);
+    if table.len() <= LONG_TEXT {
+        return number(tidy_long(table, output));
+    }
+    number(tidy_large(table, output))
 }
 
 // The words of work area that a call needs: fewer are refusal 1.
