@@ -20,7 +20,7 @@ use Rattle.promises.specs.Demands.{refusesWith, CallGives, calledAll, St
 
 -- ---- every call
 
-gives : (o : Outcome) (c : Lent) → Bounded (length (c .buffer)) o → CallGives o c (given o (c .buffer) (c .work))
+pub gives : (o : Outcome) (c : Lent) → Bounded (length (c .buffer)) o → CallGives o c (given o (c .buffer) (c .work))
 unfolding numberOf written
 gives o c b = record {
   tooFewWords = λ h. rw (lt-ltb (length (c .work)) workWords h);
@@ -38,10 +38,10 @@ all-gives table c = gives (outcomeAll table (c .line) (length (c .buffer))) c (o
 
 -- ---- a table that loads
 
-fitted-fits : (room : ℕ) (bytes : Bytes) → length bytes ≤ room → fitted room (say bytes) ≡ say bytes
+pub fitted-fits : (room : ℕ) (bytes : Bytes) → length bytes ≤ room → fitted room (say bytes) ≡ say bytes
 fitted-fits room bytes h = rw (le-ltb room (length bytes) h)
 
-fitted-long : (room : ℕ) (bytes : Bytes) → room < length bytes → fitted room (say bytes) ≡ refuse 13 0
+pub fitted-long : (room : ℕ) (bytes : Bytes) → room < length bytes → fitted room (say bytes) ≡ refuse 13 0
 fitted-long room bytes h = rw (lt-ltb room (length bytes) h)
 
 module _ (text : Bytes) (T : Table) (loads : load text ≡ loaded T) where

@@ -1,4 +1,5 @@
 pub mod Calls
 pub mod Questions
 pub mod PackageOrder
+pub mod Tidying
 pub mod Promises

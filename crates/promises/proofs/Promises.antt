@@ -1,6 +1,6 @@
 -- EVERY PROMISE, as one statement each over texts that load and calls that are made. `called` is what the exported call gives: the contract of `yifgrun_ask`
 -- (crate yifgrun, src/lib.rt) says that number, answer buffer and work area are those of `asked`, for every table, question, buffer and work area. So is `calledAll`
--- what `yifgrun_ask_all` gives, by `askedAll`.
+-- what `yifgrun_ask_all` gives, by `askedAll`, and `tidyCalled` what `yifgrun_tidy` gives, by `tidiedCall`.
 use mathlib.Core.Path.{_≡_, refl, sym, ap, _∙_, subst}
 use mathlib.Core.Bool.{Bool, true, cond}
 use mathlib.Core.List.{List, [], _∷_, _++_, map}
@@ -40,6 +40,11 @@ use Rattle.rules.proofs.Computed as computed
 use Rattle.rules.proofs.Sounds.{loads-sound}
 use Rattle.rules.proofs.PathLaws.{package-by-path}
 use Rattle.rules.proofs.BoundLaws.{loads-within, load-wider, refused-wider, outcome-wider, asked-wider, asked-all-wider, typeask-wider}
+use Rattle.edits.specs.TableText.{textOf}
+use Rattle.edits.specs.Tidy.{tidied}
+use Rattle.edits.specs.Tidying.{tidyOutcome}
+use Rattle.carry.specs.Maps.{Maps}
+use Rattle.table_text.proofs.TextBack.{text-back}
 use Rattle.ways.specs.MethodLevels.{asGo, setByLevels}
 use Rattle.ways.proofs.LevelSets.{set-by-levels}
 use Rattle.walks.specs.Reads.{setKept}
@@ -62,10 +67,11 @@ use Rattle.growth.specs.Grown.{knownAs, Numbers, GrownTexts}
 use Rattle.growth.specs.Calls.{Lent, called, answersWith, PutAgain, Said}
 use Rattle.growth.proofs.Packages.{package-in, package-path, package-only, old-order}
 use Rattle.growth.proofs.Promised.{asked-in, outcome-says, call-says, grown-calls}
-use Rattle.promises.specs.Demands.{refusesWith, CallGives, calledAll, AllAsEach, Answered, CallSays, GoSelects, GoSet, KeptWalks, BesideGo, SameWithin, Reads, InOrder, PackagesKnown}
+use Rattle.promises.specs.Demands.{refusesWith, CallGives, calledAll, AllAsEach, Answered, CallSays, GoSelects, GoSet, KeptWalks, BesideGo, SameWithin, Reads, InOrder, PackagesKnown, tidyCalled, AnswersCarried, TidiedText}
 use Rattle.promises.proofs.Calls.{call-gives, all-gives, as-each, table-refused, prints-each}
 use Rattle.promises.proofs.Questions.{by-line, behind-table}
 use Rattle.promises.proofs.PackageOrder.{in-order}
+use Rattle.promises.proofs.Tidying.{tidy-gives, answers-carried, tidy-room, tidy-long, tidy-refused}
 
 -- ---- DEMAND 1: what every call gives
 
@@ -75,6 +81,10 @@ every-call = call-gives
 -- .. with many questions
 pub every-call-all : (table : Bytes) (c : Lent) → CallGives (outcomeAll table (c .line) (length (c .buffer))) c (calledAll table c)
 every-call-all = all-gives
+
+-- .. that tidies
+pub every-call-tidy : (table : Bytes) (c : Lent) → CallGives (tidyOutcome table (length (c .buffer))) c (tidyCalled table c)
+every-call-tidy = tidy-gives
 
 -- ---- many questions in one call
 
@@ -300,3 +310,27 @@ packages-known a b g = record {
         let old : h .old ≡ A = ap tableOr (sym (h .oldLoads) ∙ g .oldLoads) in
         let new : h .new ≡ B = ap tableOr (sym (h .newLoads) ∙ g .newLoads) in
         subst (λ U. h .numbers .pk p ≡ knownAs U B p) old (subst (λ U. h .numbers .pk p ≡ knownAs (h .old) U p) new (h .grown .packageKnown p (rw old k)))
+
+-- ---- document 02, point 6: a tidy writer
+
+-- "Write a loaded table out again with only the least-numbered type of each set of identical types": with room for it the call gives the text of the tidied table, of
+-- which all is true that is promised
+pub tidies : (text : Bytes) (T : Table) → load text ≡ loaded T → (c : Lent) → workWords ≤ length (c .work) → length (textOf (tidied T)) ≤ length (c .buffer)
+    → (tidyCalled text c ≡ answersWith (textOf (tidied T)) c) × TidiedText text (textOf (tidied T))
+tidies = tidy-room
+
+-- "If the output buffer is too short, refusal 13 is given and nothing is written."
+pub tidies-not : (text : Bytes) (T : Table) → load text ≡ loaded T → (c : Lent) → workWords ≤ length (c .work) → length (c .buffer) < length (textOf (tidied T)) → tidyCalled text c ≡ refusesWith 13 0 c
+tidies-not = tidy-long
+
+-- a refused table is refused as it is to a question
+pub tidies-refused : (text : Bytes) (n line : ℕ) → load text ≡ refused n line → (c : Lent) → workWords ≤ length (c .work) → tidyCalled text c ≡ refusesWith n line c
+tidies-refused = tidy-refused
+
+-- the one theorem about maps of tables of which this is an instance: whatever maps the types and packages of one text's table into another's carries every answer
+pub answers-along-maps : (f : TypeKey → TypeKey) (p : PackageKey → PackageKey) (a b : Bytes) (T U : Table) → load a ≡ loaded T → load b ≡ loaded U → Maps f p T U → AnswersCarried f p a b T U
+answers-along-maps = answers-carried
+
+-- what loaded is written back to the byte: the text of a table is the one text that loads to it
+pub written-back : (text : Bytes) (T : Table) → load text ≡ loaded T → textOf T ≡ text
+written-back = text-back

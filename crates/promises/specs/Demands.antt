@@ -19,12 +19,17 @@ use Rattle.rules.specs.Checks.{Item, items, lacking, forbidden, clashing, conta
 use Rattle.rules.specs.Stages.{firstItem}
 use Rattle.rules.specs.Load.{Loaded, refused, loaded, linesFrom, staged, loadWithin, load}
 use Rattle.rules.specs.Sound.{Below, Ordered}
-use Rattle.rules.specs.Question.{Question, questionOf}
+use Rattle.rules.specs.Identity.{identical}
+use Rattle.rules.specs.Question.{Question, askV, inTable, questionOf}
 use Rattle.rules.specs.Ways.{Selected, notfound, judged, searched}
 use Rattle.rules.specs.Answer.{Answer, Sel, answer, answerBytes}
 use Rattle.rules.specs.Asked.{Outcome, outcomeWithin, refuse, say, refusal, wrongSecond, Asked, askedWithin}
 use Rattle.rules.specs.AskedAll.{questionLines, refusedBytes, askedAllWithin, askedAll}
 use Rattle.rules.specs.Typeask.{inputOf, typeaskWithin}
+use Rattle.edits.specs.Carried.{carryQuestion}
+use Rattle.edits.specs.Tidy.{tidyType, tidied}
+use Rattle.edits.specs.Tidying.{tidiedCall}
+use Rattle.carry.specs.Carry.{carryAnswer}
 use Rattle.ways.specs.OfTable.{graph}
 use Rattle.walks.specs.Kept.{count}
 use Rattle.walks.specs.Rows.{Row, keptRows}
@@ -180,3 +185,48 @@ pub record PackagesKnown {a b : Bytes} (g : GrownTexts a b) : Type 0 where
   pub order : (p q : PackageKey) → p .0 < q .0 → q .0 < length (g .old .packages) → g .numbers .pk p .0 < g .numbers .pk q .0
   -- the two texts determine the number, however they are said to have grown
   pub determined : (h : GrownTexts a b) (p : PackageKey) → p .0 < length (g .old .packages) → h .numbers .pk p ≡ g .numbers .pk p
+
+-- ---- document 02, point 6
+
+-- all that the call that tidies gives; the output is lent as the buffer, and no line
+abbrev pub tidyCalled : Bytes → Lent → Asked
+tidyCalled text c = tidiedCall text (c .buffer) (c .work)
+
+-- Two texts that load to T and U, and a question of T that is put to U again with its type numbers carried by f and its package numbers by p: each by a call with
+-- words enough. Which line says the question is the host's.
+pub record PutCarried (f : TypeKey → TypeKey) (p : PackageKey → PackageKey) (T U : Table) (q : Question) (before after : Lent) : Type 0 where
+  pub asks : questionOf T (before .line) ≡ some q
+  pub asksCarried : questionOf U (after .line) ≡ some (carryQuestion f p q)
+  pub words : workWords ≤ length (before .work)
+  pub wordsAfter : workWords ≤ length (after .work)
+
+-- "two answers are compared with room in the buffer for both"
+pub record RoomForBoth (f : TypeKey → TypeKey) (p : PackageKey → PackageKey) (T U : Table) (q : Question) (before after : Lent) : Type 0 where
+  pub fits : length (answerBytes (answer T q)) ≤ length (before .buffer)
+  pub fitsAfter : length (answerBytes (answer U (carryQuestion f p q))) ≤ length (after .buffer)
+
+-- What is promised of every question but V, and of every two such calls.
+pub record AnswersCarried (f : TypeKey → TypeKey) (p : PackageKey → PackageKey) (a b : Bytes) (T U : Table) : Type 0 where
+  -- the carried question has no number that U lacks
+  pub known : (q : Question) → inTable T q ≡ true → inTable U (carryQuestion f p q) ≡ true
+  -- both calls answer, the second with the first's answer, whose members are carried
+  pub same : (q : Question) → q ≢ askV → (before after : Lent) → PutCarried f p T U q before after → wrongSecond T q ≡ false → RoomForBoth f p T U q before after
+      → CallSays a before (answer T q) × CallSays b after (carryAnswer f T U q (answer T q))
+  -- or both refuse by 12
+  pub refused : (q : Question) (before after : Lent) → PutCarried f p T U q before after → wrongSecond T q ≡ true
+      → (called a before ≡ refusesWith 12 0 before) × (called b after ≡ refusesWith 12 0 after)
+
+-- A text and what tidying made of it.
+pub record TidiedText (text tidy : Bytes) : Type 0 where
+  pub old : Table
+  pub loads : load text ≡ loaded old
+  -- "The output loads", to the tidied table
+  pub loadsTidied : load tidy ≡ loaded (tidied old)
+  -- "only the least-numbered type of each set of identical types": no two that remain are identical
+  pub apart : (x y : TypeKey) → x .0 < size (tidied old) → y .0 < size (tidied old) → identical (tidied old) x y ≡ true → x ≡ y
+  -- whoever has room for the text has room for what tidying makes of it
+  pub shorter : length tidy ≤ length text
+  -- "Tidying it again gives the same bytes."
+  pub again : (c : Lent) → workWords ≤ length (c .work) → length tidy ≤ length (c .buffer) → tidyCalled tidy c ≡ answersWith tidy c
+  -- "Each question but V, with its type numbers carried over, gives the same answer with members carried to the same place in the remaining twin"
+  pub answers : AnswersCarried (tidyType old) (λ k. k) text tidy old (tidied old)
