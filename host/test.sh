@@ -6,7 +6,7 @@ set -eu
 cd "$(dirname "$0")/.."
 if [ -z "${YIFGRUN_ARCHIVE:-}" ]; then
     # rt staticlib would prove what the library rests on too, but one crate at a time
-    rt check table signs replies
+    rt check table signs replies tidy
     rt staticlib yifgrun
 fi
 for package in host host/compare; do

@@ -10,6 +10,8 @@ HOST/testdata/sample: some cases with each word that is printed, and with each r
 have none in a table that loads.
 HOST/testdata/entry.txt: some calls with each refusal and each word of an answer, and the questions of the first cases of 5 in buffers that have just the room
 for the answer, a byte less, room for its first line alone, and none.
+HOST/testdata/tidy.txt: of the calls that tidy a table the first, which were worked out by hand, and some with each refusal, with each kind of type that goes, with
+tags, and with just the room or a byte less.
 HOST/compare/testdata/sample: document 01's example, the first cases of 5 and every k-th other case, of tables that load, and that method set.
 """
 import sys
@@ -103,6 +105,34 @@ def call_in_order(stored):
     return b' '.join([table, question, room, b'%d' % returned(due), b'-'])
 
 
+def kinds(table):
+    """How often each kind has a T line."""
+    return Counter(line.split(b'\t')[1] for line in table.splitlines() if line.startswith(b'T\t'))
+
+
+def tidy_words(call):
+    """What a call that tidies shows: its refusal, or the kinds of which types go, whether fields with a tag or packages stay, and the bytes of room to spare, if few."""
+    table, room, number, output = call.split(b' ')
+    if int(number) < 0:
+        return {b'refused %d' % (-int(number) // 65536)}
+    table, output = (bytes.fromhex(text.decode().strip('-')) for text in (table, output))
+    shown = {b'without ' + kind for kind in kinds(table) - kinds(output)}
+    shown.update(word for word, field in ((b'tag', (b'F', 6)), (b'package', (b'P', 2))) if any(
+        (line.split(b'\t')[0], line.count(b'\t') + 1) == field for line in output.splitlines()))
+    spare = int(room) - len(output)
+    return shown | ({b'spare %d' % spare} if spare < 2 else set())
+
+
+# the first calls that tidy, which were worked out by hand
+TIDY_BY_HAND = 18
+
+
+def tidy_sample(vectors02):
+    calls = read(f'{vectors02}/tools/tidy-6.txt').splitlines()
+    by_hand, others = calls[:TIDY_BY_HAND], calls[TIDY_BY_HAND:]
+    return by_hand + of_each(others, len, tidy_words, 3000, 3)
+
+
 def loads(case, most):
     """Whether a table of at most so many bytes loads, and its first question is answered."""
     return not case[1].startswith(b'refused') and len(case[0]) <= most
@@ -129,7 +159,10 @@ def main():
     small, mixed = ([case for case in cases if not refused_by(case[1], 14)] for cases in (small, mixed))
     goscript = [example] + [case for case in by_hand if loads(case, 11000)] + loading[::4] + small[::3] + mixed[::3] + [long_set]
     write(f'{host}/compare/testdata', 'sample', goscript)
-    print(len(library), 'cases for the library,', len(stored), 'calls,', len(goscript), 'cases for goscript')
+    tidied = tidy_sample(vectors02)
+    with open(f'{host}/testdata/tidy.txt', 'wb') as file:
+        file.write(b''.join(call + b'\n' for call in tidied))
+    print(len(library), 'cases for the library,', len(stored), 'calls,', len(tidied), 'that tidy,', len(goscript), 'cases for goscript')
 
 
 main()

@@ -1,5 +1,6 @@
-/* Member selection over Go type tables: the proved library's two calls, for C and whatever calls C. yifgrun_ask is
- * for one question on a table, yifgrun_ask_all for several, which loads the table once.
+/* Member selection over Go type tables: the proved library's calls, for C and whatever calls C. yifgrun_ask is for one
+ * question on a table, yifgrun_ask_all for several, which loads the table once, and yifgrun_tidy writes a table out
+ * again without repeated types.
  *
  * Link with libyifgrun.a, which `rt staticlib yifgrun` makes as target/staticlib/libyifgrun.a, for x86-64 Linux. The
  * library keeps nothing between calls and allocates nothing; calls on different buffers may run at the same time. A
@@ -77,6 +78,29 @@ int64_t yifgrun_ask_all(const uint8_t *table, size_t table_len,
                         uint8_t *answers, size_t answers_len,
                         uint32_t *work, size_t work_len);
 
+/* Writes a table out again with only the least-numbered type of each set of identical types (identical as the question I
+ * judges). The types that remain keep their order and are numbered anew, each reference goes to the type that remains of
+ * the same set, members are numbered anew, and all packages stay. docs/MANUAL.md says what carries over.
+ *
+ *   table   the table text; it is only read
+ *   output  where the tidied table goes; as many bytes as the table has are always enough
+ *   work    a work area as for yifgrun_ask
+ *
+ * Lengths, buffers and pointers are as for yifgrun_ask.
+ *
+ * What comes back is the length of the tidied table, or a number below 0 for a refusal of the work area, of the table, or
+ * of a buffer that is too short (13, line 0).
+ *
+ *                           output                                        work area
+ *   a tidied table          the table in front, the rest unchanged        all words 0
+ *   refusals 2 to 10, 13    unchanged                                     all words 0
+ *   and 14
+ *   refusal 1               unchanged                                     unchanged
+ */
+int64_t yifgrun_tidy(const uint8_t *table, size_t table_len,
+                     uint8_t *output, size_t output_len,
+                     uint32_t *work, size_t work_len);
+
 /* The refusal (1 to 14) and the line of a number below 0. */
 #define YIFGRUN_REFUSAL(number) ((int)(-(number) / 65536))
 #define YIFGRUN_LINE(number) ((int)(-(number) % 65536))
@@ -97,7 +121,8 @@ enum yifgrun_refusal {
     YIFGRUN_QUESTION = 11,           /* the question has a wrong form, more than 256 bytes, or a number that the
                                         table lacks */
     YIFGRUN_NOT_AN_INTERFACE = 12,   /* the second type of an N question is not an interface itself */
-    YIFGRUN_ANSWER_TOO_LONG = 13,    /* the answer, or all answers together, is longer than the answer buffer */
+    YIFGRUN_ANSWER_TOO_LONG = 13,    /* the answer, all answers together, or the tidied table is longer than the
+                                        buffer */
     YIFGRUN_PACKAGE_ORDER = 14       /* package out of order: its path does not come after the one before */
 };
 

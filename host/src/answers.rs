@@ -1,6 +1,6 @@
 //! Texts asked and answered in buffers that are kept.
 
-use crate::{ask, ask_all, work_words, Refusal, RefusalKind};
+use crate::{ask, ask_all, tidy, work_words, Refusal, RefusalKind};
 
 /// Buffers for one question or text of questions after another, made longer where answers need it; refusals 1 and 13
 /// do not occur.
@@ -49,12 +49,31 @@ impl Answers {
     pub fn ask_all(&mut self, table: &[u8], questions: &[u8]) -> Result<&[u8], Refusal> {
         let count = questions.split_inclusive(|&b| b == b'\n').count();
         // Most answers are no longer than their questions: with that much room the first call is mostly the only one.
-        if self.answer.len() < questions.len() {
-            self.answer.resize(questions.len(), 0);
-        }
+        self.lengthen(questions.len());
         self.with_room(count.saturating_mul(MOST_BYTES), |answers, work| {
             ask_all(table, questions, answers, work)
         })
+    }
+
+    /// A table text with one type of each set of identical types: [`tidy`] in a buffer as long as the table.
+    ///
+    /// ```
+    /// let table = b"typetable\t1\nT\tbasic\t2\nT\tslice\t0\nT\tslice\t0\nT\tpointer\t2\n";
+    /// let mut answers = yifgrun::Answers::new();
+    /// let tidied = answers.tidy(table)?;
+    /// assert_eq!(tidied, b"typetable\t1\nT\tbasic\t2\nT\tslice\t0\nT\tpointer\t1\n");
+    /// # Ok::<(), yifgrun::Refusal>(())
+    /// ```
+    pub fn tidy(&mut self, table: &[u8]) -> Result<&[u8], Refusal> {
+        self.lengthen(table.len());
+        self.with_room(table.len(), |output, work| tidy(table, output, work))
+    }
+
+    /// Makes the buffer at least so long.
+    fn lengthen(&mut self, bytes: usize) {
+        if self.answer.len() < bytes {
+            self.answer.resize(bytes, 0);
+        }
     }
 
     /// Makes a call, and as long as it lacks room makes it again with twice as much. With `most` bytes none lacks room.

@@ -3,8 +3,8 @@
 use crate::Refusal;
 use std::fmt::{self, Display, Formatter};
 
-/// A call of the archive: table, question or questions, buffer and work area, each as its first byte (word) and its
-/// length. What comes back is the length of what was written, or minus (refusal × 65,536 + line).
+/// A call of the archive for questions: table, question or questions, buffer and work area, each as its first byte
+/// (word) and its length. What comes back is the length of what was written, or minus (refusal × 65,536 + line).
 type Call = unsafe extern "C" fn(
     table: *const u8,
     table_len: usize,
@@ -39,12 +39,26 @@ extern "C" {
         work_len: usize,
     ) -> i64;
 
+    fn yifgrun_tidy(
+        table: *const u8,
+        table_len: usize,
+        output: *mut u8,
+        output_len: usize,
+        work: *mut u32,
+        work_len: usize,
+    ) -> i64;
+
     fn yifgrun_work_words() -> usize;
 
     fn yifgrun_version() -> u32;
 }
 
-/// Makes one of the archive's two calls, and reads the number that comes back.
+/// What the number stands for that a call gives back.
+fn returned(number: i64) -> Result<usize, Refusal> {
+    usize::try_from(number).map_err(|_| Refusal::of(number))
+}
+
+/// Makes one of the archive's two calls for questions.
 fn call_archive(
     call: Call,
     table: &[u8],
@@ -67,7 +81,7 @@ fn call_archive(
             work.len(),
         )
     };
-    usize::try_from(number).map_err(|_| Refusal::of(number))
+    returned(number)
 }
 
 /// Asks one question, a line without its newline, on a table text, and gives the length of the answer.
@@ -128,6 +142,44 @@ pub fn ask_all(
     work: &mut [u32],
 ) -> Result<usize, Refusal> {
     call_archive(yifgrun_ask_all, table, questions, answers, work)
+}
+
+/// Writes a table text out again with only the least-numbered type of each set of identical types, and gives the length
+/// of the output, which is never more than the table's.
+///
+/// The types that remain keep their order and are numbered anew. Each reference goes to the type that remains of the
+/// same set. All packages stay. [`Library::tidy`](crate::Library::tidy) says what carries over.
+///
+/// The new table stands in front of `output`, whose rest is unchanged. A refusal of the work area (1), of the table
+/// (2 to 10, 14), or of a buffer that is too short (13), changes none of it. The work area is as with [`ask`].
+///
+/// ```
+/// use yifgrun::{tidy, work_words, RefusalKind};
+///
+/// let table = b"typetable\t1\nT\tbasic\t26\nT\tbasic\t8\nT\tslice\t1\n";
+/// let mut output = [0; 80];
+/// let mut work = vec![0; work_words()];
+/// let length = tidy(table, &mut output, &mut work)?;
+/// assert_eq!(&output[..length], b"typetable\t1\nT\tbasic\t26\nT\tslice\t0\n");
+///
+/// let refusal = tidy(table, &mut output[..length - 1], &mut work).unwrap_err();
+/// assert_eq!(refusal.kind, RefusalKind::AnswerTooLong);
+/// # Ok::<(), yifgrun::Refusal>(())
+/// ```
+pub fn tidy(table: &[u8], output: &mut [u8], work: &mut [u32]) -> Result<usize, Refusal> {
+    // SAFETY: the call reads and writes only within the slices. Each pointer is that of a slice and stands before the
+    // slice's length. The two that are written are borrowed for this call alone, so that no two overlap.
+    let number = unsafe {
+        yifgrun_tidy(
+            table.as_ptr(),
+            table.len(),
+            output.as_mut_ptr(),
+            output.len(),
+            work.as_mut_ptr(),
+            work.len(),
+        )
+    };
+    returned(number)
 }
 
 /// The words of the work area that a call needs; fewer are refusal 1.

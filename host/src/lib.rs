@@ -9,7 +9,8 @@
 //! | ask with values and get values | [`Library`], [`Question`], [`Answer`], [`Refusal`] |
 //! | make a table from calls | [`TableBuilder`] |
 //! | ask with texts and get texts | [`Answers`], and [`each_answer`] for those of many questions |
-//! | make the archive's two calls on lent buffers | [`ask`], [`ask_all`], [`work_words`] |
+//! | write a table out again without repeated types | [`Library::tidy`], [`Answers::tidy`] |
+//! | make the archive's calls on lent buffers | [`ask`], [`ask_all`], [`tidy`], [`work_words`] |
 //! | see which archive is linked | [`version`] |
 //!
 //! ```
@@ -70,10 +71,11 @@ mod numbers;
 mod parse;
 mod question;
 mod refusal;
+mod twins;
 
 pub use answer::{Answer, Counts, Method, Satisfaction, Selection};
 pub use answers::Answers;
-pub use archive::{ask, ask_all, version, work_words, Version};
+pub use archive::{ask, ask_all, tidy, version, work_words, Version};
 pub use builder::{Added, Basic, Direction, Receiver, Table, TableBuilder};
 pub use each::each_answer;
 pub use library::Library;

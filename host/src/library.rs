@@ -1,7 +1,7 @@
 //! A table with its buffers, asked by typed questions.
 
 use crate::{each_answer, Answer, Answers, Counts, Method, Package, Question, Refusal};
-use crate::{explain, Satisfaction, Selection, Type};
+use crate::{explain, twins, Satisfaction, Selection, Type};
 use std::fmt::Write;
 use std::str;
 
@@ -150,6 +150,51 @@ impl Library {
             Ok(answers) => each_answer(answers).map(|a| a.map(read)).collect(),
             Err(refusal) => panic!("a table that loaded is refused: {refusal}"),
         }
+    }
+
+    /// The table with only the least-numbered type of each set of identical types, as a library of its own. The types
+    /// that remain keep their order and are numbered anew, each reference goes to the type that remains of the same
+    /// set, and members are numbered anew too. All packages keep their numbers. A table that loads is not refused, and
+    /// tidying a tidy one changes nothing.
+    ///
+    /// Every question but V has the same answer on the new table, with the types' numbers carried over
+    /// ([`tidy_numbers`](Library::tidy_numbers), [`Question::carried`]) and a member carried to the one at the same
+    /// place in its list, of which the places of the answer show the last.
+    ///
+    /// ```
+    /// use yifgrun::{Answer, Library, Member, Question, Selection, Type};
+    ///
+    /// // int, *int, struct { Next *int }, the last two once more, type Node struct { Next *int }, struct { Node }
+    /// let table = "typetable 1\nT basic 2\nT pointer 0\nT struct\nF Next - 1 0\nT pointer 0\nT struct\nF Next - 3 0\n\
+    ///     T named 4\nT struct\nF Node - 5 1\n";
+    /// let mut library = Library::new(table.replace(' ', "\t"))?;
+    /// let mut tidied = library.tidy()?;
+    /// let due = "typetable 1\nT basic 2\nT pointer 0\nT struct\nF Next - 1 0\nT named 2\nT struct\nF Node - 3 1\n";
+    /// assert_eq!(tidied.table(), due.replace(' ', "\t").as_bytes());
+    ///
+    /// let numbers = library.tidy_numbers()?;
+    /// assert_eq!(numbers, [0, 1, 2, 1, 2, 3, 4].map(Type));
+    /// let question = Question::select(Type(6), false, None, "Next");
+    /// let entry = |member| Selection::Entry { member: Member(member), indirect: false, way: vec![0, 0] };
+    /// assert_eq!(library.ask(&question)?, Answer::Selection(entry(1)));
+    /// assert_eq!(tidied.ask(&question.carried(&numbers))?, Answer::Selection(entry(0)));
+    /// # Ok::<(), yifgrun::Refusal>(())
+    /// ```
+    pub fn tidy(&self) -> Result<Library, Refusal> {
+        let mut answers = Answers::new();
+        let table = answers.tidy(&self.table)?.to_vec();
+        Library::new(table)
+    }
+
+    /// For each type of this table its number in the [tidied](Library::tidy) one.
+    ///
+    /// The archive does not tell them. They are found by the question I: again and again the least types that are not
+    /// judged yet, one of each kind and size of lines, are held against all others of that kind and size, in one call.
+    /// A type's number is how many types that have no lesser twin come before its least one. So a call is made for each
+    /// set of identical types of the kind that has the most: for a table of 511 pointers, no two of them identical, 510
+    /// calls, and a question for each two of them.
+    pub fn tidy_numbers(&self) -> Result<Vec<Type>, Refusal> {
+        twins::tidy_numbers(&self.table, &mut Answers::new())
     }
 
     /// The answer to a question in words, with the names of the table: lines that each end in a newline. The words

@@ -75,6 +75,42 @@ impl Question {
             name: name.into(),
         }
     }
+
+    /// The question with its types' numbers carried over, such as those that
+    /// [`Library::tidy_numbers`](crate::Library::tidy_numbers) gives: that of type t is `numbers[t]`. A number that
+    /// `numbers` lacks stays as it is.
+    ///
+    /// ```
+    /// use yifgrun::{Question, Type};
+    ///
+    /// let question = Question::Identical { left: Type(2), right: Type(0) };
+    /// let carried = question.carried(&[Type(0), Type(0), Type(1)]);
+    /// assert_eq!(carried, Question::Identical { left: Type(1), right: Type(0) });
+    /// ```
+    #[must_use]
+    pub fn carried(&self, numbers: &[Type]) -> Question {
+        let mut carried = self.clone();
+        let carry = |of: &mut Type| *of = *numbers.get(usize::from(*of)).unwrap_or(of);
+        match &mut carried {
+            Question::Select { receiver: of, .. }
+            | Question::MethodSet { of }
+            | Question::Comparable { of } => carry(of),
+            Question::Missing {
+                of: one,
+                interface: other,
+                ..
+            }
+            | Question::Identical {
+                left: one,
+                right: other,
+            } => {
+                carry(one);
+                carry(other);
+            }
+            Question::Loaded => (),
+        }
+        carried
+    }
 }
 
 impl Display for Question {

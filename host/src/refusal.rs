@@ -50,7 +50,7 @@ pub enum RefusalKind {
     Question,
     /// 12: the second type of [`Question::Missing`](crate::Question::Missing) is no interface itself.
     NotAnInterface,
-    /// 13: the answer has no room. Only a caller who lends the buffer meets this.
+    /// 13: the answer, or the tidied table, has no room. Only a caller who lends the buffer meets this.
     AnswerTooLong,
     /// 14: packages are not in the order of their paths.
     PackageOrder,
@@ -111,7 +111,7 @@ const KINDS: [(RefusalKind, &str); 14] = [
     ),
     (
         RefusalKind::AnswerTooLong,
-        "the answer is longer than the answer buffer",
+        "the answer, or the tidied table, is longer than the buffer",
     ),
     (
         RefusalKind::PackageOrder,

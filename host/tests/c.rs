@@ -42,6 +42,14 @@ refusal 1 line 0, kept, work right
 refusal 7 line 2, kept, work right
 refusal 14 line 3, kept, work right
 refusal 13 line 0, kept, work right
+typetable\t1
+T\tbasic\t26
+T\tslice\t0
+T\tpointer\t1
+rest kept, work zero
+refusal 1 line 0, kept, work right
+refusal 7 line 2, kept, work right
+refusal 13 line 0, kept, work right
 ";
 
 /// What a C program prints that is compiled with the header and linked with the archive; nothing where there is no compiler.

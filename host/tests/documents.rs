@@ -1,5 +1,6 @@
 //! What the documents show, run: each block ```typeask is an input of the program, and the block ```prints behind it
-//! is what the program prints, and what one call gives for all its questions; each block ```console is typed at a
+//! is what the program prints, and what one call gives for all its questions; a block ```tidied in place of ```typeask
+//! is the example before it with its table tidied and its questions carried over; each block ```console is typed at a
 //! terminal; the README's program is a package of its own.
 
 // Tests are built by the Rust of the day; `rust-version` is for those who link the library.
@@ -21,6 +22,7 @@ struct Example {
     input: String,
     output: String,
     line: usize,
+    is_tidied: bool,
 }
 
 impl Example {
@@ -29,7 +31,23 @@ impl Example {
             input: input.lines.iter().map(|line| written(line)).collect(),
             output: output.lines.iter().map(|line| tabbed(line)).collect(),
             line: input.first,
+            is_tidied: input.kind == "tidied",
         }
+    }
+
+    /// What the example becomes when its table is tidied, up to what is printed.
+    fn tidied(&self) -> String {
+        let (table, questions) = typeask::parted(self.input.as_bytes());
+        let library = yifgrun::Library::new(table).expect("it loads");
+        let tidied = library.tidy().expect("it loads").table().to_vec();
+        let mut tidied = String::from_utf8(tidied).expect("a table is text") + "Q\n";
+        let numbers = library.tidy_numbers().expect("it loads");
+        for question in questions {
+            let question = str::from_utf8(question).expect("a question is text");
+            let question: yifgrun::Question = question.parse().expect("it has the form of one");
+            tidied += &format!("{}\n", question.carried(&numbers));
+        }
+        tidied
     }
 
     /// The letter of each question with the first word of its answer.
@@ -48,8 +66,8 @@ impl Example {
     }
 }
 
-/// The examples of a document: every ```typeask has its ```prints directly behind it, and every ```prints its
-/// ```typeask before it.
+/// The examples of a document: every ```typeask or ```tidied has its ```prints directly behind it, and every ```prints one of
+/// these before it.
 fn examples(text: &str) -> Vec<Example> {
     let mut examples = Vec::new();
     let blocks = blocks(text);
@@ -58,7 +76,7 @@ fn examples(text: &str) -> Vec<Example> {
         rest = behind;
         let half = format!("line {}: half an example", block.first);
         assert_ne!(block.kind, "prints", "{half}");
-        if block.kind == "typeask" {
+        if ["typeask", "tidied"].contains(&block.kind) {
             let (output, behind) = behind.split_first().expect(&half);
             assert!(output.kind == "prints" && output.follows, "{half}");
             examples.push(Example::of(block, output));
@@ -166,11 +184,25 @@ fn an_example_is_made_a_text() {
     assert_eq!(made, examples(&read("README.md"))[0].input);
 }
 
-/// The file `shelf.in` that commands name is the manual's first table.
+/// The files `shelf.in` and `untidy.in` that commands name are the manual's first table and the one that is tidied.
 #[test]
-fn the_first_table_is_a_file_too() {
-    let first = &examples(&read("docs/MANUAL.md"))[0];
-    assert_eq!(first.input, read("host/testdata/command/shelf.in"));
+fn tables_that_are_files_too() {
+    let all = examples(&read("docs/MANUAL.md"));
+    assert_eq!(all[0].input, read("host/testdata/command/shelf.in"));
+    let tidied = all.iter().position(|example| example.is_tidied);
+    let untidy = &all[tidied.expect("a table that is tidied") - 1];
+    assert_eq!(untidy.input, read("host/testdata/command/untidy.in"));
+}
+
+#[test]
+fn tidied_examples_are_those_before_them() {
+    let all = examples(&read("docs/MANUAL.md"));
+    let pairs = all.windows(2).filter(|pair| pair[1].is_tidied);
+    for pair in pairs.clone() {
+        assert_eq!(pair[0].tidied(), pair[1].input, "line {}", pair[1].line);
+        assert_ne!(pair[0].input, pair[1].input, "line {}", pair[1].line);
+    }
+    assert!(pairs.count() >= 1, "no table is tidied");
 }
 
 /// What a package says beside the README's lines. It is a workspace of its own, since the tests' folder lies within another.

@@ -8,6 +8,7 @@
 #[path = "gotable/answers.rs"]
 mod answers;
 mod blocks;
+mod bounds;
 mod go;
 #[path = "gotable/limits.rs"]
 mod limits;
@@ -15,16 +16,22 @@ mod limits;
 mod names;
 #[path = "gotable/program.rs"]
 mod program;
+#[path = "gotable/repeated.rs"]
+mod repeated;
 mod said;
+mod tidied;
+#[path = "gotable/tidy.rs"]
+mod tidy;
 
 use answers::{compare_all, pairs};
 use blocks::{first, only, read};
 use go::go;
-use program::{command, empty_folder, gotable, host, run, sum, written};
+use program::{command, empty_folder, gotable, host, own, run, sum, written};
 use said::say;
 use std::fs;
 use std::path::{Path, PathBuf};
 use std::time::Instant;
+use tidy::{say_tidied, tidy_all};
 
 #[test]
 fn the_stored_sample() {
@@ -109,7 +116,24 @@ fn the_standard_library() {
         assert!(sum(&lines, "selectors") >= SELECTORS);
         let shown = only("host/gotable/README.md", "text");
         assert!(lines.contains(&shown), "the README shows {shown}");
+        let counts = tidy_all(&own("gotable-the-standard-library"));
+        say_tidied("the standard library", &counts);
+        let [written, repeated] = &counts;
+        assert_eq!(written.types[0], sum(&lines, "types"));
+        let gone = written.types[0] - written.types[1];
+        assert!(100 * gone < written.types[0], "{gone} types have a twin");
+        assert!(repeated.smaller >= 20, "{}", repeated.smaller);
     }
+}
+
+/// Identical types have one line in what gotable writes, so that it is tidy.
+#[test]
+fn the_stored_sample_is_tidied() {
+    let counts = tidy_all(&host("testdata/gotable"));
+    say_tidied("the stored sample", &counts);
+    let [written, repeated] = &counts;
+    assert_eq!((written.smaller, repeated.smaller), (0, 2));
+    assert!(repeated.moved > 100, "{}", repeated.moved);
 }
 
 /// Every name on every receiver: here names are not found, ambiguous, or methods that a value does not have.

@@ -1,7 +1,7 @@
 //! Calls of the library on random and damaged tables, each from a seed alone. Each is held against what every call
 //! promises of the number and the buffers, against the refusals that the papers' words give, and, where an answer is
 //! due, against goscript. Its question is asked once more with others in one call, which is held against what each of
-//! them gets alone.
+//! them gets alone, and its table is tidied.
 
 use crate::agreement::{agrees_with, is_ambiguous, Agreed};
 use crate::bounds;
@@ -12,7 +12,7 @@ use crate::joined::{joined, lines};
 use crate::prng::Prng;
 use crate::random::{self, Shape};
 use crate::table::Table;
-use crate::{lent, many, refusals};
+use crate::{lent, many, refusals, tidied, tidy};
 use yifgrun::{each_answer, work_words, Answers};
 
 /// What a call is asked and lent.
@@ -131,6 +131,17 @@ pub struct Counts {
     /// By the number of the refusal; none has the number 0.
     pub refused: [u64; 15],
     pub many: Many,
+    pub tidied: Tidied,
+}
+
+/// How many tables were tidied.
+#[derive(Default)]
+pub struct Tidied {
+    pub tables: u64,
+    /// Of these, such as have fewer types behind.
+    pub smaller: u64,
+    /// Those that were refused by the work area or by the table.
+    pub refused: u64,
 }
 
 /// How many calls for many questions gave what.
@@ -180,6 +191,29 @@ impl Hammer {
             Err(refused) => assert_eq!(given, Err(refused), "the second is due"),
         }
         self.strike_all(call);
+        self.strike_tidy(call);
+    }
+
+    /// Tidies the table and checks it against the refusal that is due, or what the answers to I lead to.
+    fn strike_tidy(&mut self, call: &Call) {
+        let counts = &mut self.counts.tidied;
+        let due = match (call.words, refusals::table(&call.table)) {
+            (words, _) if words < work_words() => Err((1, 0)),
+            (_, Err(refused)) => Err((refused.number, refused.line as u16)),
+            (_, Ok(table)) => {
+                let due = tidied::Due::of(&table.to_string());
+                let last = due.numbers.iter().max().map_or(0, |last| last + 1);
+                counts.smaller += u64::from(last < due.numbers.len());
+                Ok(due.text.into_bytes())
+            }
+        };
+        match due {
+            Ok(_) => counts.tables += 1,
+            Err(_) => counts.refused += 1,
+        }
+        if let Err(difference) = tidy::hold(&call.table, call.room % 20, call.words, &due) {
+            panic!("{difference}");
+        }
     }
 
     /// Makes one call for all questions and checks it against what each gets alone.

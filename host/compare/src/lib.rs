@@ -21,9 +21,18 @@ pub mod question;
 pub mod random;
 pub mod refusals;
 #[cfg(feature = "library")]
+#[path = "../../tests/gotable/repeated.rs"]
+pub mod repeated;
+#[cfg(feature = "library")]
 pub mod side_by_side;
 pub mod table;
 pub mod tables;
+#[cfg(feature = "library")]
+#[path = "../../tests/tidied/mod.rs"]
+pub mod tidied;
+#[cfg(feature = "library")]
+pub mod tidy;
+pub mod timing;
 pub mod typeask;
 
 #[cfg(goscript)]

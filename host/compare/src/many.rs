@@ -2,7 +2,7 @@
 
 use crate::lent;
 
-/// What a call gives: answers, or a refusal's number and line.
+/// What a call writes, or a refusal's number and line.
 pub type Outcome = Result<Vec<u8>, (u8, u16)>;
 
 /// What one call gives for questions on a table, in an answer buffer of so many bytes and a work area of so many words. Buffer
@@ -15,13 +15,22 @@ fn given((table, questions): (&[u8], &[u8]), room: usize, words: usize) -> Outco
     Ok(answers)
 }
 
-/// Holds one call against what is due. Answers are given in a buffer of their length and so many bytes more, and in one that
-/// is a byte shorter than they are the call is refused by 13.
+/// Holds one call against what is due.
 pub fn hold(asked: (&[u8], &[u8]), more: usize, words: usize, due: &Outcome) -> Result<(), String> {
+    hold_in_rooms(|room| given(asked, room, words), more, due)
+}
+
+/// Holds what a call gives against what is due. It is given in a buffer of its length and so many bytes more, and in one that
+/// is a byte shorter than it is the call is refused by 13.
+pub fn hold_in_rooms(
+    given: impl Fn(usize) -> Outcome,
+    more: usize,
+    due: &Outcome,
+) -> Result<(), String> {
     let length = due.as_ref().map_or(0, Vec::len);
-    same(&given(asked, length + more, words), due)?;
+    same(&given(length + more), due)?;
     match (due, length.checked_sub(1)) {
-        (Ok(_), Some(less)) => same(&given(asked, less, words), &Err((13, 0))),
+        (Ok(_), Some(less)) => same(&given(less), &Err((13, 0))),
         _ => Ok(()),
     }
 }
@@ -35,5 +44,5 @@ fn same(given: &Outcome, due: &Outcome) -> Result<(), String> {
         Err((number, line)) => format!("refusal {number}, line {line}"),
     };
     let (one, other) = (shown(given), shown(due));
-    Err(format!("in one call: {one}\nwhat is due: {other}"))
+    Err(format!("one call gives: {one}\nwhat is due: {other}"))
 }

@@ -43,6 +43,12 @@ fn random_and_damaged_tables() {
     ));
     assert!(many.answered > 20_000 && many.questions > 2 * many.answered);
     assert!(many.refused > 20_000 && many.refused_questions > 10_000);
+    let tidied = &counts.tidied;
+    say(&format!(
+        "tidied: {} tables, {} of them with fewer types behind; {} calls refused",
+        tidied.tables, tidied.smaller, tidied.refused
+    ));
+    assert!(tidied.smaller > 5_000 && tidied.refused > 20_000);
     match engine::goscript() {
         Some(_) => all_met(counts.agreed, "60,000 calls"),
         None => say(engine::NOT_AT_HAND),

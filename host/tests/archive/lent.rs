@@ -1,10 +1,10 @@
 //! Calls on buffers that are filled before and looked at behind: what every call promises of them, whatever it is
 //! asked.
 
-use yifgrun::{ask, ask_all, work_words, Refusal};
+// Each test takes what it needs.
+#![allow(dead_code)]
 
-/// A call on a table, a question or questions, an answer buffer and a work area.
-type Call = fn(&[u8], &[u8], &mut [u8], &mut [u32]) -> Result<usize, Refusal>;
+use yifgrun::{ask, ask_all, tidy, work_words, Refusal};
 
 /// The byte that stands at a place of the answer buffer before a call.
 fn byte(place: usize) -> u8 {
@@ -23,7 +23,9 @@ pub fn asked(
     answer: &mut [u8],
     work: &mut [u32],
 ) -> Result<usize, Refusal> {
-    checked(ask, table, question, answer, work)
+    checked(table, answer, work, |answer, work| {
+        ask(table, question, answer, work)
+    })
 }
 
 /// Asks questions in one call, likewise. A refused question is no refusal of the call.
@@ -33,18 +35,34 @@ pub fn asked_all(
     answers: &mut [u8],
     work: &mut [u32],
 ) -> Result<usize, Refusal> {
-    let result = checked(ask_all, table, questions, answers, work);
-    let of_question = |refusal: &Refusal| [11, 12].contains(&refusal.number());
-    assert!(!result.as_ref().is_err_and(of_question), "{result:?}");
+    let result = checked(table, answers, work, |answers, work| {
+        ask_all(table, questions, answers, work)
+    });
+    no_question_refused(result);
     result
 }
 
+/// Tidies a table, likewise. The output is not longer than the table.
+pub fn tidied(table: &[u8], output: &mut [u8], work: &mut [u32]) -> Result<usize, Refusal> {
+    let result = checked(table, output, work, |output, work| {
+        tidy(table, output, work)
+    });
+    no_question_refused(result);
+    assert!(result.unwrap_or(0) <= table.len(), "{result:?}");
+    result
+}
+
+fn no_question_refused(result: Result<usize, Refusal>) {
+    let of_question = |refusal: &Refusal| [11, 12].contains(&refusal.number());
+    assert!(!result.as_ref().is_err_and(of_question), "{result:?}");
+}
+
+/// Makes a call on a table, an answer buffer and a work area.
 fn checked(
-    call: Call,
     table: &[u8],
-    asked: &[u8],
     answer: &mut [u8],
     work: &mut [u32],
+    call: impl Fn(&mut [u8], &mut [u32]) -> Result<usize, Refusal>,
 ) -> Result<usize, Refusal> {
     for (place, b) in answer.iter_mut().enumerate() {
         *b = byte(place);
@@ -52,7 +70,7 @@ fn checked(
     for (place, w) in work.iter_mut().enumerate() {
         *w = word(place);
     }
-    let result = call(table, asked, answer, work);
+    let result = call(answer, work);
     let touched = match result {
         Ok(length) => length,
         Err(refusal) => {

@@ -1,4 +1,4 @@
-//! The library's two calls through its archive: answers, refusals, and what they leave in the buffers lent.
+//! The library's calls through its archive: answers, refusals, and what they leave in the buffers lent.
 
 // Tests are built by the Rust of the day; `rust-version` is for those who link the library.
 #![allow(clippy::incompatible_msrv)]
@@ -24,6 +24,9 @@ mod said;
 #[cfg(target_os = "linux")]
 mod stack;
 mod stored;
+#[path = "../tidied/mod.rs"]
+mod tidied;
+mod tidy;
 #[path = "../typeask/mod.rs"]
 mod typeask;
 mod values;

@@ -4,9 +4,10 @@
 use crate::bounds;
 use crate::fenced::{Fenced, Side};
 use crate::joined::joined;
-use crate::lent::{asked, asked_all};
+use crate::lent::{asked, asked_all, tidied};
 use crate::said::say;
 use crate::stored::cases;
+use crate::tidy::stored;
 use crate::typeask::{parted, texts, Ask};
 use yifgrun::{work_words, Refusal};
 
@@ -51,6 +52,17 @@ impl Pages {
         lent: (usize, usize),
     ) -> Result<Vec<u8>, Refusal> {
         self.call(asked_all, sides, asked_of, lent)
+    }
+
+    /// A table tidied, likewise; no question is lent.
+    fn tidy(
+        &mut self,
+        sides: Sides,
+        table: &[u8],
+        lent: (usize, usize),
+    ) -> Result<Vec<u8>, Refusal> {
+        let tidy: Ask = |table, _, output, work| tidied(table, output, work);
+        self.call(tidy, sides, (table, b""), lent)
     }
 
     fn call(
@@ -124,6 +136,33 @@ fn stored_texts_touch_only_what_is_lent() {
             assert_eq!(number == Err(13), short, "{}", case.name);
         }
     }
+}
+
+/// Stored tables tidied, with just the room for the output on both sides, with a byte less, and with none.
+#[test]
+fn stored_tables_are_tidied_within_what_is_lent() {
+    let mut pages = Pages::new();
+    let calls = stored();
+    for call in &calls {
+        let due = pages.tidy([Side::Front; 4], &call.table, (1 << 17, work_words()));
+        let room = due.as_ref().map_or(0, Vec::len);
+        for sides in all_sides() {
+            let given = pages.tidy(sides, &call.table, (room, work_words()));
+            assert!(given == due, "{}", call.table.escape_ascii());
+            for room in [room.saturating_sub(1), 0] {
+                let given = pages.tidy(sides, &call.table, (room, work_words()));
+                let number = given.map_err(|refusal| refusal.number());
+                let due = due.as_ref().map_or_else(Refusal::number, |_| 13);
+                assert_eq!(number, Err(due), "{}", call.table.escape_ascii());
+            }
+            let given = pages.tidy(sides, &call.table, (room, work_words() - 1));
+            assert_eq!(given.map_err(|refusal| refusal.number()), Err(1));
+        }
+    }
+    say(&format!(
+        "{} tables tidied between pages that may not be touched",
+        calls.len()
+    ));
 }
 
 const TABLE: &str =

@@ -1,7 +1,7 @@
 //! The stack of the calls that nest deepest, measured, and on threads of 2 MiB and 1 MiB.
 
 use crate::bounds;
-use crate::lent::{asked, asked_all};
+use crate::lent::{asked, asked_all, tidied};
 use crate::numbers::Numbers;
 use crate::said::say;
 use crate::typeask::Ask;
@@ -252,8 +252,17 @@ impl Deep {
         )
     }
 
+    /// The table tidied, in place of the question: as it is on a large stack.
+    fn tidied(&self) -> Deep {
+        let mut answers = Answers::new();
+        let due = answers.tidy(self.table.as_bytes()).expect("it is tidied");
+        let due = String::from_utf8(due.to_vec()).expect("text");
+        let (about, _) = self.name.rsplit_once(", ").expect("a letter");
+        deep(&format!("{about}, tidied"), &self.table, "", &due)
+    }
+
     fn run(&self, ask: Ask) {
-        let mut answer = vec![0; bounds::ANSWER];
+        let mut answer = vec![0; bounds::TEXT];
         let mut work = vec![0; work_words()];
         let (table, question) = (self.table.as_bytes(), self.question.as_bytes());
         let result = ask(table, question, &mut answer, &mut work);
@@ -262,14 +271,29 @@ impl Deep {
     }
 }
 
+/// The deep tables, each once, tidied.
+fn all_tidied() -> Vec<Deep> {
+    let mut all = all_deep();
+    all.sort_by(|a, b| a.table.cmp(&b.table));
+    all.dedup_by(|a, b| a.table == b.table);
+    all.iter().map(Deep::tidied).collect()
+}
+
+/// The call that tidies, with a question that it does not look at.
+fn tidies(table: &[u8], _: &[u8], output: &mut [u8], work: &mut [u32]) -> Result<usize, Refusal> {
+    tidied(table, output, work)
+}
+
 #[test]
 fn deep_calls_on_small_threads() {
     for bytes in [2 << 20, 1 << 20] {
-        let run = || {
+        let tidied = all_tidied();
+        let run = move || {
             for deep in all_deep() {
                 deep.run(asked);
                 deep.many().run(asked_all);
             }
+            tidied.iter().for_each(|deep| deep.run(tidies));
         };
         let thread = thread::Builder::new().stack_size(bytes).spawn(run);
         let ended = thread.expect("a thread starts").join();
@@ -355,6 +379,10 @@ fn deep_calls_take_less_than_a_mebibyte_of_stack() {
         let many = said_stack_of(Answers::ask_all, &deep.many());
         assert!(one.max(many) < 1 << 20, "{}", deep.name);
     }
+    for deep in all_tidied() {
+        let tidied = said_stack_of(|answers, table, _| answers.tidy(table), &deep);
+        assert!(tidied < 1 << 20, "{}", deep.name);
+    }
 }
 
 /// Rows for longer texts have frames of their own, and a call on a small table enters none of them. Which functions share
@@ -369,4 +397,6 @@ fn a_small_table_takes_little_stack() {
     );
     assert!(said_stack_of(Answers::ask, &small) < 100 << 10);
     assert!(said_stack_of(Answers::ask_all, &small.many()) < 1 << 20);
+    let tidied = said_stack_of(|answers, table, _| answers.tidy(table), &small.tidied());
+    assert!(tidied < 1 << 20);
 }

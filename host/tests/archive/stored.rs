@@ -119,6 +119,13 @@ pub fn base_calls() -> Option<String> {
     Some(text(&vectors()?.join("entry.txt")))
 }
 
+/// The stored calls that tidy a table, a line each: those of the sample, and of document 02 where they are at hand.
+pub fn tidy_calls() -> String {
+    let sample = text(&sample().join("tidy.txt"));
+    let vectors = vectors_02().map(|folder| text(&folder.join("tools/tidy-6.txt")));
+    sample + &vectors.unwrap_or_default()
+}
+
 fn text(path: &Path) -> String {
     String::from_utf8(read(path)).expect("the calls are text")
 }

@@ -178,7 +178,7 @@ fn returned(refusal: &[u8]) -> i64 {
 }
 
 /// The bytes that hexadecimal digits stand for; `-` for none.
-fn bytes(digits: &str) -> Vec<u8> {
+pub fn bytes(digits: &str) -> Vec<u8> {
     if digits == "-" {
         return Vec::new();
     }

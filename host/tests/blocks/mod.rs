@@ -7,8 +7,8 @@ use std::fs;
 use std::path::Path;
 
 /// The words that may stand behind an opening fence, so that a slip in one is no example lost.
-const KINDS: [&str; 9] = [
-    "typeask", "prints", "console", "rust", "toml", "c", "go", "sh", "text",
+const KINDS: [&str; 10] = [
+    "typeask", "tidied", "prints", "console", "rust", "toml", "c", "go", "sh", "text",
 ];
 
 /// A fenced block, and the number of its first line in the document.

@@ -1,4 +1,4 @@
-/* The library called from C, through its header: both calls, answers, refusals, and the buffers behind each. */
+/* The library called from C, through its header: its calls, answers, refusals, and the buffers behind each. */
 #include "yifgrun.h"
 
 #include <stdio.h>
@@ -12,6 +12,9 @@ static const char table[] =
 
 /* The path on line 3 is that of line 2. */
 static const char recurring[] = "typetable\t1\nP\toffice/cat\nP\toffice/cat\n";
+
+/* Two slices of one type, and a pointer to the second. */
+static const char untidy[] = "typetable\t1\nT\tbasic\t26\nT\tslice\t0\nT\tslice\t0\nT\tpointer\t2\n";
 
 static uint8_t answer[64];
 
@@ -44,9 +47,9 @@ static int work_is(uint32_t word, size_t words)
     return 1;
 }
 
-static void print_answer(const char *question)
+static void print_answer(const char *text, const char *question)
 {
-    int64_t length = ask(table, question, sizeof answer, needed);
+    int64_t length = ask(text, question, sizeof answer, needed);
     if (length >= 0)
         printf("%.*s", (int)length, (const char *)answer);
     printf("rest %s, work %s\n", answer[length < 0 ? 0 : length] == '.' ? "kept" : "changed",
@@ -66,10 +69,10 @@ static void print_refusal(const char *text, const char *question, size_t room, s
 
 static void ask_one(void)
 {
-    print_answer("S\t7\t0\t0\tClose");
-    print_answer("S\t8\t0\t0\tLen");
-    print_answer("M\t7");
-    print_answer("C\t2");
+    print_answer(table, "S\t7\t0\t0\tClose");
+    print_answer(table, "S\t8\t0\t0\tLen");
+    print_answer(table, "M\t7");
+    print_answer(table, "C\t2");
     print_refusal(table, "V", sizeof answer, needed - 1);
     print_refusal("typetable\t1\nT\tnamed\t9\n", "V", sizeof answer, needed);
     print_refusal(recurring, "V", sizeof answer, needed);
@@ -80,13 +83,31 @@ static void ask_one(void)
 static void ask_all(void)
 {
     asks = yifgrun_ask_all;
-    print_answer("S\t8\t0\t0\tLen\nX\nC\t2\n");
-    print_answer("N\t3\t7\t0\n\nC\t0");
-    print_answer("");
+    print_answer(table, "S\t8\t0\t0\tLen\nX\nC\t2\n");
+    print_answer(table, "N\t3\t7\t0\n\nC\t0");
+    print_answer(table, "");
     print_refusal(table, "V\nV\n", sizeof answer, needed - 1);
     print_refusal("typetable\t1\nT\tnamed\t9\n", "", sizeof answer, needed);
     print_refusal(recurring, "X\n", 0, needed + 1);
     print_refusal(table, "C\t2\nX\nC\t0\n", 19, needed);
+}
+
+/* yifgrun_tidy as a call that is tried like the others; what is asked is not looked at. */
+static int64_t tidies(const uint8_t *text, size_t length, const uint8_t *asked, size_t asked_length,
+                      uint8_t *output, size_t room, uint32_t *area, size_t words)
+{
+    (void)asked;
+    (void)asked_length;
+    return yifgrun_tidy(text, length, output, room, area, words);
+}
+
+static void tidy(void)
+{
+    asks = tidies;
+    print_answer(untidy, "");
+    print_refusal(untidy, "", sizeof answer, needed - 1);
+    print_refusal("typetable\t1\nT\tnamed\t9\n", "", 0, needed);
+    print_refusal(untidy, "", 44, needed + 1);
 }
 
 int main(void)
@@ -100,6 +121,8 @@ int main(void)
     printf("version %d.%d.%d\n", YIFGRUN_MAJOR(version), YIFGRUN_MINOR(version), YIFGRUN_PATCH(version));
     ask_one();
     ask_all();
+    tidy();
+    asks = yifgrun_ask;
     refusal = YIFGRUN_REFUSAL(ask(recurring, "V", sizeof answer, needed));
     free(work);
     return refusal != YIFGRUN_PACKAGE_ORDER;

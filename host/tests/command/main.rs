@@ -43,6 +43,11 @@ fn answers_held_against_those_due() {
 }
 
 #[test]
+fn tables_tidied() {
+    transcript("tidy.txt");
+}
+
+#[test]
 fn errors() {
     transcript("errors.txt");
 }

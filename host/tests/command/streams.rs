@@ -47,6 +47,7 @@ fn an_output_that_takes_nothing_is_told() {
         &[&many],
         &["explain", &few],
         &[&few, "V"],
+        &["tidy", &few],
         &["--help"],
         &["--version"],
     ] {

@@ -13,7 +13,7 @@ pub fn host(path: &str) -> PathBuf {
 }
 
 /// A path in the tests' own folder.
-fn own(path: &str) -> PathBuf {
+pub fn own(path: &str) -> PathBuf {
     Path::new(env!("CARGO_TARGET_TMPDIR")).join(path)
 }
 

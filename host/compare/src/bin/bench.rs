@@ -4,14 +4,10 @@
 
 use compare::engine::{self, Engine};
 use compare::tables::{cases, Case};
+use compare::timing::{fastest, fastest_in, SPENT};
 use std::hint::black_box;
 use std::path::Path;
-use std::time::{Duration, Instant};
-
-/// A load is repeated so often at least, and until this much time is spent, as is each question for its share of the
-/// time; the fastest run counts.
-const RUNS: usize = 3;
-const SPENT: Duration = Duration::from_millis(300);
+use std::time::Duration;
 
 const HEAD: [&str; 8] = [
     "Nanoseconds, the fastest run of each; buffers are not cleared between calls. `pass` is a look at each byte of the",
@@ -149,22 +145,4 @@ fn load(engine: &mut dyn Engine, case: &Case) {
     engine
         .load(black_box(&case.table))
         .expect("every table of the cases loads");
-}
-
-/// The time of the fastest of several runs.
-fn fastest(run: impl FnMut()) -> Duration {
-    fastest_in(SPENT, run)
-}
-
-fn fastest_in(spent: Duration, mut run: impl FnMut()) -> Duration {
-    let start = Instant::now();
-    let mut fastest = Duration::MAX;
-    let mut runs = 0;
-    while runs < RUNS || start.elapsed() < spent {
-        let begin = Instant::now();
-        run();
-        fastest = fastest.min(begin.elapsed());
-        runs += 1;
-    }
-    fastest
 }

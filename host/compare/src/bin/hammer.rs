@@ -1,5 +1,5 @@
-//! Makes COUNT calls of the library on random and damaged tables from SEED, each with a call for many questions behind it,
-//! and checks each; the calls from number FIRST on, if it is given. A call that does not end within a minute is told as
+//! Makes COUNT calls of the library on random and damaged tables from SEED, each with a call for many questions and
+//! one that tidies the table behind it, and checks each; the calls from number FIRST on, if it is given. A call that does not end within a minute is told as
 //! one that fails.
 
 use compare::engine;
@@ -60,6 +60,11 @@ fn print(seed: u64, count: u64, hammer: &Hammer, time: Duration) {
     println!(
         "in one call, each as alone: {} questions of {} calls, {} of them refused; {} calls refused",
         many.questions, many.answered, many.refused_questions, many.refused
+    );
+    let tidied = &counts.tidied;
+    println!(
+        "tidied: {} tables, {} of them with fewer types behind; {} calls refused",
+        tidied.tables, tidied.smaller, tidied.refused
     );
 }
 

@@ -3,6 +3,7 @@
 mod identity;
 mod loading;
 mod members;
+mod twins;
 
 use crate::prng::Prng;
 use crate::random::{self, Shape};
@@ -10,6 +11,7 @@ use crate::table::{Kind, Member, Table};
 use identity::{long_structs, nested_pairs, rings, towers, Nest};
 use loading::{long_loads, long_tuple};
 use members::{chain, deep_methods, lattice, one_receiver, wide, wide_diamond, wide_methods};
+pub use twins::untidy;
 
 /// A table text and questions on it.
 pub struct Case {

@@ -13,6 +13,7 @@ usage: yifgrun [ask] [--] TABLE QUESTION..     one question on the table in the 
        yifgrun explain [--] [FILE]             every question of FILE, and its answer in words
        yifgrun compare [--] PATH..             every question of the files X.in, or of those in a folder, against
                                                the answers that are due in X.out beside it
+       yifgrun tidy [--] [FILE]                the table of FILE with one type of each set of identical types
        yifgrun --version
        yifgrun --help, -h
 
@@ -38,11 +39,13 @@ pub enum Task {
     /// The question of these words on the table of a file, or without words every question of the file.
     Answer(Manner, OsString, Vec<OsString>),
     Compare(Vec<OsString>),
+    Tidy(OsString),
 }
 
 enum Command {
     Answer(Manner),
     Compare,
+    Tidy,
 }
 
 /// The task of the arguments, or what is wrong with them.
@@ -65,6 +68,9 @@ pub fn task(arguments: &[OsString]) -> Result<Task, String> {
         }
         (Command::Compare, []) => Err(usage("compare needs files X.in or folders")),
         (Command::Compare, paths) => Ok(Task::Compare(paths.to_vec())),
+        (Command::Tidy, []) => Ok(Task::Tidy("-".into())),
+        (Command::Tidy, [file]) => Ok(Task::Tidy(file.clone())),
+        (Command::Tidy, _) => Err(usage("tidy takes one file")),
     }
 }
 
@@ -75,6 +81,7 @@ fn command(arguments: &[OsString]) -> (Command, &[OsString]) {
         Some("ask") => Command::Answer(Manner::Lines),
         Some("explain") => Command::Answer(Manner::Words),
         Some("compare") => Command::Compare,
+        Some("tidy") => Command::Tidy,
         _ => return (Command::Answer(Manner::Lines), arguments),
     };
     (command, &arguments[1..])

@@ -1,5 +1,5 @@
-//! Answers questions on a table of Go types at a terminal, as lines or in words, and holds answers against those that
-//! are due.
+//! Answers questions on a table of Go types at a terminal, as lines or in words, holds answers against those that are
+//! due, and tidies tables.
 
 mod answer;
 mod arguments;
@@ -15,6 +15,7 @@ use output::{Output, Status};
 use std::env;
 use std::ffi::OsString;
 use std::process::ExitCode;
+use yifgrun::Answers;
 
 fn main() -> ExitCode {
     let arguments: Vec<OsString> = env::args_os().skip(1).collect();
@@ -26,6 +27,17 @@ fn main() -> ExitCode {
         Status::Failed
     });
     ExitCode::from(status as u8)
+}
+
+/// Prints the table of an input tidied.
+fn tidy(input: &Input, output: &mut Output) -> Result<Status, String> {
+    match Answers::new().tidy(input.table()) {
+        Ok(table) => output.print(table).map(|()| Status::Good),
+        Err(refusal) => {
+            output.tell(&input.refused(refusal))?;
+            Ok(Status::Refused)
+        }
+    }
 }
 
 /// How the questions fared, or why the command came to no end.
@@ -45,5 +57,6 @@ fn run(arguments: &[OsString], output: &mut Output) -> Result<Status, String> {
             }
         }
         Task::Compare(paths) => compare::compare(&paths, output),
+        Task::Tidy(file) => tidy(&Input::read(file.as_ref())?, output),
     }
 }
