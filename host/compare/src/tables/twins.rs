@@ -12,7 +12,6 @@ pub fn untidy() -> Vec<(String, Table, usize)> {
         chains("a chain", 1, many),
         equal_pointers(many),
         structs(many),
-        arrays(many),
     ];
     tables.extend([170, many / 2].map(|height| chains("two chains", 2, height)));
     tables.extend([false, true].map(|differs| ring(bounds::TYPES / 3, differs)));
@@ -43,14 +42,6 @@ fn structs(count: usize) -> (String, Table, usize) {
         table.put_struct([field(format!("F{n}"), int, false)]);
     }
     let name = format!("{count} structs of one field, each of another name");
-    (name, table, 1 + count)
-}
-
-/// Arrays whose lengths differ by as many as the library has buckets for its hashes, so that all are in one at first.
-fn arrays(count: usize) -> (String, Table, usize) {
-    let (mut table, int) = with_int();
-    (1..=count as u64).for_each(|n| table.add_type(Kind::Array(n * bounds::TYPES as u64, int)));
-    let name = format!("{count} arrays of other lengths and one hash");
     (name, table, 1 + count)
 }
 
