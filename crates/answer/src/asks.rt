@@ -27,14 +27,14 @@ use typ::comparable::comparable;
 use typ::identical::identical;
 
 // What S is asked of: an operand of the type, addressable or not.
-#[derive(Drop)]
+#[derive(Clone, Copy)]
 pub struct Operand {
     pub typ: TypeKey,
     pub addressable: bool,
 }
 
 // What N is asked of: the type, the interface, and whether absent methods count where an interface lies under the type too.
-#[derive(Drop)]
+#[derive(Clone, Copy)]
 pub struct Implements {
     pub typ: TypeKey,
     pub iface: TypeKey,

@@ -1,5 +1,7 @@
 // The answer to a question on loaded rows: refusals 11 and 12, or the lines of the answer in front of the buffer. What a question searches with is lent, so that it
 // serves one question after the other (specs/Lent.antt).
+#![tactic(auto)]
+
 pub mod asks; // the questions, letter by letter
 
 ghost use Rattle.std.specs.Prelude.{◌≡◌, ◌≤◌, length, replicate};
@@ -24,7 +26,7 @@ use selection::Name;
 pub const SEARCH_WORDS: usize = 2 + 2 * MAX_PLACES;
 
 // What a question is lent: nothing, records and words for a search, or also first hits for the names of a set.
-#[derive(Drop)]
+#[derive(Clone, Copy)]
 pub enum Need {
     Nothing,
     Walk,

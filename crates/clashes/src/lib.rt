@@ -1,6 +1,8 @@
 // Refusal 9 over the rows of a table: the line of the first member whose identity clashes, or that does not come after the method before it in an
 // interface. A field or a method of a named type is compared with those above it, and with the fields of its struct, only if marks of names say that it
 // may equal one of them: for names of different hashes the whole is linear. At worst, where an attacker chose names of one hash, each is compared with all.
+#![tactic(auto)]
+
 ghost use Rattle.std.specs.Prelude.{◌≡◌, true, false, not, ◌&&◌, ◌+◌, ◌≤◌, ◌<◌, length, take};
 ghost use Rattle.std.proofs.Math.Option.{none};
 ghost use Rattle.objects.specs.Bounds.{max_types, max_elements};

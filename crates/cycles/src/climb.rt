@@ -24,7 +24,7 @@ const CLIMB_WORDS: usize = WAY_AT + MAX_TYPES;
 const MAX_STEPS: u32 = (2 * MAX_TYPES + MAX_MEMBERS) as u32;
 
 // How long the way is, and the next rank.
-#[derive(Drop)]
+#[derive(Clone, Copy)]
 pub struct Climb {
     pub top: usize,
     pub next: u32,

@@ -1,4 +1,6 @@
 // Refusal 10 over the rows of a table: "A type contains itself by value". Where no type does, the rows are left with the rank that exists because of it.
+#![tactic(auto)]
+
 ghost use Rattle.objects.specs.Laid.{Laid};
 ghost use Rattle.cycles.specs.Contents.{Refers};
 ghost use Rattle.cycles.specs.Contained.{Contained};

@@ -1,5 +1,6 @@
 // The names of all methods that the types of kept rows have, ascending by id. For each of them the first method met, in the order of rows, and whether it is
 // hidden: by another on its level, or by a field that is not deeper. With that the name is settled, whatever lies below.
+#![tactic(auto)]
 
 pub mod cover; // the fields, which only hide
 pub mod gather; // the methods, row by row
@@ -20,14 +21,14 @@ pub const PLACE: usize = 1;
 pub const HIDDEN: usize = 2;
 
 // Where an id stands in a sorted list, or would stand.
-#[derive(Drop)]
+#[derive(Clone, Copy)]
 pub enum Place {
     Found(usize),
     At(usize),
 }
 
 // Members of a row's type: so many from a first one on, which stand at the places from 0 on.
-#[derive(Drop)]
+#[derive(Clone, Copy)]
 pub struct Stretch {
     pub row: u32,
     pub first: u32,

@@ -1,4 +1,6 @@
 // Several inputs in one: each stands behind its length, five digits and a newline. So the programs that run on stored inputs have them on standard input.
+#![tactic(auto)]
+
 ghost use Rattle.std.specs.Prelude.{◌≤◌, length};
 ghost use Rattle.frames.specs.Frames.{Fits};
 
@@ -8,7 +10,7 @@ use objects::bounds::MAX_TEXT;
 pub const ROOM: usize = MAX_TEXT + 32;
 
 // The next input, by its length, or no further one.
-#[derive(Drop)]
+#[derive(Clone, Copy)]
 pub enum Frame {
     Input(usize),
     End,

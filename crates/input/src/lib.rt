@@ -1,4 +1,6 @@
 // What typeask reads, by its lines: where the table ends, and where each question does.
+#![tactic(auto)]
+
 ghost use Rattle.std.specs.Prelude.{◌≡◌, ◌≤◌, length};
 ghost use Rattle.text.specs.Bytes.{ascii, same_bytes};
 ghost use Rattle.input.specs.Parts.{Splits, Follows};
@@ -7,14 +9,14 @@ use text::compare::same;
 use text::scan::line_end;
 
 // The input: all of it is the table, or the table ends at a place and the questions begin at another.
-#[derive(Drop)]
+#[derive(Clone, Copy)]
 pub enum Parts {
     Whole,
     Until(usize, usize),
 }
 
 // The next question: none is left, or it ends at a place and the questions behind it begin at another.
-#[derive(Drop)]
+#[derive(Clone, Copy)]
 pub enum Next {
     None,
     Is(usize, usize),

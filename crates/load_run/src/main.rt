@@ -1,5 +1,7 @@
 // Loads each table of standard input and prints what loading gives: `ok` and the counts of packages, types and members, or `refused`, the number and the line.
 // Each table stands behind its length, five digits and a newline. The input and what is due for it are made by tools/load_sample.py.
+#![tactic(auto)]
+
 use frames::{Frame, ROOM};
 use objects::bounds::ALL_WORDS;
 use objects::rows::{member_count, package_count, type_count};

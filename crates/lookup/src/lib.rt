@@ -1,5 +1,7 @@
 // S: the selection of a name in a type, as goscript's lookup.rs has it. What levels::search does not see is settled here: the blank name, pointers to
 // interfaces, and named pointer types. N is in missing.rt.
+#![tactic(auto)]
+
 pub mod missing;
 
 ghost use Rattle.std.specs.Prelude.{◌≡◌, true, cond, ◌&&◌, ◌<◌};

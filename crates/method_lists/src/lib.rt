@@ -1,5 +1,7 @@
 // The list of methods of an interface, read off the rows from position to position, in the order of the list. No caller knows where in the rows a method of a
 // list stands: a list is read in a loop from `first_position` by `next_position` below `positions_end`, and a place in the list is how many were read before.
+#![tactic(auto)]
+
 ghost use Rattle.std.specs.Prelude.{◌≡◌, ◌<◌};
 ghost use Rattle.objects.specs.Rows.{type_count};
 ghost use Rattle.objects.specs.Types.{first_read};

@@ -1,4 +1,6 @@
 // M: the method set of a type, off its kept walks. Of the names of all methods that they come to, those stay that are not hidden and whose receivers allow it.
+#![tactic(auto)]
+
 ghost use Rattle.std.specs.Prelude.{◌≡◌, ◌+◌, ◌*◌, ◌≤◌, ◌<◌, length, take};
 ghost use Rattle.objects.specs.Bounds.{max_places};
 ghost use Rattle.objects.specs.Lists.{In, keep};

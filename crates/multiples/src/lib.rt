@@ -1,5 +1,7 @@
 // Level records: "`consolidate_multiples` works over a lent row of embedded-type records". What a search by levels keeps of a type that a level reaches, and
 // the mark on the first of two records of one type.
+#![tactic(auto)]
+
 ghost use Rattle.std.specs.Prelude.{◌≡◌, ◌≤◌, length};
 ghost use Rattle.multiples.specs.Records.{max_records, consolidated};
 

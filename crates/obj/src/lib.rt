@@ -1,5 +1,7 @@
 // The identity of members and the order of their ids, as goscript's obj.rs has them (`same_id`, `get_id`), by comparing the bytes of the text: no id is
 // ever built.
+#![tactic(auto)]
+
 ghost use Rattle.std.specs.Prelude.{◌≡◌, true, ◌∷◌, ◌-◌, ◌≤◌, length, get_or};
 ghost use Rattle.objects.specs.Table.{has_package};
 ghost use Rattle.objects.specs.Rows.{bytes_at, package_meant, member_at, table_of};
@@ -16,7 +18,7 @@ use text::bytes::{wide, within};
 use text::compare::{order, same, same_across, span};
 
 // The id of a member as places in the text: its form, its package's path and its name (specs/Ids.antt).
-#[derive(Drop)]
+#[derive(Clone, Copy)]
 pub struct Id {
     pub form: u64,
     pub path: u32,

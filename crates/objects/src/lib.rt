@@ -1,29 +1,30 @@
 // The keys of a type table, as goscript's objects.rs has them, the direction of a channel, what a type's row says, and what a stage of loading finds. A
 // type number, a member number and a package number are each a kind of their own, so that none is read as another.
+#![tactic(auto)]
 
 pub mod bounds; // the numbers that bound a table
 pub mod kinds; // the numbers of kinds
 pub mod rows; // the readers of a loaded table
 pub mod writers; // what adds a line to it
 
-#[derive(Drop)]
+#[derive(Clone, Copy)]
 pub struct TypeKey(pub u32);
 
-#[derive(Drop)]
+#[derive(Clone, Copy)]
 pub struct ObjKey(pub u32);
 
-#[derive(Drop)]
+#[derive(Clone, Copy)]
 pub struct PackageKey(pub u32);
 
 // "pkg is a number or `-` for none"
-#[derive(Drop)]
+#[derive(Clone, Copy)]
 pub enum Package {
     Absent,
     Is(PackageKey),
 }
 
 // "A channel carries its direction d: 0 both ways, 1 send only, 2 receive only."
-#[derive(Drop)]
+#[derive(Clone, Copy)]
 pub enum Dir {
     Both,
     Send,
@@ -31,7 +32,7 @@ pub enum Dir {
 }
 
 // The eleven kinds, in the order of document 01. Members and elements of a tuple are said by the first and their count.
-#[derive(Drop)]
+#[derive(Clone, Copy)]
 pub enum Type {
     Basic(u32),
     Array(u32, TypeKey),
@@ -47,7 +48,7 @@ pub enum Type {
 }
 
 // What a stage of loading finds: nothing, or the line of the first that fails.
-#[derive(Drop)]
+#[derive(Clone, Copy)]
 pub enum Stage {
     Passed,
     Bad(u32),

@@ -1,4 +1,6 @@
 // 14, package out of order: P lines strictly ascend by the bytes of their paths, so that a package is known by its path.
+#![tactic(auto)]
+
 ghost use Rattle.std.specs.Prelude.{◌≡◌, ◌-◌, ◌<◌};
 ghost use Rattle.objects.specs.Table.{package_key};
 ghost use Rattle.objects.specs.Rows.{path_read, table_of};

@@ -1,6 +1,8 @@
 // Compares the last two types of each table of standard input, from no pair met, and prints `yes` or `no` and how many pairs of types were met: what was put
 // off stays so. A refused table prints `refused`, one of fewer than two types `none`. The tables stand behind their lengths (crate frames). They and what is
 // due for them are made by tools/pairs_sample.py.
+#![tactic(auto)]
+
 ghost use Rattle.std.specs.Prelude.{◌≤◌, length};
 ghost use Rattle.objects.specs.Bounds.{work_words};
 ghost use Rattle.rules.specs.Library.{Library};

@@ -1,5 +1,7 @@
 // Writes answer lines into a buffer: each is a word and decimal numbers. A function that writes takes the place to write at and answers the place
 // behind what it wrote; there must be room.
+#![tactic(auto)]
+
 ghost use Rattle.std.specs.Prelude.{◌≡◌, ◌∷◌, ◌+◌, ◌≤◌, length, take};
 ghost use Rattle.text.specs.Bytes.{decimal};
 ghost use Rattle.print.specs.Written.{max_word, max_fields, number_line, line_end, Wrote};

@@ -1,5 +1,7 @@
 // The program typeask between reading and writing. The input is parted into table and questions by the crate input, the table is loaded once (tables), and
 // the questions are answered one after the other by the function that answers them for a call with many (asking, crate replies).
+#![tactic(auto)]
+
 ghost use Rattle.std.specs.Prelude.{◌≡◌, length};
 ghost use Rattle.rules.specs.Typeask.{typeask};
 
@@ -12,7 +14,7 @@ use crate::writing::{print_all, refuse};
 use objects::bounds::ALL_WORDS;
 
 // A refusal and its line, or a loaded table: all of the input, or up to a place, with the questions from another on.
-#[derive(Drop)]
+#[derive(Clone, Copy)]
 pub enum Opening {
     Refused(u32, u32),
     Whole,

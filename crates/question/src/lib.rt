@@ -1,4 +1,6 @@
 // A question line, read by the cursor: its form and its numbers (refusal 11), and the second type of an N question (12).
+#![tactic(auto)]
+
 ghost use Rattle.std.specs.Prelude.{◌≡◌, true, ◌≤◌, ltb, length};
 ghost use Rattle.std.proofs.Math.Option.{some};
 ghost use Rattle.objects.specs.Bounds.{max_question};
@@ -21,7 +23,7 @@ use text::bytes::both;
 use text::{Cursor, Part, Past};
 
 // The question of a line. S has the type, whether it is addressable, the package, and place and length of the name in the line.
-#[derive(Drop)]
+#[derive(Clone, Copy)]
 pub enum Ask {
     S(TypeKey, bool, Package, u32, u32),
     M(TypeKey),

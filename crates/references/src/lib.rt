@@ -1,5 +1,7 @@
 // Refusals 7 and 8 over the rows of a table: the line of the first T, F or M line that refers to what the table lacks (7), or to a kind of type not
 // allowed there (8). One walk over the types and the members under each serves both tests.
+#![tactic(auto)]
+
 ghost use Rattle.std.specs.Prelude.{◌≡◌, ◌<◌, List};
 ghost use Rattle.objects.specs.Table.{Member, kind_at};
 ghost use Rattle.objects.specs.Rows.{type_count};
@@ -21,7 +23,7 @@ pub mod elements; // a tuple's elements
 pub mod allowed; // what it may refer to
 
 // The test of refusal 7, or of 8.
-#[derive(Drop)]
+#[derive(Clone, Copy)]
 pub enum Test {
     Lacking,
     Forbidden,

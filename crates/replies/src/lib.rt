@@ -1,4 +1,6 @@
 // Answers on loaded rows: to one question, or to many, one after the other. What the questions search with is made once for all of them (lend.rt).
+#![tactic(auto)]
+
 pub mod all; // all answers or none
 pub mod fill; // as many answers as fit
 pub mod lend; // what the questions are lent
@@ -19,7 +21,7 @@ use reply::Done;
 use reply::one_line::say_refused;
 
 // How far the questions are answered: the place of the first that is left, and the bytes that their answers take.
-#[derive(Drop)]
+#[derive(Clone, Copy)]
 pub struct Filled {
     pub at: usize,
     pub n: usize,

@@ -1,4 +1,6 @@
 // What a selection gives, as goscript's lookup.rs and selection.rs have it, and the members that are a type's own.
+#![tactic(auto)]
+
 ghost use Rattle.std.specs.Prelude.{◌≡◌, true, ◌+◌, ◌<◌, ◌≤◌, length, take, drop};
 ghost use Rattle.objects.specs.Table.{has_package, members_of, kind_at};
 ghost use Rattle.objects.specs.Rows.{type_count, member_count_of, signs_at, bytes_at, package_meant, table_of};
@@ -16,7 +18,7 @@ use text::compare::span;
 use text::hash::hash;
 
 // A name that is asked for from a package: its place and length in the text that it stands in, and the package.
-#[derive(Drop)]
+#[derive(Clone, Copy)]
 pub struct Name {
     pub at: u32,
     pub len: u32,
@@ -24,14 +26,14 @@ pub struct Name {
 }
 
 // "the selection enum holds a method-or-field enum"
-#[derive(Drop)]
+#[derive(Clone, Copy)]
 pub enum Entity {
     Method(ObjKey),
     Field(ObjKey),
 }
 
 // An entry has its flag: whether a pointer was removed before the last place.
-#[derive(Drop)]
+#[derive(Clone, Copy)]
 pub enum LookupResult {
     Entry(Entity, bool),
     Ambiguous,
@@ -40,21 +42,21 @@ pub enum LookupResult {
 }
 
 // The result, and how many places a way has: those of the first stand in front of a lent row, those of the second, which has as many, MAX_PLACES further on.
-#[derive(Drop)]
+#[derive(Clone, Copy)]
 pub struct Selection {
     pub result: LookupResult,
     pub count: usize,
 }
 
 // A member of a type itself, at its place in the list that it stands in.
-#[derive(Drop)]
+#[derive(Clone, Copy)]
 pub enum Own {
     Nothing,
     Found(u32, ObjKey),
 }
 
 // What N answers: the first method that is not met, and whether a method is there with another type.
-#[derive(Drop)]
+#[derive(Clone, Copy)]
 pub enum Missing {
     Satisfied,
     Lacks(ObjKey, bool),

@@ -1,5 +1,7 @@
 // Signs for the members of a loaded table: the hash of each name, densely in the rows, so that a search among many members passes over those of other names
 // by one word each. It pays where many questions are asked of one table.
+#![tactic(auto)]
+
 ghost use Rattle.std.specs.Prelude.{◌≡◌, ◌+◌, ◌≤◌, length};
 ghost use Rattle.objects.specs.Rows.{member_count_of, element_count, signs_at, table_of};
 ghost use Rattle.objects.specs.Laid.{Laid};

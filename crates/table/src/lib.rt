@@ -1,4 +1,6 @@
 // The loader: a text becomes rows, or is refused by 2 to 10 or 14 with its line. Each stage is a crate of its own; here they are put in order.
+#![tactic(auto)]
+
 ghost use Rattle.std.specs.Prelude.{◌≡◌, ◌≤◌, length, replicate};
 ghost use Rattle.objects.specs.Bounds.{room_for};
 ghost use Rattle.objects.specs.Rows.{table_of};
@@ -10,7 +12,7 @@ use objects::Stage;
 use objects::writers::put_signed;
 
 // A refusal and its line, or a table.
-#[derive(Drop)]
+#[derive(Clone, Copy)]
 pub enum Loading {
     Refused(u32, u32),
     Loaded,

@@ -1,6 +1,8 @@
 // The text of a table and loading are inverse to each other: what loaded is written back to the byte, and what is written out loads as the table that it was
 // (the text is defined in crate edits; the theorems are proofs/TextBack.antt, proofs/LineReads.antt and proofs/SoundLoads.antt). The code writes it from the rows
 // of a table: `put_table`, and with other type numbers `put_type` and what stands under it.
+#![tactic(auto)]
+
 ghost use Rattle.std.specs.Prelude.{◌+◌, ◌≤◌, ◌<◌, length};
 ghost use Rattle.objects.specs.Bounds.{word_values};
 ghost use Rattle.objects.specs.Laid.{Laid};

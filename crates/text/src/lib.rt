@@ -1,5 +1,7 @@
 // The text of a table: its lines, the fields of a line, and what the bytes of a field say. A cursor goes through the fields of one line and hands itself
 // on; every reader of it is a reader by fields (specs/Readers.antt).
+#![tactic(auto)]
+
 pub mod bytes;
 pub mod compare;
 pub mod hash;
@@ -17,7 +19,7 @@ ghost use Rattle.text.specs.Runs.{closed_at, Exact};
 use objects::bounds::{MAX_NAME, MAX_PATH, MAX_TAG};
 
 // What is left of a line: its bytes from `at` up to `end`, if there are fields left at all.
-#[derive(Drop)]
+#[derive(Clone, Copy)]
 pub struct Cursor {
     pub at: usize,
     pub end: usize,
@@ -25,33 +27,33 @@ pub struct Cursor {
 }
 
 // A field's bytes, from one place up to another, and the cursor behind it.
-#[derive(Drop)]
+#[derive(Clone, Copy)]
 pub enum Part {
     Is(usize, usize, Cursor),
     Wrong,
 }
 
-#[derive(Drop)]
+#[derive(Clone, Copy)]
 pub enum Num {
     Value(u64, Cursor),
     Wrong,
 }
 
-#[derive(Drop)]
+#[derive(Clone, Copy)]
 pub enum Past {
     To(Cursor),
     Wrong,
 }
 
 // A number that took one more digit.
-#[derive(Drop)]
+#[derive(Clone, Copy)]
 pub enum Digit {
     Next(u64),
     Wrong,
 }
 
 // How a text stands to another, by their bytes.
-#[derive(Drop)]
+#[derive(Clone, Copy)]
 pub enum Order {
     Less,
     Equal,

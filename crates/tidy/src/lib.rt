@@ -1,5 +1,7 @@
 // The tidy writer: a loaded table written out again with only the least-numbered type of each set of identical types (document 02, point 6). The definitions are
 // those of crate edits, specs/Tidy.antt and specs/TableText.antt; what is promised of the text is in proofs/Texts.antt.
+#![tactic(auto)]
+
 ghost use Rattle.std.specs.Prelude.{◌≡◌, ◌≤◌, length};
 ghost use Rattle.objects.specs.Bounds.{max_text};
 ghost use Rattle.objects.specs.Rows.{type_count, table_of};

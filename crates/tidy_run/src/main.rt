@@ -1,5 +1,7 @@
 // Loads each table of standard input and prints it tidy: the text of the tidied table, or `refused`, the number and the line. Each table stands behind its length,
 // five digits and a newline. The input and what is due for it are made by tools/tidy_sample.py.
+#![tactic(auto)]
+
 use frames::{Frame, ROOM};
 use objects::bounds::{ALL_WORDS, MAX_TEXT};
 use reply::Done;

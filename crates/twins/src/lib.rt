@@ -1,6 +1,8 @@
 // The least twin of each type of a loaded table, for all types at once. All types begin in one class. A round splits each class: types stay together if nothing
 // tells them apart and their parts are together. What no round splits any more are the sets of identical types. Rounds are as many as parts are nested, and never
 // more than there are types; a round is linear in the rows, up to what a bucket holds besides.
+#![tactic(auto)]
+
 ghost use Rattle.std.specs.Prelude.{◌≡◌, ◌≤◌, length};
 ghost use Rattle.objects.specs.Rows.{type_count};
 ghost use Rattle.rules.specs.Library.{Library};

@@ -3,7 +3,7 @@ ghost use Rattle.std.specs.Prelude.{◌≡◌};
 ghost use Rattle.rules.specs.Identity.{real_type};
 
 // "`T basic k` (0 to 27, the order of `BasicType`)"
-#[derive(Drop)]
+#[derive(Clone, Copy)]
 pub struct BasicType(pub u32);
 
 impl BasicType {

@@ -1,5 +1,7 @@
 // Runs the program typeask on each input of standard input, and prints its number before what it prints. Each input stands behind its length, five
 // digits and a newline. The inputs and what is due for them are made by tools/ask_sample.py.
+#![tactic(auto)]
+
 use frames::{Frame, ROOM};
 
 fn title(k: u32) {

@@ -1,5 +1,7 @@
 // The exported calls: a question on a table, or many of them, answered into a lent buffer; a table written out tidy; and what a host asks of the library itself,
 // how many words of work area a call needs and which version it is.
+#![tactic(auto)]
+
 ghost use Rattle.std.specs.Prelude.{◌≡◌, ◌≤◌, length, replicate};
 ghost use Rattle.objects.specs.Bounds.{room_for, small_text, median_text, middle_text, long_text, work_words};
 ghost use Rattle.rules.specs.Asked.{on_table, refusal, asked};
