@@ -13,7 +13,7 @@ import re
 import sys
 
 TRIVIAL = re.compile(r"^(?:search rules|omega arith|[\s(),]|refl|tt)*$")
-NAME = r"[^\s(){}\[\],;.]+"
+NAME = r"[^\s(){}\[\],;.=]+"
 
 
 def norm(name):
@@ -93,6 +93,8 @@ class Function:
             key = (norm(head), tuple(parts[1:n]))
             if key in self.arms:
                 return f"c.{self.arms[key]}" + "".join("." + p for p in parts[n:])
+        if head.startswith("match") and parts[1:2] == ["rest"]:
+            return "(search rules)"
         new = self.steps.get(norm(head))
         if not new:
             left.append(path)

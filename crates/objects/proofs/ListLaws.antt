@@ -112,6 +112,7 @@ map-append f (x ∷ xs) m = rw (map-append f xs m)
 
 module _ {A : Type 0} where
   pub any-In : (p : A → Bool) (l : List A) (x : A) → In x l → p x ≡ true → any p l ≡ true
+  any-In p [] x x4 h = elim x4 [ ]
   any-In p (y ∷ ys) x (inl e) h = rw (← e, h)
   any-In p (y ∷ ys) x (inr i) h = rw (any-In p ys x i h, or-true)
 
@@ -176,6 +177,7 @@ either (inr b) f g = g b
 
 module _ {A : Type 0} where
   pub In-keep : (p : A → Bool) (l : List A) (x : A) → In x (keep p l) → In x l × (p x ≡ true)
+  In-keep p [] x i = elim i [ ]
   In-keep p (y ∷ ys) x i =
       cases (p y)
       (λ e. either (rw e at i) (λ f. (inl f, rw (f, e))) (λ j. let r = In-keep p ys x j in (inr r.0, r.1)))
@@ -188,10 +190,12 @@ module _ {A : Type 0} where
 
 module _ {A B : Type 0} where
   pub In-map : (f : A → B) (l : List A) (y : B) → In y (map f l) → (x : A) × In x l × (y ≡ f x)
+  In-map f [] y x' = elim x' [ ]
   In-map f (x ∷ xs) y (inl e) = (x, inl refl, e)
   In-map f (x ∷ xs) y (inr i) = let r = In-map f xs y i in (r.0, inr r.1, r.2)
 
   pub In-flat : (f : A → List B) (l : List A) (y : B) → In y (flat f l) → (x : A) × In x l × In y (f x)
+  In-flat f [] y i = elim i [ ]
   In-flat f (x ∷ xs) y i = either (In-append (f x) (flat f xs) y i) (λ j. (x, inl refl, j)) (λ j. let r = In-flat f xs y j in (r.0, inr r.1, r.2))
 
 pub map-nil : {A B : Type 0} (f : A → B) (l : List A) → map f l ≡ [] → l ≡ []
@@ -200,6 +204,7 @@ map-nil f (x ∷ xs) h = absurd (cons≢nil h)
 
 module _ {A : Type 0} where
   pub In-append-l : (l m : List A) (x : A) → In x l → In x (l ++ m)
+  In-append-l [] m x x3 = elim x3 [ ]
   In-append-l (y ∷ ys) m x (inl e) = inl e
   In-append-l (y ∷ ys) m x (inr i) = inr (In-append-l ys m x i)
 
@@ -209,10 +214,12 @@ module _ {A : Type 0} where
 
 module _ {A B : Type 0} where
   pub map-In-to : (f : A → B) (l : List A) (x : A) → In x l → In (f x) (map f l)
+  map-In-to f [] x x3 = elim x3 [ ]
   map-In-to f (y ∷ ys) x (inl e) = inl (ap f e)
   map-In-to f (y ∷ ys) x (inr i) = inr (map-In-to f ys x i)
 
   pub flat-In-to : (f : A → List B) (l : List A) (x : A) (y : B) → In x l → In y (f x) → In y (flat f l)
+  flat-In-to f [] x y x4 j = elim x4 [ ]
   flat-In-to f (z ∷ zs) x y (inl e) j = In-append-l (f z) (flat f zs) y (rw e at j)
   flat-In-to f (z ∷ zs) x y (inr i) j = In-append-r (f z) (flat f zs) y (flat-In-to f zs x y i j)
 
@@ -245,5 +252,6 @@ flat-In-ext f g [] h = refl
 flat-In-ext f g (x ∷ xs) h = ap₂ (λ a b. a ++ b) (h x (inl refl)) (flat-In-ext f g xs (λ y i. h y (inr i)))
 
 pub keep-In-to : {A : Type 0} (p : A → Bool) (l : List A) (x : A) → In x l → p x ≡ true → In x (keep p l)
+keep-In-to {A = A} p [] x x4 h = elim x4 [ ]
 keep-In-to p (y ∷ ys) x (inl e) h = rw (← e, h) (inl refl)
 keep-In-to p (y ∷ ys) x (inr i) h = cases (p y) (λ f. rw f (inr (keep-In-to p ys x i h))) (λ f. rw f (keep-In-to p ys x i h))

@@ -27,6 +27,7 @@ up_to-at (suc n) i d h =
     (λ l. get_or-append (up_to n) (n ∷ []) d i (rw (up_to-length n) l) ∙ up_to-at n i d l)
 
 pub up_to-below : (n i : ℕ) → In i (up_to n) → i < n
+up_to-below zero i h = elim h [ ]
 up_to-below (suc n) i h =
     either (In-append (up_to n) (n ∷ []) i h)
     (λ j. let l = up_to-below n i j in omega arith)

@@ -47,11 +47,14 @@ module _ {A : Type 0} where
 
   -- the one beside x; the one beside y
   pub pairs-right : (P : A → A → Type 0) (l m : List A) → AllPairs P l m → (x : A) → In x l → (y : A) × In y m × P x y
+  pairs-right P [] m a x i = elim i [ ]
   pairs-right P (z ∷ l) [] a x i = absurd a
   pairs-right P (z ∷ l) (y ∷ m) a x (inl e) = (y, inl refl, subst (λ w. P w y) (sym e) a.0)
   pairs-right P (z ∷ l) (y ∷ m) a x (inr i) = let r = pairs-right P l m a.1 x i in (r.0, inr r.1, r.2)
 
   pub pairs-left : (P : A → A → Type 0) (l m : List A) → AllPairs P l m → (y : A) → In y m → (x : A) × In x l × P x y
+  pairs-left P [] [] a y i = elim i [ ]
+  pairs-left P (x ∷ l) [] a y i = elim a [ ]
   pairs-left P [] (z ∷ m) a y i = absurd a
   pairs-left P (x ∷ l) (z ∷ m) a y (inl e) = (x, inl refl, subst (λ w. P x w) (sym e) a.0)
   pairs-left P (x ∷ l) (z ∷ m) a y (inr i) = let r = pairs-left P l m a.1 y i in (r.0, inr r.1, r.2)

@@ -15,11 +15,13 @@ use Rattle.objects.proofs.ListLaws.{and_l, and_r, either}
 
 module _ {A : Type 0} where
   pub every-In : (p : A → Bool) (l : List A) (x : A) → every p l ≡ true → In x l → p x ≡ true
+  every-In p [] x h x4 = elim x4 [ ]
   every-In p (y ∷ ys) x h (inl e) = rw e (and_l (p y) (every p ys) h)
   every-In p (y ∷ ys) x h (inr i) = every-In p ys x (and_r (p y) (every p ys) h) i
 
   -- one of a list parts it
   pub parted : (l : List A) (x : A) → In x l → (before : List A) × (after : List A) × (l ≡ before ++ (x ∷ after))
+  parted [] x x3 = elim x3 [ ]
   parted (y ∷ ys) x (inl e) = ([], ys, ap (λ z. z ∷ ys) (sym e))
   parted (y ∷ ys) x (inr i) = let r = parted ys x i in (y ∷ r.0, r.1, ap (λ z. y ∷ z) r.2)
 
@@ -66,6 +68,7 @@ module _ {A : Type 0} where
   last_snoc (y ∷ z ∷ l) x = last_snoc (z ∷ l) x
 
   pub all_snoc : (P : A → Type 0) (l : List A) (y : A) → ((x : A) → In x l → P x) → P y → (x : A) → In x (l ++ (y ∷ [])) → P x
+  all_snoc P [] y h k x (inr i) = elim i [ ]
   all_snoc P [] y h k x (inl e) = rw e k
   all_snoc P (z ∷ l) y h k x (inl e) = h x (inl e)
   all_snoc P (z ∷ l) y h k x (inr i) = all_snoc P l y (λ w j. h w (inr j)) k x i
@@ -98,6 +101,8 @@ module _ {A : Type 0} where
 
   -- one of the list with its last changed is one of the list, or that last
   pub on_last-In : (f : A → A) (d : A) (l : List A) (x : A) → In x (on_last f l) → In x l ⊎ (In (last_or d l) l × (x ≡ f (last_or d l)))
+  on_last-In f d [] x x3 = elim x3 [ ]
+  on_last-In f d (y ∷ []) x (inr i) = elim i [ ]
   on_last-In f d (y ∷ []) x (inl e) = inr (inl refl, e)
   on_last-In f d (y ∷ z ∷ l) x (inl e) = inl (inl e)
   on_last-In f d (y ∷ z ∷ l) x (inr i) = either (on_last-In f y (z ∷ l) x i) (λ j. inl (inr j)) (λ r. inr (inr r.0, r.1))

@@ -1,0 +1,137 @@
+#!/usr/bin/env python3
+"""Mends what a check says of the proofs of one crate, where the mending is a matter of form.
+
+usage: tools/mend_proofs.py CRATE_FOLDER LOG     LOG is what `rt check` printed there
+
+- a lemma lacks clauses for cases that can't be: the clauses that the check prints are written before its first clause
+- `.auto.0` where the record's one field has a name now
+- an answer that is a tuple where a record by the names of clauses is asked
+"""
+
+import re
+import sys
+
+NAME = r"[^\s(){}\[\],;.=]+"
+
+
+def lines_of(path):
+    with open(path, encoding="utf-8") as f:
+        return f.read().split("\n")
+
+
+def write(path, lines):
+    with open(path, "w", encoding="utf-8") as f:
+        f.write("\n".join(lines))
+
+
+def split(term):
+    """The parts of a tuple at its top level, or None."""
+    term = term.strip()
+    if not (term.startswith("(") and term.endswith(")")):
+        return None
+    parts, depth, at = [], 0, 1
+    for i, ch in enumerate(term):
+        if ch in "([{":
+            depth += 1
+        elif ch in ")]}":
+            depth -= 1
+            if depth == 0 and i < len(term) - 1:
+                return None
+        elif ch == "," and depth == 1:
+            parts.append(term[at:i].strip())
+            at = i + 1
+    last = term[at:-1].strip()
+    if last:
+        parts.append(last)
+    return parts if len(parts) > 1 else None
+
+
+def record_of(term, fields):
+    """`(a, b)` as `record { x = a; y = b }`, behind its lets."""
+    m = re.match(r"(?s)((?:\s*let .*? in\s)*)(.*)$", term)
+    lets, body = m.groups()
+    # the last `in` at depth 0 ends the lets
+    depth, cut = 0, 0
+    for w in re.finditer(r"[(\[{]|[)\]}]|\bin\b(?=\s)", term):
+        if w.group() in "([{":
+            depth += 1
+        elif w.group() in ")]}":
+            depth -= 1
+        elif depth == 0:
+            cut = w.end()
+    lets, body = term[:cut], term[cut:].strip()
+    parts = split(body)
+    if parts and len(parts) >= len(fields):
+        parts = parts[: len(fields) - 1] + ["(" + ", ".join(parts[len(fields) - 1 :]) + ")" if len(parts) > len(fields) else parts[len(fields) - 1]]
+    elif not parts:
+        parts = [f"({body}).{k}" if re.search(r"\s", body) else f"{body}.{k}" for k in range(len(fields))]
+    else:
+        return None
+    return lets + "\n    record {\n" + "".join(f"      {f} = {p};\n" for f, p in zip(fields, parts)) + "    }"
+
+
+def main():
+    folder, log = sys.argv[1:3]
+    with open(log, encoding="utf-8") as f:
+        text = f.read()
+    text = re.sub(r"(?m)^so far: ", "", text)
+    seen = set()
+    # An error that stands twice is one.
+    text = "\n".join(x for x in text.split("\n") if not (re.match(r"\S+\.antt:\d+:\d+: error", x) and (x in seen or seen.add(x))))
+    edits = {}
+    done = 0
+    # missing clauses
+    for m in re.finditer(r"(?m)^(\S+\.antt):(\d+):\d+: error: `([^`]+)`: write the clauses? ?(?:`([^`\n]+)`)?.*\n((?:  .*\n)*)", text + "\n"):
+        path, line, name, one, more = m.groups()
+        clauses = [one] if one else [x.strip() for x in more.split("\n") if re.match(rf"\s+{re.escape(name)} ", x) and "=" in x]
+        if clauses:
+            edits.setdefault(f"{folder}/{path}", {}).setdefault((int(line), name), clauses)
+    for path, by in edits.items():
+        lines = lines_of(path)
+        for (at, name), clauses in sorted(by.items(), reverse=True):
+            k = at - 1
+            while k < len(lines) and not re.match(rf"\s*{re.escape(name)}(?:\s+\S.*)? =|\s*{re.escape(name)} ", lines[k]) or re.match(rf"\s*(?:pub )?{re.escape(name)} :", lines[k]):
+                k += 1
+            indent = re.match(r"\s*", lines[k]).group()
+            have = {re.sub(r"\s*=.*", "", x.strip()) for x in lines[k : k + 40]}
+            new = [indent + c for c in clauses if re.sub(r"\s*=.*", "", c) not in have]
+            lines[k:k] = new
+            done += len(new)
+        write(path, lines)
+    # .auto.0 and the like
+    for m in re.finditer(r"(?m)^(\S+\.antt):(\d+):(\d+): error: .*has no field `(\d)` — the fields that can be named here are ([^\n]*)", text):
+        path, line, col, field, names = m.groups()
+        fields = re.findall(r"`([^`]+)`", names)
+        if int(field) < len(fields):
+            path = f"{folder}/{path}"
+            lines = lines_of(path)
+            row = lines[int(line) - 1]
+            at = int(col) - 1
+            old = re.search(rf"\.{field}(?![\w])", row[at:])
+            k = row.rfind(f".auto.{field}", 0, at + 60)
+            # the path that begins at the column
+            p = re.compile(rf"[^\s(),]*?\.{field}(?![\w])").match(row, at)
+            if p:
+                lines[int(line) - 1] = row[: p.end() - len(field)] + fields[int(field)] + row[p.end() :]
+                done += 1
+                write(path, lines)
+    # tuples for records
+    for m in re.finditer(r"(?m)^(\S+/Answers\.antt):(\d+):\d+: error: `([^`]+)`: a value of .*\n.*is built with `record \{ ([^`]*) \}`, not as a tuple", text):
+        path, line, name, shown = m.groups()
+        fields = [x.split("=")[0].strip() for x in shown.split(";") if "=" in x]
+        path = f"{folder}/{path}"
+        with open(path, encoding="utf-8") as f:
+            t = f.read()
+        d = re.search(rf"(?ms)^{re.escape(name)}((?: {NAME})*) =\s*(.*?)(?=\n\n|\Z)", t)
+        if d:
+            new = record_of(d.group(2).rstrip("\n"), fields)
+            if new:
+                t = t[: d.start(2)] + new.lstrip("\n") + t[d.end(2) :].rstrip("\n") + "\n" if d.end(2) >= len(t.rstrip("\n")) else t[: d.start(2)] + new + t[d.end(2) :]
+                with open(path, "w", encoding="utf-8") as f:
+                    f.write(t)
+                done += 1
+    print(f"{done} mended")
+
+
+if __name__ == "__main__":
+    main()
