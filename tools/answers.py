@@ -59,6 +59,7 @@ class Function:
                 self.steps[norm(old)].append(new)
             if fn:
                 self.callee[new] = fn
+        self.loops = {norm(names[0]): (names[1], vars, was) for (names, vars), was in zip(entry["loops"], entry["changed"])}
         self.arms = {}
         for arm in entry["arms"]:
             if arm:
@@ -109,7 +110,7 @@ def blocks_of(text):
     """Declarations with what stands above them, in order."""
     out, now = [], []
     for line in text.split("\n"):
-        if line and not line[0].isspace() and not line.startswith("--") and now and not now[-1].startswith("--"):
+        if re.match(rf"(?:pub |abbrev |unfoldable )*{NAME}", line) and not line.startswith("--") and now and not now[-1].startswith("--"):
             head = re.match(rf"(?:pub |abbrev |unfoldable )*({NAME})", line).group(1)
             first = next((x for x in now if x and not x.startswith("--")), "")
             same = re.match(rf"(?:pub |abbrev |unfoldable )*({NAME})", first)
@@ -146,6 +147,11 @@ def turn_term(fn, term, left):
         return fn.turned(p, left)
 
     term = pattern.sub(path, term)
+    # Today a test of `!b` says that b is false.
+    term = re.sub(r"\(not-(?:true|false) _ (c\.[\w.-]+\.(?:true|false))\)", r"\1", term)
+    # What is known of a slice's items.
+    typed = {new: var for at in fn.entry["typed"] for var, old in at for new in fn.steps.get(norm(old), [])}
+    term = re.sub(r"\(c\.([\w-]+)\.given (\w+|\([^()]*\)|c\.[\w.-]+)\)\.fits", lambda m: f"(c.type_inv.{typed[m.group(1)]} {m.group(2)}).fits" if m.group(1) in typed else m.group(), term)
     if re.search(rf"(?<![\w.'·₀-₉-])(?:{names})(?:\.before)+(?![\w.])", term):
         left.append("a bare context")
     return term
@@ -239,13 +245,21 @@ def turn_invariant(fn, block, report):
     term = rest[d.end() :].rstrip()
     word, loop = re.match(r"(invariant|decreases)-(.*)", kind).groups()
     new = fn.steps.get(norm(loop), [loop])[0]
-    bases = {n.rstrip("₀₁₂") for n in names}
-    for n in sorted(names, key=len, reverse=True):
+    if norm(loop) in fn.loops:
+        new, vars, was = fn.loops[norm(loop)]
+        meant = [f"l.initial.{v}" if w else f"l.{v}" for v, w in zip(vars, was)] + [f"l.{v}" for v, w in zip(vars, was) if w]
+    else:
+        meant = []
+    if len(meant) != len(names):
+        if meant:
+            report(f"{word}-{new}: {names} for {meant}")
+        meant = []
+        for n in names:
+            base = n.rstrip("₀₁₂")
+            meant.append(f"l.initial.{base}" if n != base and base in names else f"l.{base}")
+    for n, to in sorted(zip(names, meant), key=lambda x: len(x[0]), reverse=True):
         if n == "_":
             continue
-        base = n.rstrip("₀₁₂")
-        initial = n != base and base in names
-        to = f"l.initial.{base}" if initial else f"l.{base}"
         term = re.sub(rf"(?<![\w.'·₀-₉-]){re.escape(n)}(?![\w'·₀-₉-])", to, term)
     above = above + "\n" if above else ""
     sep = "\n    " if "\n" in term or len(term) > 100 else " "

@@ -1,0 +1,36 @@
+-- `text::scan::until` meets its contract. The invariant: the run from the start ends where the run from `i` ends, and `i` is not past `stop`. The measure is
+-- what is left up to `stop`.
+use mathlib.Core.Path.{◌≡◌, refl, sym, ◌∙◌}
+use Prim.Native.Nat.{◌-◌, ◌≤◌}
+use native.Mathlib.Omega.{arith}
+use Rattle.text.specs.Runs.{other, run_end}
+use Rattle.text.proofs.RunLaws.{run-done, stop-short, met-before, met-past}
+use Rattle.text.proofs.scan.until.Goals as goal
+
+pub returns-then-stop-at : goal.returns-then-stop-at
+returns-then-stop-at c = sym (run-done _ _ _ _ c.stop-stop.ensures c.if-stop-at.true)
+
+pub loop-i-init : goal.loop-i-init
+loop-i-init c = (refl, omega (arith, c.if-stop-at.false))
+
+pub met_in_eight-requires : goal.met_in_eight-requires
+met_in_eight-requires c =
+    omega (arith, stop-short c.args.s.now c.args.end c.stop-stop.ensures, c.loop-i.invariant.1, c.loop-i-test.true)
+
+pub until_met-requires : goal.until_met-requires
+until_met-requires c =
+    (c.args.end, met-before _ _ _ c.met_in_eight.ensures _ c.stop-stop.ensures c.loop-i.invariant.1 c.loop-i-test.true c.if-met_in_eight.true)
+
+pub returns-then-met_in_eight : goal.returns-then-met_in_eight
+returns-then-met_in_eight c =
+    c.until_met.ensures _ (met-before _ _ _ c.met_in_eight.ensures _ c.stop-stop.ensures c.loop-i.invariant.1 c.loop-i-test.true c.if-met_in_eight.true) ∙ sym c.loop-i.invariant.0
+
+pub loop-i-smaller : goal.loop-i-smaller
+loop-i-smaller c = omega (arith, c.loop-i-test.true)
+
+pub loop-i-preserved : goal.loop-i-preserved
+loop-i-preserved c =
+    (c.loop-i.invariant.0 ∙ met-past _ _ _ c.met_in_eight.ensures _ c.stop-stop.ensures c.loop-i.invariant.1 c.loop-i-test.true c.if-met_in_eight.false, omega (arith, c.loop-i.invariant.1, c.loop-i-test.true))
+
+pub returns : goal.returns
+returns c = c.until_each.ensures ∙ sym c.loop-i.invariant.0
