@@ -98,6 +98,24 @@ def main():
             lines[k:k] = new
             done += len(new)
         write(path, lines)
+    # a name that an import lacks
+    for m in re.finditer(r"(?m)^(\S+\.antt):\d+:\d+: error: .*is not in scope: add `use ([^`{]+)\.\{([^`}]+)\}`", text):
+        path, module, name = m.groups()
+        path = f"{folder}/{path}"
+        lines = lines_of(path)
+        for k, line in enumerate(lines):
+            g = re.match(rf"use {re.escape(module)}\.\{{(.*)\}}$", line)
+            if g:
+                have = [x.strip() for x in g.group(1).split(",")]
+                if name not in have:
+                    lines[k] = f"use {module}.{{{', '.join(have + [name])}}}"
+                    done += 1
+                break
+        else:
+            k = next(i for i, line in enumerate(lines) if line.startswith("use "))
+            lines.insert(k, f"use {module}.{{{name}}}")
+            done += 1
+        write(path, lines)
     # .auto.0 and the like
     for m in re.finditer(r"(?m)^(\S+\.antt):(\d+):(\d+): error: .*has no field `(\d)` — the fields that can be named here are ([^\n]*)", text):
         path, line, col, field, names = m.groups()

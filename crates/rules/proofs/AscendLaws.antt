@@ -26,6 +26,7 @@ module _ (T : Table) where
 
   -- one method for an identity
   pub ascend-one : (l : List Member) → Sorted (Lower T) l → (a b : Member) → In a l → In b l → SameIdentity a b → a ≡ b
+  ascend-one [] s a b x4 _ e = elim x4 [ ]
   ascend-one (x ∷ l) s a b (inl i) (inl j) e = i ∙ sym j
   ascend-one (x ∷ l) s a b (inl i) (inr j) e = absurd (lower-apart x b (ap (identity_of T) (sym i) ∙ e) (s.0 b j))
   ascend-one (x ∷ l) s a b (inr i) (inl j) e = absurd (lower-apart x a (ap (identity_of T) (sym j) ∙ sym e) (s.0 a i))

@@ -67,6 +67,7 @@ module _ {N : ℕ} {A : Type 0} {same : A → A → Bool} {next : A → List A} 
 
   -- what is not among the others is kept
   in_without : (others : List A) (y : A) (l : List A) → In y l → In y others ⊎ In y (without same others l)
+  in_without others y [] i = elim i [ ]
   in_without others y (x ∷ l) i =
       cases (any (same x) others)
       (λ e. either i

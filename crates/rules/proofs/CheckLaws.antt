@@ -1,5 +1,5 @@
 -- What the checks of a whole table say of each of its lines (14, 7 to 10), and the refusals that loading gives.
-use mathlib.Core.Path.{◌≡◌, refl, ap}
+use mathlib.Core.Path.{◌≡◌, refl, ap, subst}
 use mathlib.Core.Bool.{Bool, true, false}
 use mathlib.Core.List.{List, [], ◌∷◌, ◌++◌, append_assoc, append-nil}
 use mathlib.Core.Logic.{◌⊎◌, inl, inr}
@@ -41,7 +41,8 @@ members-items t k above before m after ms e = rw e (go above before)
   where
     go : (a b : List Member) → In (member_item t k (a ++ b) m) (member_items t k a (b ++ (m ∷ after)))
     go a [] = inl (rw (append-nil a))
-    go a (x ∷ b) = inr (rw (← append_assoc a (x ∷ []) b) (go (a ++ (x ∷ [])) b))
+    go a (x ∷ b) =
+        inr (subst (λ l. In (member_item t k l m) (member_items t k (a ++ (x ∷ [])) (b ++ (m ∷ after)))) (append_assoc a (x ∷ []) b) (go (a ++ (x ∷ [])) b))
 
 members-from : (n i : ℕ) (ks : List Kind) (before : List Member) (m : Member) (after : List Member) → i < length ks → members_of (get_or ks i (Basic 0)) ≡ before ++ (m ∷ after)
     → In (member_item (type_key (n + i)) (get_or ks i (Basic 0)) before m) (items_from n ks)

@@ -60,6 +60,7 @@ module _ (T : Table) where
   insert-has q (p ∷ ps) = cases-insert (In q) q p ps (λ e. inl refl) (λ e. inl e) (λ e s. inr (insert-has q ps))
 
   insert-keeps : (q : Identity) (ps : List Identity) (x : Identity) → In x ps → In x (insert T q ps)
+  insert-keeps q [] x i = elim i [ ]
   insert-keeps q (p ∷ ps) x i = cases-insert (In x) q p ps (λ e. inr i) (λ e. i) (λ e s. past i (insert-keeps q ps x))
     where
       past : (x ≡ p) ⊎ In x ps → (In x ps → In x (insert T q ps)) → (x ≡ p) ⊎ In x (insert T q ps)
@@ -93,6 +94,7 @@ module _ (T : Table) where
 -- ---- the table's methods
 
 In-get_or : {A : Type 0} (l : List A) (x d : A) → In x l → (n : ℕ) × (n < length l) × (get_or l n d ≡ x)
+In-get_or {A = A} [] x d x3 = elim x3 [ ]
 In-get_or (y ∷ l) x d (inl e) = (zero, omega arith, sym e)
 In-get_or (y ∷ l) x d (inr i) = let r = In-get_or l x d i in let h = r.1 in (suc r.0, omega arith, r.2)
 

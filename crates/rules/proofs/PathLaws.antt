@@ -48,11 +48,13 @@ found-ordered paths e = ordered_of paths (none-fails (λ (i : PathItem). i.line)
 
 -- each P line is on one of the lines from the second on, as many as there are paths
 behind-lines : (line : ℕ) (path : Bytes) (rest : List Bytes) (i : PathItem) → In i (paths_behind line path rest) → i.line < line + suc (length rest)
+behind-lines line path [] i x' = elim x' [ ]
 behind-lines line path (next ∷ rest) i (inl e) = rw e (omega arith)
 behind-lines line path (next ∷ rest) i (inr j) = let h = behind-lines (suc line) next rest i j in omega arith
 
 pub item-lines : (paths : List Bytes) (i : PathItem) → In i (path_items paths) → i.line < 2 + length paths
 unfolding path_items
+item-lines [] i j = elim j [ ]
 item-lines (path ∷ rest) i j = behind-lines 2 path rest i j
 
 -- ---- one after the other

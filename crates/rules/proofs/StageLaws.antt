@@ -28,6 +28,7 @@ module _ {A : Type 0} (line : A → ℕ) (bad : A → Bool) where
   -- nothing is found where nothing fails
   pub none-fails : (is : List A) → first_line line bad is ≡ none → (i : A) → In i is → bad i ≡ false
   unfolding first_line
+  none-fails [] h i k = elim k [ ]
   none-fails (j ∷ is) h i k =
       cases (bad j)
       (λ e. absurd (some-ne-none (line j) (rw (e, first_line) at h)))

@@ -143,10 +143,14 @@ module _ (T : Table) where
 -- ---- corresponding parts
 
 pub corr-from : (xs ys : List TypeKey) (p : Pair) → In p (corresponding xs ys) → In p.left xs × In p.right ys
+corr-from [] ys p x' = elim x' [ ]
+corr-from (x ∷ xs) [] p x4 = elim x4 [ ]
 corr-from (x ∷ xs) (y ∷ ys) p (inl e) = (inl (ap (λ (q : Pair). q.left) e), inl (ap (λ (q : Pair). q.right) e))
 corr-from (x ∷ xs) (y ∷ ys) p (inr i) = let r = corr-from xs ys p i in (inr r.0, inr r.1)
 
 corr-holds : (P : TypeKey → TypeKey → Type 0) (xs ys : List TypeKey) (p : Pair) → AllPairs P xs ys → In p (corresponding xs ys) → P p.left p.right
+corr-holds P [] ys p a x'' = elim x'' [ ]
+corr-holds P (x ∷ xs) [] p a _ = elim a [ ]
 corr-holds P (x ∷ xs) (y ∷ ys) p a (inl e) = rw e a.0
 corr-holds P (x ∷ xs) (y ∷ ys) p a (inr i) = corr-holds P xs ys p a.1 i
 
