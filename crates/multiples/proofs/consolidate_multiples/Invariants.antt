@@ -1,0 +1,15 @@
+-- `consolidate_multiples`: the records passed are of other types.
+use mathlib.Core.Path.{◌≡◌, refl, ap, ◌∙◌}
+use mathlib.Core.List.{[]}
+use mathlib.Core.Logic.{◌≢◌}
+use Prim.Native.Nat.{◌-◌, ◌≤◌}
+use native.Mathlib.Omega.{arith}
+use lib.ListN.{length, get_or, length-set}
+use Rattle.multiples.proofs.MarkLaws.{Absent, marked-first, marked-none, type-read, absent_more, absent-all}
+use Rattle.multiples.proofs.consolidate_multiples.Given as goal
+
+abbrev pub invariant-loop-i : goal.invariant-loop-i
+invariant-loop-i l = (l.i ≤ length l.level) × (l.level ≡ l.initial.level) × Absent l.initial.level l.i l.t
+
+abbrev pub decreases-loop-i : goal.decreases-loop-i
+decreases-loop-i l = length l.level - l.i
