@@ -30,16 +30,20 @@ module _ {A : Type 0} where
   -- ---- the first
 
   pub first-In : (l : List A) (x : A) → In x (first_of l) → In x l
+  first-In [] x x3 = elim x3 [ ]
   first-In (y ∷ l) x (inl e) = inl e
   first-In (y ∷ l) x (inr i) = absurd i
 
   pub first_one : (l : List A) (x : A) → In x l → (y : A) × (first_of l ≡ y ∷ [])
+  first_one [] x i = elim i [ ]
   first_one (y ∷ l) x i = (y, refl)
 
   pub first_some : (l : List A) (x : A) → In x l → (y : A) × In y (first_of l)
+  first_some [] x i = elim i [ ]
   first_some (y ∷ l) x i = (y, inl refl)
 
   pub first-least : (R : A → A → Type 0) (l : List A) (x : A) → Sorted R l → In x (first_of l) → (y : A) → In y l → (y ≡ x) ⊎ R x y
+  first-least R [] x s x5 y j = elim x5 [ ]
   first-least R (z ∷ l) x s (inl e) y (inl f) = inl (f ∙ sym e)
   first-least R (z ∷ l) x s (inl e) y (inr j) = inr (subst (λ w. R w y) (sym e) (s.0 y j))
   first-least R (z ∷ l) x s (inr i) y j = absurd i
@@ -49,6 +53,7 @@ module _ {A : Type 0} where
   first-append (y ∷ l) m x i = inl i
 
   pub first-left : (l m : List A) (x : A) → In x (first_of l) → In x (first_of (l ++ m))
+  first-left [] m x i = elim i [ ]
   first-left (y ∷ l) m x i = i
 
   pub first-right : (l m : List A) (x : A) → l ≡ [] → In x (first_of m) → In x (first_of (l ++ m))
@@ -75,6 +80,7 @@ module _ {A : Type 0} (before : List A) (x : A) (after : List A) where
 module _ {A : Type 0} (R : A → A → Type 0) where
   -- two of them are the same, or one comes before the other
   pub sorted-two : (l : List A) (x y : A) → Sorted R l → In x l → In y l → (x ≡ y) ⊎ (R x y ⊎ R y x)
+  sorted-two [] x y s x5 _ = elim x5 [ ]
   sorted-two (z ∷ l) x y s (inl e) (inl f) = inl (e ∙ sym f)
   sorted-two (z ∷ l) x y s (inl e) (inr j) = inr (inl (subst (λ w. R w y) (sym e) (s.0 y j)))
   sorted-two (z ∷ l) x y s (inr i) (inl f) = inr (inr (subst (λ w. R w x) (sym f) (s.0 x i)))
@@ -146,6 +152,7 @@ module _ {A : Type 0} (p q : A → Bool) (more : (x : A) → p x ≡ true → q 
       cases (p x) (λ e. rw (e, more x e) (omega (arith, h))) (λ e. cases (q x) (λ f. rw (e, f) (omega (arith, h))) (λ f. rw (e, f) h))
 
   pub keep-less : (l : List A) (z : A) → In z l → p z ≡ false → q z ≡ true → length (keep p l) < length (keep q l)
+  keep-less [] z x3 f g = elim x3 [ ]
   keep-less (x ∷ l) z (inl e) f g = let h = keep-fewer l in rw (subst (λ y. p y ≡ false) e f, subst (λ y. q y ≡ true) e g) (omega (arith, h))
   keep-less (x ∷ l) z (inr i) f g =
       let h = keep-less l z i f g in

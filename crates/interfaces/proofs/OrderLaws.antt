@@ -105,6 +105,7 @@ module _ (I : Interfaces) where
   -- ONE PASS ALONG AN ORDER MAKES THEM
   pub sets-reach : (l : List TypeKey) → Ordered I l → (i : TypeKey) → In i l → (j : TypeKey) → (reach_sets I l i j ≡ true) ↔ Reaches I i j
   unfolding reach_sets
+  sets-reach [] o i h j = elim h [ ]
   sets-reach (k ∷ done) o i h j =
       let made : (united I (reach_sets I done) k j ≡ true) ↔ Reaches I k j = united-is (reach_sets I done) k j (λ e m. sets-reach done o.1 (I.under e) (o.0 e m) j) in
       cases (same_type k i)

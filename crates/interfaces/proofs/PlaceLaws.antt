@@ -96,6 +96,7 @@ module _ (I : Interfaces) (i : TypeKey) (reached : TypeKey → Bool) (self : rea
       (λ e. rw (not_there r x below, e, choice-none i reached self r e) h)
 
   placed : (rs : List (List Entry)) → Sorted (RunLower I) rs → (x : Entry) (d : Member) → In x (flat chosen rs) → At d x.method rs
+  placed [] s x d h = elim h [ ]
   placed (r ∷ rs) s x d h =
       either (In-append (chosen r) (flat chosen rs) x h)
       (λ c. place_here r rs x d c)

@@ -68,6 +68,7 @@ module _ (text : Bytes) (rows : Words) (i : TypeKey) where
 
   keys-known : (at n : ℕ) (m : ObjKey) → In m (keys_from at n) → m.0 < first_read rows i + at + n
   unfolding keys_from next_position method_at
+  keys-known at zero m x' = elim x' [ ]
   keys-known at (suc n) m (inl e) = rw e (omega arith)
   keys-known at (suc n) m (inr j) = let h = keys-known (at + 1) n m j in omega arith
 

@@ -34,6 +34,7 @@ module _ (T : Table) (t : TypeKey) where
 
   listed-walk : (d : ℕ) (w : Walk) → In w (walks T t d) → IsWalk T t d w
   unfolding walks onward
+  listed-walk zero w (mathlib.Core.Logic.inr x'') = elim x'' [ ]
   listed-walk zero w (inl e) = subst (IsWalk T t zero) (sym e) starts
   listed-walk (suc d) w i =
       let v = In-flat (onward T) (walks T t d) w i in

@@ -27,6 +27,7 @@ Closed G = (t : TypeKey) (s : Step) → t.0 < G.size → In s (G.steps t) → s.
 
 module _ (G : Graph) (cl : Closed G) (r0 : Walk) (in0 : r0.at.0 < G.size) where
   pub in_size : (d : ℕ) (w : Walk) → In w (walks G r0 d) → w.at.0 < G.size
+  in_size zero w (mathlib.Core.Logic.inr x'') = elim x'' [ ]
   in_size zero w (inl e) = rw e in0
   in_size (suc d) w i =
       let u = In-flat (onward G) (walks G r0 d) w i in

@@ -21,6 +21,7 @@ listed G r0 here = inl refl
 listed G r0 (further {d = e} {w = v} s p i) = flat-In-to (onward G) (walks G r0 e) v (along G v s) (listed G r0 p) (map-In-to (along G v) (G.steps v.at) s i)
 
 pub only : (G : Graph) (r0 : Walk) (d : ℕ) (w : Walk) → In w (walks G r0 d) → IsWalk G r0 d w
+only G r0 zero w (inr x'') = elim x'' [ ]
 only G r0 zero w (inl e) = subst (IsWalk G r0 zero) (sym e) here
 only G r0 (suc d) w i =
     let v = In-flat (onward G) (walks G r0 d) w i in
@@ -75,6 +76,7 @@ Placed G = (t : TypeKey) → Sorted (λ (a b : Step). a.place < b.place) (G.step
 
 module _ (G : Graph) where
   pub long : (r0 : Walk) (d : ℕ) (w : Walk) → In w (walks G r0 d) → length w.places ≡ length r0.places + d
+  long r0 zero w (inr x'') = elim x'' [ ]
   long r0 zero w (inl e) = rw e (omega arith)
   long r0 (suc d) w i =
       let v = In-flat (onward G) (walks G r0 d) w i in

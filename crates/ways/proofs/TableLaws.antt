@@ -39,6 +39,7 @@ use Rattle.ways.proofs.Bridge.{ways-are}
 -- ---- places
 
 pub places-from : (n : ℕ) (ms : List Member) (p : Place) → In p (places_from n ms) → (n ≤ p.place) × In p.member ms
+places-from n [] p x' = elim x' [ ]
 places-from n (m ∷ ms) p (inl e) = rw e (omega arith, inl refl)
 places-from n (m ∷ ms) p (inr i) = let r = places-from (suc n) ms p i in let h = r.0 in (omega arith, inr r.1)
 

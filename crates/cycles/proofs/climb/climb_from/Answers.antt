@@ -1,0 +1,30 @@
+-- `cycles::climb::climb_from` meets its contract.
+use Rattle.std.proofs.Common.{rules}
+use mathlib.Core.Path.{◌≡◌}
+use Prim.Native.Nat.{◌≤◌}
+use native.Mathlib.Omega.{arith}
+use lib.ListN.{length}
+use Rattle.objects.specs.Bounds.{max_types}
+use Rattle.cycles.specs.Ranking.{Advanced}
+use Rattle.cycles.proofs.RankLaws.{advanced-self, advanced-on}
+use Rattle.cycles.proofs.climb.climb_from.Goals as goal
+
+pub push-top-requires : goal.push-top-requires
+push-top-requires c = (c.requires.1, omega arith)
+
+pub loop-left-init : goal.loop-left-init
+loop-left-init c = (search rules, search rules, advanced-self _ _ c.requires.0, c.push-top.ensures)
+
+pub returns-then-top-eq0 : goal.returns-then-top-eq0
+returns-then-top-eq0 c = c.loop-left.invariant.2
+
+pub step-c-requires : goal.step-c-requires
+step-c-requires c =
+    (c.loop-left.invariant.2.ranking, search rules, omega (arith, c.if-top-eq0.false), c.loop-left.invariant.3)
+
+pub loop-left-preserved : goal.loop-left-preserved
+loop-left-preserved c =
+    (search rules, search rules, advanced-on _ _ _ _ _ c.loop-left.invariant.2 c.step-c.ensures.advanced, c.step-c.ensures.top_le_max_types)
+
+pub returns : goal.returns
+returns c = c.loop-left.invariant.2

@@ -1,0 +1,21 @@
+use Rattle.std.proofs.Common.{rules}
+use mathlib.Core.Path.{◌≡◌}
+use Prim.Native.Nat.{◌-◌, ◌≤◌}
+use native.Mathlib.Omega.{arith}
+use lib.ListN.{length}
+use Rattle.cycles.specs.Ranking.{Passing}
+use Rattle.cycles.proofs.RankLaws.{pass-start, pass-in, pass-more, pass-end}
+use Rattle.cycles.proofs.ranks.pass.Goals as goal
+
+pub loop-t-init : goal.loop-t-init
+loop-t-init c = (search rules, omega arith, pass-start _ _ c.requires)
+
+pub give-after-requires : goal.give-after-requires
+give-after-requires c =
+    (c.loop-t.invariant.2.ranking, pass-in _ _ _ _ _ c.loop-t.invariant.2 c.type_count-n.ensures c.loop-t-test.true)
+
+pub loop-t-preserved : goal.loop-t-preserved
+loop-t-preserved c = (search rules, omega arith, pass-more _ _ _ _ _ _ _ c.loop-t.invariant.2 c.give-after.ensures)
+
+pub returns : goal.returns
+returns c = pass-end _ _ _ _ _ c.loop-t.invariant.2 c.type_count-n.ensures (omega arith)

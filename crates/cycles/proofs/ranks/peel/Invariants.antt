@@ -1,0 +1,14 @@
+use mathlib.Core.Path.{◌≡◌}
+use Prim.Native.Nat.{suc, ◌-◌}
+use native.Mathlib.Omega.{arith}
+use lib.ListN.{length}
+use Rattle.objects.specs.Rows.{type_count}
+use Rattle.cycles.proofs.LineLaws.{refers-within}
+use Rattle.cycles.proofs.RankLaws.{advanced-passed, Peeling, peel-start, peel-given, peel-less, peel-more, peel-end}
+use Rattle.cycles.proofs.ranks.peel.Given as goal
+
+abbrev pub invariant-loop-last : goal.invariant-loop-last
+invariant-loop-last l = (length l.rows ≡ length l.initial.rows) × Peeling l.initial.rows l.last l.next l.rows
+
+abbrev pub decreases-loop-last : goal.decreases-loop-last
+decreases-loop-last l = suc (suc (type_count l.initial.rows)) - l.last

@@ -1,0 +1,12 @@
+use Prim.Native.Nat.{◌-◌, ◌<◌, ◌≤◌}
+use native.Mathlib.Omega.{arith}
+use Rattle.objects.specs.declared.TypeKey.{TypeKey}
+use Rattle.cycles.specs.Contents.{Back}
+use Rattle.cycles.proofs.LineLaws.{clear-more, finds-none, finds-some}
+use Rattle.cycles.proofs.search.first_back.Given as goal
+
+abbrev pub invariant-loop-t : goal.invariant-loop-t
+invariant-loop-t l = (l.t ≤ l.n) × ((u : TypeKey) → u.0 < l.t → Back l.rows u → ⊥)
+
+abbrev pub decreases-loop-t : goal.decreases-loop-t
+decreases-loop-t l = l.n - l.t

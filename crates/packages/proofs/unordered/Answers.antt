@@ -1,0 +1,28 @@
+-- `packages::unordered` meets its contract: up to package p the paths ascend, and what 14 finds is what it finds from p on.
+use mathlib.Core.Path.{◌≡◌, sym, ◌∙◌}
+use Prim.Native.Nat.{◌-◌, ◌<◌}
+use native.Mathlib.Omega.{arith}
+use Rattle.objects.specs.Rows.{table_of}
+use Rattle.rules.specs.Stages.{first_unordered}
+use Rattle.rules.proofs.PathLaws.{found_from, paths-start}
+use Rattle.packages.proofs.PathRows.{from_on, from-stop, from_end}
+use borrow.Author.Tests.{not-true, not-false}
+use Rattle.packages.proofs.unordered.Goals as goal
+
+pub loop-p-init : goal.loop-p-init
+loop-p-init c = (omega arith, paths-start _)
+
+pub ascends-requires : goal.ascends-requires
+ascends-requires c = c.loop-p.invariant.0
+
+pub returns-then-not-ascends : goal.returns-then-not-ascends
+returns-then-not-ascends c =
+    sym (c.loop-p.invariant.1 ∙ from-stop _ _ c.package_count-n.ensures _ c.loop-p.invariant.0 c.loop-p-test.true c.ascends.ensures c.if-not-ascends.true)
+
+pub loop-p-preserved : goal.loop-p-preserved
+loop-p-preserved c =
+    (omega arith, c.loop-p.invariant.1 ∙ from_on _ _ c.package_count-n.ensures _ c.loop-p.invariant.0 c.loop-p-test.true c.ascends.ensures c.if-not-ascends.false)
+
+pub returns : goal.returns
+returns c =
+    sym (c.loop-p.invariant.1 ∙ from_end _ _ c.package_count-n.ensures _ c.loop-p-test.false)

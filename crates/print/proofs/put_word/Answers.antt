@@ -1,0 +1,15 @@
+use native.Mathlib.Omega.{arith}
+use Prim.Native.Nat.{◌+◌, ◌-◌, ◌≤◌}
+use mathlib.Core.Path.{◌≡◌, refl, sym, ◌∙◌}
+use lib.ListN.{length, drop, length-set}
+use Rattle.print.specs.Written.{written}
+use Rattle.print.proofs.WrittenLaws.{written_next, written-end}
+use Rattle.print.proofs.put_word.Goals as goal
+
+pub loop-j-preserved : goal.loop-j-preserved
+loop-j-preserved c =
+    (c.loop-j.invariant.0 ∙ written_next _ _ c.args.w.now _ c.loop-j-test.true, omega arith, omega arith, simp length-set c.loop-j.invariant.3)
+
+pub returns : goal.returns
+returns c =
+    record { past = omega arith; text = sym (c.loop-j.invariant.0 ∙ written-end _ _ c.args.w.now _ c.loop-j-test.false) }

@@ -1,0 +1,26 @@
+use mathlib.Core.Path.{◌≡◌, sym, ◌∙◌}
+use Prim.Native.Nat.{◌-◌}
+use native.Mathlib.Omega.{arith}
+use Rattle.objects.specs.Lists.{Bytes}
+use Rattle.objects.specs.Rows.{table_of}
+use Rattle.rules.specs.Checks.{items}
+use Rattle.rules.specs.Stages.{first_item}
+use Rattle.rules.proofs.ItemLaws.{types_left, types-start}
+use Rattle.references.specs.Tests.{fails}
+use Rattle.references.proofs.Walking.{table_on, table-stop, table-end}
+use Rattle.references.proofs.first_line.Goals as goal
+
+pub loop-t-init : goal.loop-t-init
+loop-t-init c = types-start (table_of text c.args.rows.now) (fails (table_of text c.args.rows.now) c.args.test)
+
+pub loop-t-preserved : goal.loop-t-preserved
+loop-t-preserved c =
+    c.loop-t.invariant text ∙ table_on text c.args.rows.now (fails (table_of text c.args.rows.now) c.args.test) c.type_count-n.ensures _ c.loop-t-test.true (c.first_line_of.ensures text) c.in-Passed.is
+
+pub returns-in-Bad : goal.returns-in-Bad
+returns-in-Bad c =
+    sym (c.loop-t.invariant text ∙ table-stop text c.args.rows.now (fails (table_of text c.args.rows.now) c.args.test) c.type_count-n.ensures _ c.loop-t-test.true (c.first_line_of.ensures text) _ c.in-Bad.is)
+
+pub returns : goal.returns
+returns c =
+    sym (c.loop-t.invariant text ∙ table-end text c.args.rows.now (fails (table_of text c.args.rows.now) c.args.test) c.type_count-n.ensures _ c.loop-t-test.false)

@@ -1,0 +1,28 @@
+-- `signs::put_signs` meets its contract. The invariant: the members before m are signed.
+use Rattle.std.proofs.Common.{rules}
+use mathlib.Core.Path.{◌≡◌}
+use Prim.Native.Nat.{◌-◌, ◌≤◌}
+use native.Mathlib.Omega.{arith}
+use lib.ListN.{length}
+use Rattle.signs.specs.Signing.{Signing}
+use Rattle.signs.proofs.SignLaws.{signing-none, signing-here, signing-room, signing-on, signing_end}
+use Rattle.signs.proofs.put_signs.Goals as goal
+
+pub loop-m-init : goal.loop-m-init
+loop-m-init c = (search rules, omega arith, signing-none _ _ c.requires.0)
+
+pub overflow_cast-sign : goal.overflow_cast-sign
+overflow_cast-sign c = omega (arith, c.name_hash-sign.ensures.upper_bound)
+
+pub put_sign-requires : goal.put_sign-requires
+put_sign-requires c =
+    let s = c.loop-m.invariant.2 in
+    (s.beside.holds.laid, signing-here _ _ _ _ s (omega (arith, c.loop-m-test.true, c.member_count-n.ensures)), signing-room _ _ _ _ s c.requires.1)
+
+pub loop-m-preserved : goal.loop-m-preserved
+loop-m-preserved c =
+    (search rules, omega arith, signing-on _ _ _ _ c.loop-m.invariant.2 (omega (arith, c.loop-m-test.true, c.member_count-n.ensures)) c.name_hash-sign.ensures.value c.put_sign.ensures)
+
+pub returns : goal.returns
+returns c =
+    signing_end _ _ _ c.member_count-n.ensures c.loop-m.invariant.1 c.loop-m-test.false c.loop-m.invariant.2

@@ -1,0 +1,10 @@
+-- `signs::sign_members` meets its contract.
+use native.Mathlib.Omega.{arith}
+use Rattle.signs.proofs.SignLaws.{signed-members}
+use Rattle.signs.proofs.sign_members.Goals as goal
+
+pub returns-then-end-rows : goal.returns-then-end-rows
+returns-then-end-rows c =
+    let lib = c.requires in
+    signed-members _ _ _ _ lib (omega (arith, c.if-end-rows.true, c.element_count.ensures, c.member_count.ensures, c.signs_at.ensures))
+    c.put_signs.ensures c.put_signed.ensures
