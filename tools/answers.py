@@ -17,7 +17,7 @@ NAME = r"[^\s(){}\[\],;.=]+"
 
 
 def norm(name):
-    return name.replace("_", "-").replace("·", "-")
+    return re.sub(r"[«»]", "", name).replace("_", "-").replace("·", "-").lower()
 
 
 def read(path):
@@ -25,23 +25,89 @@ def read(path):
         return f.read()
 
 
-def clauses_of(function, kinds, cache={}):
-    """The names of a function's clauses of a kind, by its path crate::module::name."""
+def sources(crate, cache={}):
+    """The text of each file of a crate, by its module path."""
+    if crate not in cache:
+        found = {}
+        top = f"crates/{crate}/src"
+        for folder, _, files in os.walk(top):
+            for f in sorted(files):
+                path = os.path.relpath(os.path.join(folder, f), top)[: -len(".rt")]
+                mods = tuple(x for x in path.split(os.sep) if x not in ("lib", "main", "mod"))
+                found[mods] = read(os.path.join(folder, f))
+        cache[crate] = found
+    return cache[crate]
+
+
+def clauses_of(function, kind, cache={}):
+    """The names of a function's clauses of a kind, by its path crate::module::name or crate::Type::name."""
     if function not in cache:
         parts = function.split("::")
-        crate, mods, name = parts[0], parts[1:-1], parts[-1]
-        tries = [f"crates/{crate}/src/{'/'.join(mods)}.rt"] if mods else [f"crates/{crate}/src/lib.rt", f"crates/{crate}/src/main.rt"]
-        text = "".join(read(p) for p in tries if os.path.exists(p))
-        m = re.search(rf"\bfn {re.escape(name)}\b.*?\n(?:\{{|    \{{)?\n?", text, re.S)
+        crate, mods, name = parts[0], tuple(parts[1:-1]), parts[-1]
+        texts = sources(crate)
+        text = texts.get(mods)
+        if text is None:
+            # a method: of the type that the last part names
+            home = texts.get(mods[:-1], "")
+            all_texts = [home] + list(texts.values())
+            text = next((x[x.index(f"impl {mods[-1]}") :] for x in all_texts if mods and f"impl {mods[-1]}" in x), home)
+        m = re.search(rf"\bfn {re.escape(name)}\b", text)
         found = {"requires": [], "ensures": []}
         if m:
             rest = text[m.start() :]
-            end = re.search(r"\n\{\n|\n\{\}|\n[ ]*\{\n", rest)
+            end = re.search(r"\n[ ]*\{(?:\n|\})", rest)
             head = rest[: end.start()] if end else rest[:4000]
             for k, n in re.findall(r"\b(requires|ensures)\s*(\w*)\s*\{", head):
                 found[k].append(n)
         cache[function] = found
-    return cache[function][kinds]
+    return cache[function][kind]
+
+
+def split(term):
+    """The parts of a tuple at its top level, or None."""
+    term = term.strip()
+    if not (term.startswith("(") and term.endswith(")")):
+        return None
+    parts, depth, at = [], 0, 1
+    for i, ch in enumerate(term):
+        if ch in "([{":
+            depth += 1
+        elif ch in ")]}":
+            depth -= 1
+            if depth == 0 and i < len(term) - 1:
+                return None
+        elif ch == "," and depth == 1:
+            parts.append(term[at:i].strip())
+            at = i + 1
+    last = term[at:-1].strip()
+    if last:
+        parts.append(last)
+    return parts if len(parts) > 1 else None
+
+
+def as_record(term, fields):
+    """A tuple of what several clauses ask, as a record by their names; another term by its parts."""
+    depth, cut = 0, 0
+    for w in re.finditer(r"[(\[{]|[)\]}]|\bin\b(?=\s)", term):
+        if w.group() in "([{":
+            depth += 1
+        elif w.group() in ")]}":
+            depth -= 1
+        elif depth == 0:
+            cut = w.end()
+    lets, body = term[:cut], term[cut:].strip()
+    if re.match(r"(record|search|grind|omega|absurd|elim|⊎_elim|rw|simp|λ)\b", body) or "?" in body:
+        return term
+    parts = split(body)
+    if parts and len(parts) >= len(fields):
+        last = parts[len(fields) - 1 :]
+        parts = parts[: len(fields) - 1] + [last[0] if len(last) == 1 else "(" + ", ".join(last) + ")"]
+    elif not parts:
+        one = f"({body})" if re.search(r"\s", body) else body
+        parts = [f"{one}.{k}" for k in range(len(fields))]
+    else:
+        return term
+    return lets + ("\n    " if lets else "") + "record { " + "; ".join(f"{f} = {p}" for f, p in zip(fields, parts)) + " }"
 
 
 class Function:
@@ -67,6 +133,14 @@ class Function:
                 for field, step, path in fields:
                     if path:
                         self.arms.setdefault((norm(step), tuple(path)), f"{name}.{field}")
+
+    def callee_of(self, goal):
+        """What the call is of whose `requires` a goal asks."""
+        base = goal.split("-requires")[0]
+        for new, fn in self.callee.items():
+            if new == base or new.startswith(base):
+                return fn
+        return None
 
     def index(self, kind, function, rest):
         """`.0.x` of several clauses by name."""
@@ -97,6 +171,9 @@ class Function:
         if head.startswith("match") and parts[1:2] == ["rest"]:
             return "(search rules)"
         new = self.steps.get(norm(head))
+        if not new and head == "type-inv":
+            # port.py took a call of a function `typed` for a field of that name
+            new = self.steps.get("typed")
         if not new:
             left.append(path)
             return f"c.{path}"
@@ -139,6 +216,17 @@ def turn_term(fn, term, left):
                 term = term[: m.start()] + term[m.end() :]
                 changed = True
                 break
+    # a name for a path is that path
+    again = True
+    while again:
+        again = False
+        for m in re.finditer(rf"let ({NAME}) = ({NAME}(?:\.{NAME})+) in\s*", term):
+            name, to = m.groups()
+            if to.split(".")[0] in aliases:
+                rest = re.sub(rf"(?<![\w.'·₀-₉-]){re.escape(name)}(?![\w'·₀-₉-])", to, term[m.end() :])
+                term = term[: m.start()] + rest
+                again = True
+                break
     names = "|".join(sorted((re.escape(a) for a in aliases), key=len, reverse=True))
     pattern = re.compile(rf"(?<![\w.'·₀-₉-])(?:{names})((?:\.before)*)((?:\.{NAME})+)")
 
@@ -148,7 +236,7 @@ def turn_term(fn, term, left):
 
     term = pattern.sub(path, term)
     # Today a test of `!b` says that b is false.
-    term = re.sub(r"\(not-(?:true|false) _ (c\.[\w.-]+\.(?:true|false))\)", r"\1", term)
+    term = re.sub(r"\((?:not-true|not-false|not_yes|not-yes|un_not|un-not) _ (c\.[\w.-]+\.(?:true|false))\)", r"\1", term)
     # What is known of a slice's items.
     typed = {new: var for at in fn.entry["typed"] for var, old in at for new in fn.steps.get(norm(old), [])}
     term = re.sub(r"\(c\.([\w-]+)\.given (\w+|\([^()]*\)|c\.[\w.-]+)\)\.fits", lambda m: f"(c.type_inv.{typed[m.group(1)]} {m.group(2)}).fits" if m.group(1) in typed else m.group(), term)
@@ -195,9 +283,15 @@ def turn(proof, fn, module, report):
             continue
         term = rest[d.end() :].rstrip()
         short = re.sub(r"^overflow-", "", need)
-        goal = fn.needs.get(norm(need)) or fn.needs.get(norm(short))
+        goal = fn.needs.get(norm(need)) or fn.needs.get(norm(short)) or next((x for x in fn.settled if norm(x) in (norm(need), norm(short))), None)
         if TRIVIAL.match(term) and not unfolding:
             continue
+        if not goal and need.startswith("slice-bounds-"):
+            # such a goal is not among the names: its words are those of the source
+            ids = {x for text in sources(fn.path.split("::")[0]).values() for x in re.findall(r"\b\w*_\w*\b", text)}
+            goal = "slice_bounds-" + need[len("slice-bounds-") :]
+            for x in sorted(ids, key=len, reverse=True):
+                goal = re.sub(rf"(?<=-){re.escape(x.replace('_', '-'))}(?=-|$)", x, goal)
         left = []
         turned = turn_term(fn, term, left)
         if not goal:
@@ -208,9 +302,19 @@ def turn(proof, fn, module, report):
             continue
         for x in left:
             report(f"{goal}: {x}")
+        fields = []
+        if goal.startswith("returns"):
+            fields = clauses_of(fn.path, "ensures")
+        elif "-requires" in goal:
+            step = next((new for new in fn.callee if re.sub(r"-\d+$", "", goal.replace("-requires", "")) == new or goal == f"{new}-requires"), None)
+            callee = fn.callee.get(step) or fn.callee_of(goal)
+            fields = clauses_of(callee, "requires") if callee else []
+        if len(fields) > 1 and len(d.group(1).split()) <= 1 + ("κs" in d.group(1).split()):
+            turned = as_record(turned, fields)
         sep = "\n    " if turned.lstrip().startswith("let ") or "\n" in term or len(turned) > 100 else " "
         above = above + "\n" if above else ""
-        answers.append(f"{above}pub {goal} : goal.{goal}\n{unfolding}{goal} c ={sep}{turned}")
+        binders = "".join(" " + x for x in d.group(1).split()[1:] if x != "κs")
+        answers.append(f"{above}pub {goal} : goal.{goal}\n{unfolding}{goal} c{binders} ={sep}{turned}")
     folder = os.path.dirname(proof)
     own = "\n".join(head)
     own = own + "\n" if own else ""

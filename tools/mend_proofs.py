@@ -83,14 +83,15 @@ def main():
     # missing clauses
     for m in re.finditer(r"(?m)^(\S+\.antt):(\d+):\d+: error: `([^`]+)`: write the clauses? ?(?:`([^`\n]+)`)?.*\n((?:  .*\n)*)", text + "\n"):
         path, line, name, one, more = m.groups()
-        clauses = [one] if one else [x.strip() for x in more.split("\n") if re.match(rf"\s+{re.escape(name)} ", x) and "=" in x]
+        clauses = [one] if one else [x.strip() for x in more.split("\n") if re.match(r"\s+\S+ .* = elim ", x)]
         if clauses:
+            name = clauses[0].split()[0]
             edits.setdefault(f"{folder}/{path}", {}).setdefault((int(line), name), clauses)
     for path, by in edits.items():
         lines = lines_of(path)
         for (at, name), clauses in sorted(by.items(), reverse=True):
             k = at - 1
-            while k < len(lines) and not re.match(rf"\s*{re.escape(name)}(?:\s+\S.*)? =|\s*{re.escape(name)} ", lines[k]) or re.match(rf"\s*(?:pub )?{re.escape(name)} :", lines[k]):
+            while k < len(lines) - 1 and not re.match(rf"\s*{re.escape(name)}(?:\s+\S.*)? =|\s*{re.escape(name)} ", lines[k]) or re.match(rf"\s*(?:pub )?{re.escape(name)} :", lines[k]):
                 k += 1
             indent = re.match(r"\s*", lines[k]).group()
             have = {re.sub(r"\s*=.*", "", x.strip()) for x in lines[k : k + 40]}

@@ -215,6 +215,7 @@ pub line-package : (f : TypeKey → TypeKey) (p : PackageKey → PackageKey) (n 
 line-package f p n k o i = go n (members_of k) (subst (In o) (line-members f p n k) i)
   where
     go : (n : ℕ) (ms : List Member) → In o (numbered_from n (map (carry_member f p) ms)) → (m : Member) × In m ms × (o.pkg ≡ mapped p m.pkg)
+    go n [] x' = elim x' [ ]
     go n (m ∷ ms) (inl e) = (m, inl refl, ap (λ (z : Member). z.pkg) e)
     go n (m ∷ ms) (inr j) = let r = go (suc n) ms j in (r.0, inr r.1, r.2)
 

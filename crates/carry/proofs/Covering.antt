@@ -79,6 +79,7 @@ last-map f (x ∷ []) = refl
 last-map f (x ∷ y ∷ l) = last-map f (y ∷ l)
 
 last-In : {A : Type 0} (l : List A) (x : A) → In x (last_of l) → In x l
+last-In {A = A} [] x i = elim i [ ]
 last-In (y ∷ []) x i = i
 last-In (y ∷ z ∷ l) x i = inr (last-In (z ∷ l) x i)
 

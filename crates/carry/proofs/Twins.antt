@@ -40,6 +40,7 @@ before x l = length (keep (λ u. ltb u.0 x.0) l)
 
 -- .. is where x stands
 stands-at : (l : List TypeKey) (x d : TypeKey) → Sorted Lower l → In x l → (before x l < length l) × (get_or l (before x l) d ≡ x)
+stands-at [] x d s x4 = elim x4 [ ]
 stands-at (y ∷ l) x d s (inl e) =
     let z : before x (y ∷ l) ≡ 0 = ap length (keep-none (λ u. ltb u.0 x.0) (y ∷ l) (any_none (λ u. ltb u.0 x.0) (y ∷ l) (λ u i. le-ltb u.0 x.0 (rw e (above u i))))) in
     rw z (omega arith, sym e)
@@ -72,6 +73,7 @@ keep-more p q h (x ∷ l) =
     (λ e. cases (q x) (λ d. rw (e, d) (omega arith)) (λ d. rw (e, d) k))
 
 before-less : (l : List TypeKey) (x y : TypeKey) → In x l → x.0 < y.0 → before x l < before y l
+before-less [] x y x4 h = elim x4 [ ]
 before-less (z ∷ l) x y (inl e) h =
     let k = keep-more (λ u. ltb u.0 x.0) (λ u. ltb u.0 y.0) (λ u a. let b = ltb-true u.0 x.0 a in lt-ltb u.0 y.0 (omega arith)) l in
     let f : z.0 ≡ x.0 = ap (λ (u : TypeKey). u.0) (sym e) in
@@ -83,13 +85,16 @@ before-less (z ∷ l) x y (inr i) h =
     (λ e. cases (ltb z.0 y.0) (λ d. rw (e, d) (omega arith)) (λ d. rw (e, d) k))
 
 head-In : (l : List TypeKey) (x d : TypeKey) → In x l → In (head_or d l) l
+head-In [] x d i = elim i [ ]
 head-In (y ∷ l) x d i = inl refl
 
 head-same : (l : List TypeKey) (x d e : TypeKey) → In x l → head_or d l ≡ head_or e l
+head-same [] x d e i = elim i [ ]
 head-same (y ∷ l) x d e i = refl
 
 -- the first of a list in order is the least
 head-least : (l : List TypeKey) (x d : TypeKey) → Sorted Lower l → In x l → (head_or d l).0 ≤ x.0
+head-least [] x d s x4 = elim x4 [ ]
 head-least (y ∷ l) x d s (inl e) = rw e (omega arith)
 head-least (y ∷ l) x d s (inr i) = let h = s.0 x i in omega arith
 

@@ -21,9 +21,9 @@ use Rattle.interfaces.proofs.Fit.{Linked, Fit}
 module _ (I : Interfaces) where
   -- ---- chains of E lines
 
-  chain-reaches : {i : TypeKey} (j : TypeKey) → Chain (targets I) (same_type j) i → Reaches I i j
-  chain-reaches {i} j (here e) = subst (λ k. Reaches I i k) (sym (same_key j i e)) itself
-  chain-reaches {i} j (there h c) =
+  chain-reaches : (j : TypeKey) {i : TypeKey} → Chain (targets I) (same_type j) i → Reaches I i j
+  chain-reaches j {i} (here e) = subst (λ k. Reaches I i k) (sym (same_key j i e)) itself
+  chain-reaches j {i} (there h c) =
       let r = In-map I.under (I.embeds i) _ h in through r.1 (subst (λ k. Reaches I k j) r.2 (chain-reaches j c))
 
   reaches-chain : {i j : TypeKey} → Reaches I i j → Chain (targets I) (same_type j) i

@@ -45,6 +45,7 @@ record Ends (T : Table) (q : Identity) (t : TypeKey) (v : Way) : Type 0 where
   named : identity_of T (member_of v) ≡ q
 
 short-In : (ws : List Way) (v : Way) → In v (as_short ws) → In v ws
+short-In [] v x' = elim x' [ ]
 short-In (w ∷ ws) v (inl e) = inl e
 short-In (w ∷ ws) v (inr i) = inr (In-keep (λ x. eqb (length x.walk.places) (length w.walk.places)) ws v i).0
 

@@ -49,6 +49,7 @@ any-two at u (x ∷ L) B h =
     (λ f. rw (f, e) (any-two at u L (at x ∷ B) (rw e h))))
 
 pub In-two : {A : Type 0} (at : A → TypeKey) (L : List A) (B : List TypeKey) (x : A) → In x (first_two at B L) → In x L
+In-two {A = A} at [] B x i = elim i [ ]
 In-two at (y ∷ L) B x i =
     cases (twice B (at y))
     (λ e. inr (In-two at L B x (rw e at i)))

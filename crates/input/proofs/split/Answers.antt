@@ -19,11 +19,13 @@ returns-then-end-input c =
 pub slice_bounds-is_q-count : goal.slice_bounds-is_q-count
 slice_bounds-is_q-count c = omega (arith, end-behind c.args.input.now _ c.loop-at.invariant.1 c.line_end-end.ensures)
 
--- LEFT slice-bounds-is-q-start
--- omega (arith, end-behind c.args.input.now _ c.loop-at.invariant.1 c.line_end-end.ensures, end-within c.args.input.now _ c.loop-at.invariant.1 c.line_end-end.ensures)
+pub slice_bounds-is_q-start : goal.slice_bounds-is_q-start
+slice_bounds-is_q-start c =
+    omega (arith, end-behind c.args.input.now _ c.loop-at.invariant.1 c.line_end-end.ensures, end-within c.args.input.now _ c.loop-at.invariant.1 c.line_end-end.ensures)
 
--- LEFT slice-bounds-is-q-end
--- omega (arith, end-behind c.args.input.now _ c.loop-at.invariant.1 c.line_end-end.ensures, end-within c.args.input.now _ c.loop-at.invariant.1 c.line_end-end.ensures)
+pub slice_bounds-is_q-end : goal.slice_bounds-is_q-end
+slice_bounds-is_q-end c =
+    omega (arith, end-behind c.args.input.now _ c.loop-at.invariant.1 c.line_end-end.ensures, end-within c.args.input.now _ c.loop-at.invariant.1 c.line_end-end.ensures)
 
 pub overflow_add-result : goal.overflow_add-result
 overflow_add-result c =

@@ -5,8 +5,7 @@ use Rattle.method_lists.proofs.next_position.Goals as goal
 
 pub overflow_add-result : goal.overflow_add-result
 overflow_add-result c =
-    let pre = c.requires in
-    omega (arith, end-small _ _ pre.0 pre.1, pre.2)
+    omega (arith, end-small _ _ c.requires.0 c.requires.1, c.requires.2)
 
 pub returns : goal.returns
 unfolding next_position

@@ -11,16 +11,16 @@ use Rattle.references.proofs.Walking.{table_on, table-stop, table-end}
 use Rattle.references.proofs.first_line.Goals as goal
 
 pub loop-t-init : goal.loop-t-init
-loop-t-init c = types-start (table_of text c.args.rows.now) (fails (table_of text c.args.rows.now) c.args.test)
+loop-t-init c text = types-start (table_of text c.args.rows.now) (fails (table_of text c.args.rows.now) c.args.test)
 
 pub loop-t-preserved : goal.loop-t-preserved
-loop-t-preserved c =
+loop-t-preserved c text =
     c.loop-t.invariant text ∙ table_on text c.args.rows.now (fails (table_of text c.args.rows.now) c.args.test) c.type_count-n.ensures _ c.loop-t-test.true (c.first_line_of.ensures text) c.in-Passed.is
 
 pub returns-in-Bad : goal.returns-in-Bad
-returns-in-Bad c =
+returns-in-Bad c text =
     sym (c.loop-t.invariant text ∙ table-stop text c.args.rows.now (fails (table_of text c.args.rows.now) c.args.test) c.type_count-n.ensures _ c.loop-t-test.true (c.first_line_of.ensures text) _ c.in-Bad.is)
 
 pub returns : goal.returns
-returns c =
+returns c text =
     sym (c.loop-t.invariant text ∙ table-end text c.args.rows.now (fails (table_of text c.args.rows.now) c.args.test) c.type_count-n.ensures _ c.loop-t-test.false)

@@ -12,7 +12,7 @@ use Rattle.references.proofs.Walking.{under-on, under-stop, under-end}
 use Rattle.references.proofs.first_member_line.Goals as goal
 
 pub loop-i-init : goal.loop-i-init
-loop-i-init c =
+loop-i-init c text =
     members-start (table_of text c.args.rows.now) (fails (table_of text c.args.rows.now) c.args.test) c.args.t (kind_at (table_of text c.args.rows.now) c.args.t)
 
 pub overflow_add-m : goal.overflow_add-m
@@ -24,13 +24,13 @@ member_fails-requires c =
     (c.requires.1, (some-lines c.args.rows.now (c.requires.0) c.args.t (c.requires.1) _ (rw c.member_lines-n.ensures at c.loop-i-test.true)).0)
 
 pub returns-then-member_fails : goal.returns-then-member_fails
-returns-then-member_fails c =
+returns-then-member_fails c text =
     sym (c.loop-i.invariant text ∙ under-stop text c.args.rows.now (fails (table_of text c.args.rows.now) c.args.test) c.args.t (c.requires.1) c.member_lines-n.ensures _ c.loop-i-test.true c.first_member-first.ensures (λ above. c.member_fails.ensures above text) (c.requires.0) c.if-member_fails.true c.member_word.ensures)
 
 pub loop-i-preserved : goal.loop-i-preserved
-loop-i-preserved c =
+loop-i-preserved c text =
     c.loop-i.invariant text ∙ under-on text c.args.rows.now (fails (table_of text c.args.rows.now) c.args.test) c.args.t (c.requires.1) c.member_lines-n.ensures _ c.loop-i-test.true c.first_member-first.ensures (λ above. c.member_fails.ensures above text) c.if-member_fails.false
 
 pub returns : goal.returns
-returns c =
+returns c text =
     sym (c.loop-i.invariant text ∙ under-end text c.args.rows.now (fails (table_of text c.args.rows.now) c.args.test) c.args.t (c.requires.1) c.member_lines-n.ensures _ c.loop-i-test.false)

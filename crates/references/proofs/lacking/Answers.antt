@@ -3,4 +3,4 @@ use Rattle.references.proofs.lacking.Goals as goal
 
 pub returns : goal.returns
 unfolding fails
-returns c = c.first_line.ensures text
+returns c text = c.first_line.ensures text

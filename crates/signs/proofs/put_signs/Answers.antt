@@ -16,8 +16,7 @@ overflow_cast-sign c = omega (arith, c.name_hash-sign.ensures.upper_bound)
 
 pub put_sign-requires : goal.put_sign-requires
 put_sign-requires c =
-    let s = c.loop-m.invariant.2 in
-    (s.beside.holds.laid, signing-here _ _ _ _ s (omega (arith, c.loop-m-test.true, c.member_count-n.ensures)), signing-room _ _ _ _ s c.requires.1)
+    (c.loop-m.invariant.2.beside.holds.laid, signing-here _ _ _ _ c.loop-m.invariant.2 (omega (arith, c.loop-m-test.true, c.member_count-n.ensures)), signing-room _ _ _ _ c.loop-m.invariant.2 c.requires.1)
 
 pub loop-m-preserved : goal.loop-m-preserved
 loop-m-preserved c =

@@ -9,43 +9,24 @@ use Rattle.line_forms.proofs.forms.next_kinds.Goals as goal
 pub returns-in-To : goal.returns-in-To
 unfolding next_kinds
 returns-in-To c =
-    
-    record {
-      result_value = c.two.ensures.result_value ∙ sym (tried-on _ _ _ _ _ c.word.ensures c.in-To.is);
-      result_bound = omega (arith, c.two.ensures.result_value_2);
-    }
+    record { result_value = c.two.ensures.result_value ∙ sym (tried-on _ _ _ _ _ c.word.ensures c.in-To.is); result_bound = omega (arith, c.two.ensures.result_value_2) }
 
 pub returns-in-To-word : goal.returns-in-To-word
 unfolding next_kinds
 returns-in-To-word c =
-    
-    record {
-      result_value = c.two-in-To-word.ensures.result_value ∙ sym (tried-out _ _ _ _ _ c.word.ensures c.in_default.is ∙ tried-on _ _ _ _ _ c.word-2.ensures c.in-To-word.is);
-      result_bound = omega (arith, c.two-in-To-word.ensures.result_value_2);
-    }
+    record { result_value = c.two-in-To-word.ensures.result_value ∙ sym (tried-out _ _ _ _ _ c.word.ensures c.in_default.is ∙ tried-on _ _ _ _ _ c.word-2.ensures c.in-To-word.is); result_bound = omega (arith, c.two-in-To-word.ensures.result_value_2) }
 
 pub returns-in-To-word-2 : goal.returns-in-To-word-2
 unfolding next_kinds tuple_rest form_read form_meant unread
 returns-in-To-word-2 c =
-    
-    record {
-      result_value = sym (tried-out _ _ _ _ _ c.word.ensures c.in_default.is ∙ tried-out _ _ _ _ _ c.word-2.ensures c.in_default-word.is ∙ tried-on _ _ _ _ _ c.word-3.ensures c.in-To-word-2.is);
-      result_bound = omega (arith, word-takes _ _ _ c.word-3.ensures c.in-To-word-2.is);
-    }
+    record { result_value = sym (tried-out _ _ _ _ _ c.word.ensures c.in_default.is ∙ tried-out _ _ _ _ _ c.word-2.ensures c.in_default-word.is ∙ tried-on _ _ _ _ _ c.word-3.ensures c.in-To-word-2.is); result_bound = omega (arith, word-takes _ _ _ c.word-3.ensures c.in-To-word-2.is) }
 
 pub returns-in-To-word-3 : goal.returns-in-To-word-3
 unfolding next_kinds
 returns-in-To-word-3 c =
-    
-    record {
-      result_value = c.func.ensures.result_value ∙ sym (tried-out _ _ _ _ _ c.word.ensures c.in_default.is ∙ tried-out _ _ _ _ _ c.word-2.ensures c.in_default-word.is ∙ tried-out _ _ _ _ _ c.word-3.ensures c.in_default-word-2.is ∙ tried-on _ _ _ _ _ c.word-4.ensures c.in-To-word-3.is);
-      result_bound = omega (arith, c.func.ensures.result_value_2);
-    }
+    record { result_value = c.func.ensures.result_value ∙ sym (tried-out _ _ _ _ _ c.word.ensures c.in_default.is ∙ tried-out _ _ _ _ _ c.word-2.ensures c.in_default-word.is ∙ tried-out _ _ _ _ _ c.word-3.ensures c.in_default-word-2.is ∙ tried-on _ _ _ _ _ c.word-4.ensures c.in-To-word-3.is); result_bound = omega (arith, c.func.ensures.result_value_2) }
 
 pub returns : goal.returns
 unfolding next_kinds
 returns c =
-        record {
-      result_value = c.last_kinds.ensures.result_value ∙ sym (tried-out _ _ _ _ _ c.word.ensures c.in_default.is ∙ tried-out _ _ _ _ _ c.word-2.ensures c.in_default-word.is ∙ tried-out _ _ _ _ _ c.word-3.ensures c.in_default-word-2.is ∙ tried-out _ _ _ _ _ c.word-4.ensures c.in_default-word-3.is);
-      result_bound = omega (arith, c.last_kinds.ensures.result_value_2);
-    }
+    record { result_value = c.last_kinds.ensures.result_value ∙ sym (tried-out _ _ _ _ _ c.word.ensures c.in_default.is ∙ tried-out _ _ _ _ _ c.word-2.ensures c.in_default-word.is ∙ tried-out _ _ _ _ _ c.word-3.ensures c.in_default-word-2.is ∙ tried-out _ _ _ _ _ c.word-4.ensures c.in_default-word-3.is); result_bound = omega (arith, c.last_kinds.ensures.result_value_2) }

@@ -7,25 +7,14 @@ use Rattle.line_forms.proofs.forms.one.Goals as goal
 
 pub returns-in_default : goal.returns-in_default
 unfolding form_read form_meant one_rest unread
-returns-in_default c = 
-    record {
-      result_value = sym (small-out _ _ c.small.ensures c.in_default.is);
-      result_value_2 = refl;
-    }
+returns-in_default c = record { result_value = sym (small-out _ _ c.small.ensures c.in_default.is); result_value_2 = refl }
 
 pub returns-then-done : goal.returns-then-done
 unfolding form_read form_meant one_rest unread
 returns-then-done c =
-    
-    record {
-      result_value = sym (small-on _ _ c.small.ensures c.in-Value.is ∙ ended-yes _ _ _ c.done.ensures c.if-done.true);
-      result_value_2 = refl;
-    }
+    record { result_value = sym (small-on _ _ c.small.ensures c.in-Value.is ∙ ended-yes _ _ _ c.done.ensures c.if-done.true); result_value_2 = refl }
 
 pub returns-else-done : goal.returns-else-done
 unfolding form_read form_meant one_rest unread
 returns-else-done c =
-        record {
-      result_value = sym (small-on _ _ c.small.ensures c.in-Value.is ∙ ended-no _ _ _ c.done.ensures c.if-done.false);
-      result_value_2 = refl;
-    }
+    record { result_value = sym (small-on _ _ c.small.ensures c.in-Value.is ∙ ended-no _ _ _ c.done.ensures c.if-done.false); result_value_2 = refl }

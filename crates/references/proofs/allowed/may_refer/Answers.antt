@@ -4,14 +4,14 @@ use Rattle.references.proofs.Allowing.{refer-tuple, refer-iface, refer-named, re
 use Rattle.references.proofs.allowed.may_refer.Goals as goal
 
 pub returns-in-6 : goal.returns-in-6
-returns-in-6 c = refer-tuple (table_of text c.args.rows.now) c.args.t c.args.e (c.kind_in.ensures text) c.in-6.is
+returns-in-6 c text = refer-tuple (table_of text c.args.rows.now) c.args.t c.args.e (c.kind_in.ensures text) c.in-6.is
 
 pub returns-in-9 : goal.returns-in-9
-returns-in-9 c = refer-iface (table_of text c.args.rows.now) c.args.t c.args.e (c.kind_in.ensures text) c.in-9.is
+returns-in-9 c text = refer-iface (table_of text c.args.rows.now) c.args.t c.args.e (c.kind_in.ensures text) c.in-9.is
 
 pub returns-in-10 : goal.returns-in-10
-returns-in-10 c = refer-named (table_of text c.args.rows.now) c.args.t c.args.e (c.kind_in.ensures text) c.in-10.is
+returns-in-10 c text = refer-named (table_of text c.args.rows.now) c.args.t c.args.e (c.kind_in.ensures text) c.in-10.is
 
 pub returns-in_default : goal.returns-in_default
-returns-in_default c =
+returns-in_default c text =
     refer-other (table_of text c.args.rows.now) c.args.t c.args.e (c.kind_in.ensures text) (search rules) (search rules) (search rules)

@@ -26,13 +26,13 @@ element_at-requires c =
     omega (arith, places-there c.args.rows.now c.requires.0 c.args.t c.requires.1, c.first_member-first.ensures, c.member_total-i.ensures)
 
 pub returns-then-not-element_allowed : goal.returns-then-not-element_allowed
-returns-then-not-element_allowed c =
-    elements-of (may_refer (table_of text c.args.rows.now) c.args.t) text c.args.rows.now c.args.t c.first_member-first.ensures c.member_total-i.ensures (sym (elements-stop (may_refer (table_of text c.args.rows.now) c.args.t) text c.args.rows.now _ _ _ c.loop-i-test.true c.loop-i.invariant.0 c.element_at.ensures (c.element_allowed.ensures text) (not_yes _ c.if-not-element_allowed.true)))
+returns-then-not-element_allowed c text =
+    elements-of (may_refer (table_of text c.args.rows.now) c.args.t) text c.args.rows.now c.args.t c.first_member-first.ensures c.member_total-i.ensures (sym (elements-stop (may_refer (table_of text c.args.rows.now) c.args.t) text c.args.rows.now _ _ _ c.loop-i-test.true c.loop-i.invariant.0 c.element_at.ensures (c.element_allowed.ensures text) c.if-not-element_allowed.true))
 
 pub loop-i-preserved : goal.loop-i-preserved
 loop-i-preserved c =
-    (omega arith, λ text. elements-on (may_refer (table_of text c.args.rows.now) c.args.t) text c.args.rows.now _ _ _ c.loop-i-test.true c.loop-i.invariant.0 c.element_at.ensures (c.element_allowed.ensures text) (c.loop-i.invariant.1 text) (sym (and_i {a = c.element_allowed.result} (un_not _ c.if-not-element_allowed.false) refl)))
+    (omega arith, λ text. elements-on (may_refer (table_of text c.args.rows.now) c.args.t) text c.args.rows.now _ _ _ c.loop-i-test.true c.loop-i.invariant.0 c.element_at.ensures (c.element_allowed.ensures text) (c.loop-i.invariant.1 text) (sym (and_i {a = c.element_allowed.result} c.if-not-element_allowed.false refl)))
 
 pub returns : goal.returns
-returns c =
+returns c text =
     elements-of (may_refer (table_of text c.args.rows.now) c.args.t) text c.args.rows.now c.args.t c.first_member-first.ensures c.member_total-i.ensures (c.loop-i.invariant.1 text ∙ elements-all (may_refer (table_of text c.args.rows.now) c.args.t) text c.args.rows.now _ _ _ c.loop-i-test.false)

@@ -27,5 +27,5 @@ loop-i-preserved c =
     (omega arith, λ text. elements-on (has_type (table_of text c.args.rows.now)) text c.args.rows.now _ _ _ c.loop-i-test.true c.loop-i.invariant.0 c.element_at.ensures (type-had text c.args.rows.now _ c.type_count-n.ensures) (c.loop-i.invariant.1 text) c.both-all.ensures)
 
 pub returns : goal.returns
-returns c =
+returns c text =
     elements-of (has_type (table_of text c.args.rows.now)) text c.args.rows.now c.args.t c.first_member-first.ensures c.member_total-i.ensures (c.loop-i.invariant.1 text ∙ elements-all (has_type (table_of text c.args.rows.now)) text c.args.rows.now _ _ _ c.loop-i-test.false)
