@@ -63,6 +63,14 @@ def clauses_of(function, kind, cache={}):
     return cache[function][kind]
 
 
+def params_of(function):
+    """The names of a function's parameters."""
+    parts = function.split("::")
+    text = sources(parts[0]).get(tuple(parts[1:-1]), "")
+    m = re.search(rf"\bfn {re.escape(parts[-1])}\b[^(]*\((.*?)\)(?:\s*->|\s*\n|\s*\{{)", text, re.S)
+    return re.findall(r"(\w+)\s*:", m.group(1)) if m else []
+
+
 def split(term):
     """The parts of a tuple at its top level, or None."""
     term = term.strip()
@@ -99,6 +107,8 @@ def as_record(term, fields):
     if re.match(r"(record|search|grind|omega|absurd|elim|⊎_elim|rw|simp|λ)\b", body) or "?" in body:
         return term
     parts = split(body)
+    while parts and len(parts) < len(fields) and split(parts[-1]):
+        parts = parts[:-1] + split(parts[-1])
     if parts and len(parts) >= len(fields):
         last = parts[len(fields) - 1 :]
         parts = parts[: len(fields) - 1] + [last[0] if len(last) == 1 else "(" + ", ".join(last) + ")"]
@@ -147,12 +157,20 @@ class Function:
         names = clauses_of(function, kind)
         if len(names) < 2:
             return rest
-        m = re.match(r"\.(\d+)(.*)$", rest)
-        if not m:
+        way = rest.split(".")[1:]
+        if not way or not way[0].isdigit():
             return rest
-        k = int(m.group(1))
-        if k < len(names) and names[k]:
-            return f".{names[k]}{m.group(2)}"
+        # Several clauses were pairs in pairs.
+        at, left = 0, list(way)
+        while left and at < len(names) - 1 and left[0] == "1" and (len(left) > 1 or at == len(names) - 2):
+            at, left = at + 1, left[1:]
+        if at < len(names) - 1:
+            if left and left[0] == "0":
+                left = left[1:]
+            else:
+                at, left = int(way[0]), way[1:]
+        if at < len(names) and names[at]:
+            return "".join("." + x for x in [names[at]] + left)
         return rest
 
     def turned(self, path, left):
@@ -162,6 +180,12 @@ class Function:
         rest = "".join("." + p for p in parts[1:])
         if head == "requires":
             return "c.requires" + self.index("requires", self.path, rest)
+        t = re.match(r"t(\d+)$", parts[1]) if head == "args" and len(parts) > 1 else None
+        if t:
+            # a parameter that a pattern takes apart had only a number
+            names = params_of(self.path)
+            if int(t.group(1)) <= len(names):
+                return "c.args." + ".".join([names[int(t.group(1)) - 1]] + parts[2:])
         if head in ("args", "ranges", "lifetimes", "utf8"):
             return f"c.{head}{rest}"
         for n in range(len(parts), 1, -1):
@@ -171,6 +195,8 @@ class Function:
         if head.startswith("match") and parts[1:2] == ["rest"]:
             return "(search rules)"
         new = self.steps.get(norm(head))
+        if not new and head.endswith("_lem"):
+            new = self.steps.get(norm(head[: -len("_lem")]))
         if not new and head == "type-inv":
             # port.py took a call of a function `typed` for a field of that name
             new = self.steps.get("typed")
@@ -237,6 +263,7 @@ def turn_term(fn, term, left):
     term = pattern.sub(path, term)
     # Today a test of `!b` says that b is false.
     term = re.sub(r"\((?:not-true|not-false|not_yes|not-yes|un_not|un-not) _ (c\.[\w.-]+\.(?:true|false))\)", r"\1", term)
+    term = re.sub(r"(?<![\w-])(?:not-true|not-false|not_yes|not-yes|un_not|un-not) _ (c\.[\w.-]+\.(?:true|false))(?![\w.])", r"\1", term)
     # What is known of a slice's items.
     typed = {new: var for at in fn.entry["typed"] for var, old in at for new in fn.steps.get(norm(old), [])}
     term = re.sub(r"\(c\.([\w-]+)\.given (\w+|\([^()]*\)|c\.[\w.-]+)\)\.fits", lambda m: f"(c.type_inv.{typed[m.group(1)]} {m.group(2)}).fits" if m.group(1) in typed else m.group(), term)

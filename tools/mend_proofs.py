@@ -61,6 +61,8 @@ def record_of(term, fields):
             cut = w.end()
     lets, body = term[:cut], term[cut:].strip()
     parts = split(body)
+    while parts and len(parts) < len(fields) and split(parts[-1]):
+        parts = parts[:-1] + split(parts[-1])
     if parts and len(parts) >= len(fields):
         parts = parts[: len(fields) - 1] + ["(" + ", ".join(parts[len(fields) - 1 :]) + ")" if len(parts) > len(fields) else parts[len(fields) - 1]]
     elif not parts:
@@ -118,22 +120,35 @@ def main():
             done += 1
         write(path, lines)
     # .auto.0 and the like
-    for m in re.finditer(r"(?m)^(\S+\.antt):(\d+):(\d+): error: .*has no field `(\d)` — the fields that can be named here are ([^\n]*)", text):
+    for m in re.finditer(r"(?m)^(\S+\.antt):(\d+):(\d+): error: .*has no field `(\d)`[^\n]*?(?:\n  | — )the fields that can be named here are ([^\n]*)", text):
         path, line, col, field, names = m.groups()
         fields = re.findall(r"`([^`]+)`", names)
         if int(field) < len(fields):
             path = f"{folder}/{path}"
             lines = lines_of(path)
             row = lines[int(line) - 1]
-            at = int(col) - 1
-            old = re.search(rf"\.{field}(?![\w])", row[at:])
-            k = row.rfind(f".auto.{field}", 0, at + 60)
-            # the path that begins at the column
-            p = re.compile(rf"[^\s(),]*?\.{field}(?![\w])").match(row, at)
-            if p:
-                lines[int(line) - 1] = row[: p.end() - len(field)] + fields[int(field)] + row[p.end() :]
+            found = [x for x in re.finditer(rf"(?<=\.auto)\.{field}(?!\w)", row)]
+            near = sorted(found, key=lambda x: abs(x.start() - int(col) + 1))
+            if near:
+                x = near[0]
+                lines[int(line) - 1] = row[: x.start()] + f".{fields[int(field)]}" + row[x.end() :]
                 done += 1
                 write(path, lines)
+    # a test of `!b` says what b is, and a lemma wants `not b`
+    for m in re.finditer(r"(?m)^(\S+/Answers\.antt):(\d+):(\d+): error: [^\n]*(?:has `\(mathlib\.Core\.Bool\.not|expected type `mathlib\.Core\.Bool\.not)", text):
+        path, line, col = m.groups()
+        path = f"{folder}/{path}"
+        lines = lines_of(path)
+        row = lines[int(line) - 1]
+        x = re.compile(r"c\.[\w.-]+\.(?:true|false)(?![\w.])").match(row, int(col) - 1)
+        if x:
+            lines[int(line) - 1] = row[: x.start()] + f"(ap not {x.group()})" + row[x.end() :]
+            done += 1
+            if not any(line.startswith("use Rattle.std.proofs.Common.{ap, not}") for line in lines):
+                has_ap = any(re.match(r"use .*\{(?:.*, )?ap[,}]", line) for line in lines)
+                k = next(i for i, line in enumerate(lines) if line.startswith("use "))
+                lines.insert(k, "use Rattle.std.proofs.Common.{not}" if has_ap else "use Rattle.std.proofs.Common.{ap, not}")
+            write(path, lines)
     # tuples for records
     for m in re.finditer(r"(?m)^(\S+/Answers\.antt):(\d+):\d+: error: `([^`]+)`: a value of .*\n.*is built with `record \{ ([^`]*) \}`, not as a tuple", text):
         path, line, name, shown = m.groups()

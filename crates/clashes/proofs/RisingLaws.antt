@@ -21,6 +21,7 @@ use Rattle.rules.proofs.AscendLaws.{lower-apart}
 module _ {A : Type 0} (R : A → A → Type 0) where
   -- what comes after the last comes after each
   after_last : ((x y z : A) → R x y → R y z → R x z) → (l : List A) (m : A) → Sorted R l → ((y : A) → In y (last_of l) → R y m) → (x : A) → In x l → R x m
+  after_last trans [] m s h x x5 = elim x5 [ ]
   after_last trans (y ∷ []) m s h x (inl e) = rw e (h y (inl refl))
   after_last trans (y ∷ []) m s h x (inr i) = absurd i
   after_last trans (y ∷ z ∷ l) m s h x (inl e) = rw e (trans y z m (s.0 z (inl refl)) (after_last trans (z ∷ l) m s.1 h z (inl refl)))

@@ -31,6 +31,7 @@ use Rattle.gospec.proofs.Places.{At-In}
 
 -- of members listed from n on, the one at place n + i stands at i
 places-At : (n : ℕ) (ms : List Member) (p : Place) → In p (places_from n ms) → (i : ℕ) × At ms i p.member × (p.place ≡ n + i)
+places-At n [] p x' = elim x' [ ]
 places-At n (m ∷ ms) p (inl e) = rw e (0, at_first, omega arith)
 places-At n (m ∷ ms) p (inr i) = let r = places-At (suc n) ms p i in let h = r.2 in (suc r.0, at-later r.1, omega arith)
 
@@ -39,7 +40,7 @@ place-At ms p i = let r = places-At 0 ms p i in let e : r.0 ≡ p.place = (let h
 
 At-places : (n i : ℕ) (ms : List Member) (m : Member) → At ms i m → In (record { place = n + i; member = m }) (places_from n ms)
 At-places n i ms m at_first = let z : n + 0 ≡ n = omega arith in inl (rw z)
-At-places n i ms m (at-later {y = y} {l = l} {i = j} a) = let z : n + suc j ≡ suc n + j = omega arith in inr (rw z (At-places (suc n) j l m a))
+At-places n i ms m (at-later {y = y} {l = l} {i = j} a) = let z : n + suc j ≡ suc n + j = omega arith in inr (subst (λ (p : ℕ). In (record { place = p; member = m }) (places_from (suc n) l)) (sym z) (At-places (suc n) j l m a))
 
 At-place : (i : ℕ) (ms : List Member) (m : Member) → At ms i m → In (record { place = i; member = m }) (places_from 0 ms)
 At-place i ms m a = let z : 0 + i ≡ i = omega arith in subst (λ (p : ℕ). In (record { place = p; member = m }) (places_from 0 ms)) z (At-places 0 i ms m a)

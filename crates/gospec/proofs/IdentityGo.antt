@@ -113,6 +113,12 @@ module _ (T : Table) (s : Sound T) where
       → In z (corresponding (parts k) (parts l)) → Different T z.left z.right → Different T x y
   unfolding parts
   parts-differ x y k l z p q basics a i d = absurd i
+  parts-differ x y _ _ z p q (arrays {n = n} {m = m} {e = e} {f = f}) a (inr x7) d = elim x7 [ ]
+  parts-differ x y _ _ z p q (slices {e = e} {f = f}) a (inr x8) d = elim x8 [ ]
+  parts-differ x y _ _ z p q (pointers {e = e} {f = f}) a (inr x9) d = elim x9 [ ]
+  parts-differ x y _ _ z p q (maps {j = j} {e = e} {k = k} {f = f}) a (inr (inr x11)) d = elim x11 [ ]
+  parts-differ x y _ _ z p q (chans {c = c} {e = e} {f = f}) a (inr x11) d = elim x11 [ ]
+  parts-differ x y _ _ z p q (funcs {v = v} {w = w} {r = r}) a (inr (inr x13)) d = elim x13 [ ]
   parts-differ x y k l z p q arrays a (inl e) d = array-elements p q (rw e at d)
   parts-differ x y k l z p q slices a (inl e) d = slice-elements p q (rw e at d)
   parts-differ x y k l z p q pointers a (inl e) d = pointer-bases p q (rw e at d)

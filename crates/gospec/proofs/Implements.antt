@@ -130,6 +130,7 @@ module _ (T : Table) (sound : Sound T) (R : TypeKey → Type 0) (t : TypeKey) (i
   unmet-other m f = rw f
 
   all-met : (ms : List Member) → first_unmet T t true ms ≡ none → (m : Member) → In m ms → unmet T t true m ≡ none
+  all-met [] e m i = elim i [ ]
   all-met (x ∷ ms) e m i = go (λ z j. all-met ms z m j) (unmet T t true x) refl
     where
       satisfied : Option Lack → Bool

@@ -89,6 +89,7 @@ module _ (T : Table) (sound : Sound T) (t : TypeKey) (in0 : t.0 < size T) where
   set-ascends = cases (empty_set T t) (λ e. rw e tt) (λ e. rw e (ascends (method_names T) (names-ascend T sound)))
 
   sorted-one : (l : List Way) → Sorted Lower (map id_of l) → (v w : Way) → In v l → In w l → id_of v ≡ id_of w → v ≡ w
+  sorted-one [] s v w x4 _ h = elim x4 [ ]
   sorted-one (x ∷ l) s v w (inl e) (inl f) h = e ∙ sym f
   sorted-one (x ∷ l) s v w (inl e) (inr j) h = clash (s.0 (id_of w) (map-In-to id_of l w j)) (rw (← h, e) (below_irrefl (id_bytes (id_of x))))
   sorted-one (x ∷ l) s v w (inr i) (inl f) h = clash (s.0 (id_of v) (map-In-to id_of l v i)) (rw (h, f) (below_irrefl (id_bytes (id_of x))))

@@ -75,6 +75,7 @@ module _ (T : Table) (R : TypeKey → Type 0) (name : Bytes) (pkg : Option Packa
 
 -- an interface's methods ascend, so that no two places have one identity
 ascend-at : (T : Table) (l : List Member) → Sorted (Lower T) l → (i j : ℕ) (m n : Member) → At l i m → At l j n → identity_of T m ≡ identity_of T n → i ≡ j
+ascend-at T [] s i j m n a b e = elim a [ ]
 ascend-at T (z ∷ l) s zero zero m n a b e = refl
 ascend-at T (z ∷ l) s zero (suc j) m n a b e = absurd (lower-apart T z n (ap (identity_of T) (sym (at_head l z m a)) ∙ e) (s.0 n (At-In (at_tail l z n j b))))
 ascend-at T (z ∷ l) s (suc i) zero m n a b e = absurd (lower-apart T z m (ap (identity_of T) (sym (at_head l z n b)) ∙ sym e) (s.0 m (At-In (at_tail l z m i a))))

@@ -19,6 +19,7 @@ use Rattle.rules.proofs.PathLaws.{paths-ascend, path-once}
 use Rattle.growth.specs.Grown.{Numbers, Grown, place_among, path_at}
 
 place_in : (paths : List Bytes) (path : Bytes) → In path paths → (place_among paths path < length paths) × (get_or paths (place_among paths path) [] ≡ path)
+place_in [] path i = elim i [ ]
 place_in (p ∷ ps) path i =
     cases (same_bytes p path)
     (λ e. rw e (omega arith, same_true p path e))

@@ -123,7 +123,7 @@ pub old-lists : (T : Table) → Sound T → (t : TypeKey) → full_list (interfa
 unfolding all_methods
 old-lists T sound t =
     cases (is_iface (kind_at T (under T t)))
-    (λ f. full-own (interfaces_of T (λ i. [])) fit t f refl (sound.ascend t))
+    (λ f. full-own (interfaces_of T (λ i. [])) fit t f refl (sound.ascend (under T t)))
     (λ f. full-none (interfaces_of T (λ i. [])) fit t f ∙ rw f)
   where
     fit : Fit (interfaces_of T (λ i. []))

@@ -34,6 +34,7 @@ use Rattle.table_text.proofs.SoundPasses.{sound-checked}
 
 -- where one of a list stands
 place : {A : Type 0} (l : List A) (x d : A) → In x l → (n : ℕ) × (get_or l n d ≡ x)
+place {A = A} [] x d x3 = elim x3 [ ]
 place (y ∷ l) x d (inl e) = (0, sym e)
 place (y ∷ l) x d (inr i) = let r = place l x d i in (suc r.0, r.1)
 
@@ -84,6 +85,7 @@ module _ (T : Table) (s : Sound T) where
 
   package-short : (p : Option PackageKey) → has_package T p ≡ true → (n : ℕ) → In n (package_number p) → n ≤ max_reference
   package-short none h n i = absurd i
+  package-short (some p) h n (inr x'') = elim x'' [ ]
   package-short (some p) h n (inl e) = let l = ltb-true p.0 (length T.packages) h in omega (arith, s.few_packages)
 
   member-said : (t : TypeKey) (m : Member) → MemberOf T t m → Sayable (line_of_member m)

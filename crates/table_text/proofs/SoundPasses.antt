@@ -29,6 +29,7 @@ use Rattle.rules.proofs.StageLaws.{first-later}
 
 members-are : (P : Item → Type 0) (t : TypeKey) (k : Kind) (above ms : List Member)
     → ((before : List Member) (m : Member) (after : List Member) → ms ≡ before ++ (m ∷ after) → P (member_item t k (above ++ before) m)) → (i : Item) → In i (member_items t k above ms) → P i
+members-are P t k above [] h i x'' = elim x'' [ ]
 members-are P t k above (m ∷ ms) h i (inl e) = rw (e, ← append-nil above) (h [] m ms refl)
 members-are P t k above (m ∷ ms) h i (inr j) =
     members-are P t k (above ++ (m ∷ [])) ms (λ before n after e. rw (append_assoc above (m ∷ []) before) (h (m ∷ before) n after (ap (λ l. m ∷ l) e))) i j
@@ -53,10 +54,12 @@ sorted_before : {A : Type 0} (R : A → A → Type 0) (l : List A) (before : Lis
 sorted_before R l before x after e s y i = go before (subst (Sorted R) e s) i
   where
     go : (b : List _) → Sorted R (b ++ (x ∷ after)) → In y b → R y x
+    go [] s x3 = elim x3 [ ]
     go (z ∷ b) s (inl q) = subst (λ w. R w x) (sym q) (s.0 x (In-append-r b (x ∷ after) x (inl refl)))
     go (z ∷ b) s (inr j) = go b s.1 j
 
 last-In : {A : Type 0} (l : List A) (x : A) → In x (last_of l) → In x l
+last-In {A = A} [] x i = elim i [ ]
 last-In (y ∷ []) x i = i
 last-In (y ∷ z ∷ l) x i = inr (last-In (z ∷ l) x i)
 
@@ -65,11 +68,13 @@ last-In (y ∷ z ∷ l) x i = inr (last-In (z ∷ l) x i)
 -- paths that ascend: each P line behind another is above it
 paths-pass : (line : ℕ) (path : Bytes) (rest : List Bytes) → Sorted Below (path ∷ rest) → (i : PathItem) → In i (paths_behind line path rest) → unordered i ≡ false
 unfolding unordered
+paths-pass line path [] s i x'' = elim x'' [ ]
 paths-pass line path (next ∷ rest) s i (inl e) = rw (e, s.0 next (inl refl))
 paths-pass line path (next ∷ rest) s i (inr j) = paths-pass (suc line) next rest s.1 i j
 
 orders-pass : (paths : List Bytes) → Sorted Below paths → (i : PathItem) → In i (path_items paths) → unordered i ≡ false
 unfolding path_items
+orders-pass [] s i j = elim j [ ]
 orders-pass (path ∷ rest) s i j = paths-pass 2 path rest s i j
 
 module _ (T : Table) (s : Sound T) where

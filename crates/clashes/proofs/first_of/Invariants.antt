@@ -1,0 +1,24 @@
+-- `clashes::first_of` meets its contract. The invariant: what is found in the table is found from type t on.
+use mathlib.Core.Path.{◌≡◌, sym, ◌∙◌}
+use Prim.Native.Nat.{◌-◌}
+use native.Mathlib.Omega.{arith}
+use lib.ListN.{length}
+use Rattle.objects.specs.Rows.{table_of}
+use Rattle.rules.specs.Checks.{items, clashing}
+use Rattle.rules.specs.Stages.{first_item}
+use Rattle.rules.proofs.ItemLaws.{types_left, types-start}
+use Rattle.references.proofs.Walking.{table_on, table-stop, table-end}
+use Rattle.clashes.specs.Marks.{Ready}
+use Rattle.clashes.proofs.ClashLaws.{lines-clash}
+use Rattle.clashes.proofs.first_of.Given as goal
+
+abbrev pub invariant-loop-t : goal.invariant-loop-t
+invariant-loop-t l =
+    (first_item (table_of l.text l.rows) (clashing (table_of l.text l.rows)) (items (table_of l.text l.rows))
+    ≡ first_item (table_of l.text l.rows) (clashing (table_of l.text l.rows)) (types_left (table_of l.text l.rows) l.t))
+    × (length l.marks ≡ length l.initial.marks)
+    × (length l.done ≡ length l.initial.done)
+    × Ready l.text l.rows l.marks l.done
+
+abbrev pub decreases-loop-t : goal.decreases-loop-t
+decreases-loop-t l = l.n - l.t

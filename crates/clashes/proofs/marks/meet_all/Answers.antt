@@ -1,0 +1,29 @@
+-- `clashes::marks::meet_all` meets its contract. The invariant: the first i names are marked.
+use Rattle.std.proofs.Common.{rules}
+use mathlib.Core.Path.{◌≡◌}
+use Prim.Native.Nat.{◌-◌, ◌≤◌}
+use native.Mathlib.Omega.{arith}
+use lib.ListN.{length}
+use Rattle.objects.specs.Rows.{members_from}
+use Rattle.clashes.specs.Marks.{Noted}
+use Rattle.clashes.proofs.MarkLaws.{noted-none, noted-on, noted-end}
+use Rattle.clashes.proofs.marks.meet_all.Goals as goal
+
+pub loop-i-init : goal.loop-i-init
+loop-i-init c = (search rules, omega arith, noted-none _ _ _ _ _)
+
+pub overflow_add-first : goal.overflow_add-first
+overflow_add-first c = omega (arith, c.requires.2)
+
+pub place-requires : goal.place-requires
+place-requires c = (c.requires.1, c.name_hash-h.ensures.upper_bound)
+
+pub meet-requires : goal.meet-requires
+meet-requires c = (search rules, c.place.ensures.upper_bound)
+
+pub loop-i-preserved : goal.loop-i-preserved
+loop-i-preserved c =
+    (search rules, omega arith, noted-on _ _ _ _ _ c.name_hash-h.ensures.value c.place.ensures.value _ _ _ c.meet.ensures c.loop-i.invariant.2)
+
+pub returns : goal.returns
+returns c = noted-end _ _ _ _ _ _ c.loop-i.invariant.1 c.loop-i-test.false c.loop-i.invariant.2

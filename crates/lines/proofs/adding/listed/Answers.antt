@@ -1,0 +1,20 @@
+-- `lines::adding::listed` meets its contract.
+use mathlib.Core.Path.{◌≡◌, refl, sym, ◌∙◌}
+use lib.ListN.{length}
+use Rattle.text.specs.Cursors.{fields_left}
+use Rattle.line_forms.specs.Steps.{all_read}
+use Rattle.lines.proofs.TupleLaws.{all_done, all-wrong, all_more, fields-fall}
+use Rattle.lines.proofs.adding.listed.Goals as goal
+
+pub returns-then-done : goal.returns-then-done
+returns-then-done c = sym (c.loop-d.invariant ∙ all_done _ _ c.done.ensures c.if-done.true)
+
+pub loop-d-smaller : goal.loop-d-smaller
+loop-d-smaller c = fields-fall c.args.s.now c.loop-d.d _ c.small.ensures c.in-Value.is
+
+pub loop-d-preserved : goal.loop-d-preserved
+loop-d-preserved c = c.loop-d.invariant ∙ all_more _ _ _ c.small.ensures c.in-Value.is
+
+pub returns-in-Wrong : goal.returns-in-Wrong
+returns-in-Wrong c =
+    sym (c.loop-d.invariant ∙ all-wrong _ _ _ c.small.ensures c.done.ensures c.if-done.false c.in-Wrong.is)

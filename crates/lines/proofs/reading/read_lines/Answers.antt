@@ -1,0 +1,58 @@
+-- `lines::reading::read_lines` meets its contract.
+use Rattle.std.proofs.Common.{rules}
+use mathlib.Core.Path.{◌≡◌, refl, subst, ◌∙◌}
+use Prim.Native.Nat.{◌-◌, ◌≤◌}
+use native.Mathlib.Omega.{arith}
+use lib.ListN.{length, drop}
+use Rattle.objects.specs.Bounds.{bounds}
+use Rattle.objects.specs.Rows.{table_of}
+use Rattle.objects.specs.Laid.{Laid}
+use Rattle.text.specs.Lines.{pieces}
+use Rattle.rules.specs.Load.{lines_from}
+use Rattle.lines.specs.Adding.{bytes_taken, Grown}
+use Rattle.lines.specs.Reading.{read_meant}
+use Rattle.lines.proofs.ReadLaws.{end-within, end-behind, text-ends, line-cut, line-room, line-brings, line_refused, line_read}
+use Rattle.lines.proofs.reading.read_lines.Goals as goal
+
+pub loop-from-init : goal.loop-from-init
+loop-from-init c = (refl, c.requires.2, c.requires.3, c.requires.1, c.requires.4, refl)
+
+pub shape_of-rows-then-at-end : goal.shape_of-rows-then-at-end
+shape_of-rows-then-at-end c = c.loop-from.invariant.5
+
+pub returns-then-at-end : goal.returns-then-at-end
+unfolding read_meant
+returns-then-at-end c =
+    record { text_value = c.loop-from.invariant.0 ∙ text-ends c.args.text.now c.loop-from.at c.loop-from.line (table_of c.args.text.now c.loop-from.rows) c.loop-from.invariant.3 c.line_end-end.ensures c.if-end-text.true c.if-at-end.true; laid = c.loop-from.invariant.1 }
+
+pub shape_of-rows-then-end-text : goal.shape_of-rows-then-end-text
+shape_of-rows-then-end-text c = c.loop-from.invariant.5
+
+pub returns-then-end-text : goal.returns-then-end-text
+unfolding read_meant
+returns-then-end-text c =
+    record { text_value = c.loop-from.invariant.0 ∙ line-cut c.args.text.now c.loop-from.at c.loop-from.line (table_of c.args.text.now c.loop-from.rows) c.loop-from.invariant.3 c.line_end-end.ensures c.if-end-text.true c.if-at-end.false; laid = c.loop-from.invariant.1 }
+
+pub add_line-requires : goal.add_line-requires
+add_line-requires c =
+    (c.requires.0, c.loop-from.invariant.1, line-room c.args.text.now c.loop-from.at c.loop-from.line (table_of c.args.text.now c.loop-from.rows) c.loop-from.invariant.3 c.line_end-end.ensures c.if-end-text.false c.line.ensures c.loop-from.rows c.loop-from.invariant.2, omega (arith, c.loop-from.invariant.5, c.requires.5))
+
+pub returns-in-Refused : goal.returns-in-Refused
+unfolding read_meant
+returns-in-Refused c =
+    record { text_value = c.loop-from.invariant.0 ∙ line_refused c.args.text.now c.loop-from.at c.loop-from.line (table_of c.args.text.now c.loop-from.rows) c.loop-from.invariant.3 c.line_end-end.ensures c.if-end-text.false c.line.ensures c.loop-from.rows _ _ refl c.add_line.ensures.meant c.in-Refused.is; laid = c.add_line.ensures.laid }
+
+pub overflow_add-at : goal.overflow_add-at
+overflow_add-at c =
+    omega (arith, end-within c.args.text.now c.loop-from.at c.loop-from.line (table_of c.args.text.now c.loop-from.rows) c.loop-from.invariant.3 c.line_end-end.ensures, c.requires.0)
+
+pub overflow_add-line : goal.overflow_add-line
+overflow_add-line c = omega (arith, c.loop-from.invariant.4, c.loop-from.invariant.3, c.requires.0)
+
+pub loop-from-smaller : goal.loop-from-smaller
+loop-from-smaller c =
+    omega (arith, end-within c.args.text.now c.loop-from.at c.loop-from.line (table_of c.args.text.now c.loop-from.rows) c.loop-from.invariant.3 c.line_end-end.ensures, end-behind c.args.text.now c.loop-from.at c.loop-from.line (table_of c.args.text.now c.loop-from.rows) c.loop-from.invariant.3 c.line_end-end.ensures, c.if-end-text.false)
+
+pub loop-from-preserved : goal.loop-from-preserved
+loop-from-preserved c =
+    (c.loop-from.invariant.0 ∙ line_read c.args.text.now c.loop-from.at c.loop-from.line (table_of c.args.text.now c.loop-from.rows) c.loop-from.invariant.3 c.line_end-end.ensures c.if-end-text.false c.line.ensures c.loop-from.rows _ _ refl c.add_line.ensures.meant c.in-Added.is, c.add_line.ensures.laid, line-brings c.args.text.now c.loop-from.at c.loop-from.line (table_of c.args.text.now c.loop-from.rows) c.loop-from.invariant.3 c.line_end-end.ensures c.if-end-text.false c.line.ensures c.loop-from.rows _ c.loop-from.invariant.2 (subst (Grown _ _ _ _ _) c.in-Added.is c.add_line.ensures), omega (arith, end-within c.args.text.now c.loop-from.at c.loop-from.line (table_of c.args.text.now c.loop-from.rows) c.loop-from.invariant.3 c.line_end-end.ensures, c.if-end-text.false), omega (arith, end-behind c.args.text.now c.loop-from.at c.loop-from.line (table_of c.args.text.now c.loop-from.rows) c.loop-from.invariant.3 c.line_end-end.ensures, c.loop-from.invariant.4), search rules)

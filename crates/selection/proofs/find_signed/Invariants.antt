@@ -1,0 +1,12 @@
+-- `selection::find_signed` meets its contract. The invariant is that of `find`: what the whole list gives, the members from i on give.
+use mathlib.Core.Logic.{⊎_elim}
+use Prim.Native.Nat.{◌-◌, ◌≤◌}
+use native.Mathlib.Omega.{arith}
+use Rattle.selection.proofs.FindLaws.{Left, find-start, find-here, find-next, find-end, signs-fit, signs-long, find-skip}
+use Rattle.selection.proofs.find_signed.Given as goal
+
+abbrev pub invariant-loop-i : goal.invariant-loop-i
+invariant-loop-i l = Left l.text l.rows l.names l.q l.from l.count l.i × (l.i ≤ l.count)
+
+abbrev pub decreases-loop-i : goal.decreases-loop-i
+decreases-loop-i l = l.count - l.i

@@ -1,0 +1,43 @@
+-- `put_members` meets its contract.
+-- the line of member i
+use mathlib.Core.Path.{◌≡◌, refl, ◌∙◌}
+use Prim.Native.Nat.{ℕ, ◌+◌, ◌-◌, ◌≤◌}
+use native.Mathlib.Omega.{arith}
+use lib.ListN.{length}
+use Rattle.objects.specs.Lists.{Bytes}
+use Rattle.objects.specs.Table.{obj_key}
+use Rattle.objects.specs.Rows.{Words}
+use Rattle.print.specs.Written.{written}
+use Rattle.print.proofs.WrittenLaws.{wrote-length}
+use Rattle.table_text.specs.Rows.{member_text}
+use Rattle.table_text.proofs.Loops.{left_from, next-room, next-wrote, next_place, all-wrote}
+use Rattle.table_text.proofs.put_members.Goals as goal
+
+abbrev lines : Words → Bytes → Words → ℕ → Bytes
+lines numbers text rows i = member_text numbers text rows (obj_key i)
+
+pub put_member_line-i-requires : goal.put_member_line-i-requires
+put_member_line-i-requires c =
+    next-room (lines c.args.numbers.now c.args.text.now c.args.rows.now) c.args.first c.args.count
+    c.loop-j.j c.loop-j-test.true c.args.out.now _ _ c.loop-j.out
+    c.loop-j.invariant.1 c.requires.1 c.loop-j.invariant.3
+
+pub loop-j-preserved : goal.loop-j-preserved
+loop-j-preserved c =
+    (
+      c.loop-j.invariant.0
+          ∙ next-wrote (lines c.args.numbers.now c.args.text.now c.args.rows.now) c.args.first c.args.count
+          c.loop-j.j c.loop-j-test.true c.put_member_line-i.ensures,
+      next_place (lines c.args.numbers.now c.args.text.now c.args.rows.now) c.args.first c.args.count
+          c.loop-j.j c.loop-j-test.true _ c.put_member_line-i.ensures c.loop-j.invariant.1,
+      omega arith,
+      wrote-length c.put_member_line-i.ensures ∙ c.loop-j.invariant.3,
+    )
+
+pub shape_of-out : goal.shape_of-out
+shape_of-out c = c.loop-j.invariant.3
+
+pub returns : goal.returns
+returns c =
+    all-wrote (lines c.args.numbers.now c.args.text.now c.args.rows.now) c.args.first c.args.count _ _
+    c.loop-j.out _ c.loop-j.j c.loop-j-test.false c.loop-j.invariant.0 c.loop-j.invariant.1

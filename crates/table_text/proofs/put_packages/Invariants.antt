@@ -1,0 +1,22 @@
+-- `put_packages` meets its contract.
+-- the lines of number i
+use mathlib.Core.Path.{◌≡◌, refl, ◌∙◌}
+use Prim.Native.Nat.{ℕ, ◌+◌, ◌-◌, ◌≤◌}
+use native.Mathlib.Omega.{arith}
+use lib.ListN.{length}
+use Rattle.objects.specs.Lists.{Bytes}
+use Rattle.objects.specs.Table.{package_key}
+use Rattle.objects.specs.Rows.{Words, package_count}
+use Rattle.print.specs.Written.{written}
+use Rattle.print.proofs.WrittenLaws.{wrote-length}
+use Rattle.table_text.specs.Rows.{package_text}
+use Rattle.table_text.proofs.Loops.{left_from, zero_room, zero-wrote, zero-place, zero-all}
+use Rattle.table_text.proofs.put_packages.Given as goal
+
+abbrev pub invariant-loop-j : goal.invariant-loop-j
+invariant-loop-j l =
+    (written l.initial.out l.at (left_from (lines l.text l.rows) 0 (package_count l.rows) 0) ≡ written l.out l.i (left_from (lines l.text l.rows) 0 (package_count l.rows) l.j))
+    × (l.i + length (left_from (lines l.text l.rows) 0 (package_count l.rows) l.j) ≡ l.at + length (left_from (lines l.text l.rows) 0 (package_count l.rows) 0)) × (l.j ≤ l.count) × (length l.out ≡ length l.initial.out)
+
+abbrev pub decreases-loop-j : goal.decreases-loop-j
+decreases-loop-j l = l.count - l.j

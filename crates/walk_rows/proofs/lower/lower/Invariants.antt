@@ -1,0 +1,17 @@
+-- `lower`: what the rows from lo up to i embed is entered.
+use mathlib.Core.Path.{◌≡◌, refl}
+use Prim.Native.Nat.{◌-◌, ◌≤◌}
+use native.Mathlib.Omega.{arith}
+use lib.ListN.{length}
+use Rattle.objects.specs.Rows.{type_count}
+use Rattle.walk_rows.specs.State.{Enters}
+use Rattle.walk_rows.proofs.StateLaws.{rows-most}
+use Rattle.walk_rows.proofs.LowerLaws.{enters-more, last_on, level_rows, level-start, level-on, level-end}
+use Rattle.walk_rows.proofs.lower.lower.Given as goal
+
+abbrev pub invariant-loop-i : goal.invariant-loop-i
+invariant-loop-i l =
+    (l.lo ≤ l.i) × (l.i ≤ l.n) × Enters (type_count l.rows) l.initial.walk l.n (level_rows l.text l.rows l.initial.walk l.n l.lo l.i) l.walk l.end × (length l.walk ≡ length l.initial.walk)
+
+abbrev pub decreases-loop-i : goal.decreases-loop-i
+decreases-loop-i l = l.n - l.i

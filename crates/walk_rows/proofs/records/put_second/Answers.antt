@@ -1,0 +1,31 @@
+-- `put_second`.
+use native.Mathlib.Omega.{arith}
+use lib.ListN.{length-take, length-drop}
+use Rattle.objects.specs.Rows.{word_at}
+use Rattle.walk_rows.proofs.StateLaws.{rows-most}
+use Rattle.walk_rows.proofs.EnterLaws.{part-marks, marks-room, marks-most, second_holds}
+use Rattle.walk_rows.proofs.records.put_second.Goals as goal
+
+pub offset_bounds-walk-from : goal.offset_bounds-walk-from
+offset_bounds-walk-from c =
+    let most = rows-most c.requires.rowed.0 in omega arith
+
+pub slice_bounds-consolidate_multiples-end : goal.slice_bounds-consolidate_multiples-end
+slice_bounds-consolidate_multiples-end c = rows-most c.requires.rowed.0
+
+pub consolidate_multiples-requires : goal.consolidate_multiples-requires
+consolidate_multiples-requires c = simp (length-take, length-drop) (omega arith)
+
+pub put_record-requires : goal.put_record-requires
+unfolding word_at
+put_record-requires c =
+    let marks = part-marks c.args.walk.now c.args.from c.args.n c.args.e c.requires.rowed.0 c.requires.rowed.1 c.args.i c.requires.typ_column_value.0 c.requires.typ_column_value.1 c.requires.typ_column_value.2 c.consolidate_multiples.ensures in
+    let room = marks-room c.args.walk.now c.args.from c.args.n c.args.e c.requires.rowed.0 c.requires.rowed.1 c.args.i c.requires.typ_column_value.0 c.requires.typ_column_value.1 in
+    let most = marks-most c.args.walk.now c.args.from c.args.n c.args.e c.requires.rowed.0 c.requires.rowed.1 c.args.i c.requires.typ_column_value.0 c.requires.typ_column_value.1 in
+    (rw marks room, rw marks most)
+
+pub returns : goal.returns
+unfolding word_at
+returns c =
+    let marks = part-marks c.args.walk.now c.args.from c.args.n c.args.e c.requires.rowed.0 c.requires.rowed.1 c.args.i c.requires.typ_column_value.0 c.requires.typ_column_value.1 c.requires.typ_column_value.2 c.consolidate_multiples.ensures in
+    second_holds c.args.walk.now c.args.from c.args.n c.args.e c.requires.rowed.0 c.requires.rowed.1 c.args.i c.requires.typ_column_value.0 c.requires.typ_column_value.1 marks c.put_record.ensures
