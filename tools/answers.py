@@ -342,12 +342,22 @@ def turn(proof, fn, module, report):
         above = above + "\n" if above else ""
         binders = "".join(" " + x for x in d.group(1).split()[1:] if x != "κs")
         answers.append(f"{above}pub {goal} : goal.{goal}\n{unfolding}{goal} c{binders} ={sep}{turned}")
+    # a definition that an invariant uses stands with it
+    shared = []
+    for block in list(answers):
+        m = re.search(rf"^(?:pub )?(?:abbrev |unfoldable )?(?:pub )?({NAME}) :", block, re.M)
+        if m and not re.search(r": goal\.", block) and any(re.search(rf"(?<![\w.'-]){re.escape(m.group(1))}(?![\w'-])", b) for b in invariants):
+            answers.remove(block)
+            shared.append(m.group(1))
+            invariants.insert(len(shared) - 1, re.sub(r"(?m)^(abbrev |unfoldable )?(?!pub )(?=\S+ :)", lambda x: (x.group(1) or "") + "pub ", block, count=1))
+    if shared and answers:
+        uses.append(f"use {module}.Invariants.{{{', '.join(shared)}}}")
     folder = os.path.dirname(proof)
     own = "\n".join(head)
     own = own + "\n" if own else ""
     if invariants:
-        turned = [turn_invariant(fn, b, report) for b in invariants]
-        out = own + "\n".join(uses) + f"\nuse {module}.Given as goal\n\n" + "\n\n".join(turned) + "\n"
+        turned = [turn_invariant(fn, b, report) if re.search(r": tie\.", b) else b for b in invariants]
+        out = own + "\n".join(u for u in uses if f"{module}.Invariants" not in u) + f"\nuse {module}.Given as goal\n\n" + "\n\n".join(turned) + "\n"
         with open(f"{folder}/Invariants.antt", "w", encoding="utf-8") as f:
             f.write(out)
     if answers:

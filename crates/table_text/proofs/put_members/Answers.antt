@@ -11,10 +11,8 @@ use Rattle.print.specs.Written.{written}
 use Rattle.print.proofs.WrittenLaws.{wrote-length}
 use Rattle.table_text.specs.Rows.{member_text}
 use Rattle.table_text.proofs.Loops.{left_from, next-room, next-wrote, next_place, all-wrote}
+use Rattle.table_text.proofs.put_members.Invariants.{lines}
 use Rattle.table_text.proofs.put_members.Goals as goal
-
-abbrev lines : Words → Bytes → Words → ℕ → Bytes
-lines numbers text rows i = member_text numbers text rows (obj_key i)
 
 pub put_member_line-i-requires : goal.put_member_line-i-requires
 put_member_line-i-requires c =

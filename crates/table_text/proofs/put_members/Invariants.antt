@@ -13,6 +13,9 @@ use Rattle.table_text.specs.Rows.{member_text}
 use Rattle.table_text.proofs.Loops.{left_from, next-room, next-wrote, next_place, all-wrote}
 use Rattle.table_text.proofs.put_members.Given as goal
 
+abbrev pub lines : Words → Bytes → Words → ℕ → Bytes
+lines numbers text rows i = member_text numbers text rows (obj_key i)
+
 abbrev pub invariant-loop-j : goal.invariant-loop-j
 invariant-loop-j l =
     (written l.initial.out l.at (left_from (lines l.numbers l.text l.rows) l.first l.count 0) ≡ written l.out l.i (left_from (lines l.numbers l.text l.rows) l.first l.count l.j))

@@ -11,10 +11,8 @@ use Rattle.print.specs.Written.{written}
 use Rattle.print.proofs.WrittenLaws.{wrote-length}
 use Rattle.table_text.specs.Rows.{package_text}
 use Rattle.table_text.proofs.Loops.{left_from, zero_room, zero-wrote, zero-place, zero-all}
+use Rattle.table_text.proofs.put_packages.Invariants.{lines}
 use Rattle.table_text.proofs.put_packages.Goals as goal
-
-abbrev lines : Bytes → Words → ℕ → Bytes
-lines text rows i = package_text text rows (package_key i)
 
 pub put_package_line-i-requires : goal.put_package_line-i-requires
 put_package_line-i-requires c =

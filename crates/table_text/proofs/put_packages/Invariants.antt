@@ -13,6 +13,9 @@ use Rattle.table_text.specs.Rows.{package_text}
 use Rattle.table_text.proofs.Loops.{left_from, zero_room, zero-wrote, zero-place, zero-all}
 use Rattle.table_text.proofs.put_packages.Given as goal
 
+abbrev pub lines : Bytes → Words → ℕ → Bytes
+lines text rows i = package_text text rows (package_key i)
+
 abbrev pub invariant-loop-j : goal.invariant-loop-j
 invariant-loop-j l =
     (written l.initial.out l.at (left_from (lines l.text l.rows) 0 (package_count l.rows) 0) ≡ written l.out l.i (left_from (lines l.text l.rows) 0 (package_count l.rows) l.j))

@@ -11,10 +11,8 @@ use Rattle.print.specs.Written.{written}
 use Rattle.print.proofs.WrittenLaws.{wrote-length}
 use Rattle.table_text.specs.Rows.{type_lines_text}
 use Rattle.table_text.proofs.Loops.{left_from, zero_room, zero-wrote, zero-place, zero-all, less_as}
+use Rattle.table_text.proofs.put_types.Invariants.{lines}
 use Rattle.table_text.proofs.put_types.Goals as goal
-
-abbrev lines : Words → Bytes → Words → ℕ → Bytes
-lines numbers text rows i = type_lines_text numbers text rows (type_key i)
 
 pub put_type-i-requires : goal.put_type-i-requires
 put_type-i-requires c =

@@ -13,6 +13,9 @@ use Rattle.table_text.specs.Rows.{type_lines_text}
 use Rattle.table_text.proofs.Loops.{left_from, zero_room, zero-wrote, zero-place, zero-all, less_as}
 use Rattle.table_text.proofs.put_types.Given as goal
 
+abbrev pub lines : Words → Bytes → Words → ℕ → Bytes
+lines numbers text rows i = type_lines_text numbers text rows (type_key i)
+
 abbrev pub invariant-loop-j : goal.invariant-loop-j
 invariant-loop-j l =
     (written l.initial.out l.at (left_from (lines l.numbers l.text l.rows) 0 (type_count l.rows) 0) ≡ written l.out l.i (left_from (lines l.numbers l.text l.rows) 0 (type_count l.rows) l.j))
