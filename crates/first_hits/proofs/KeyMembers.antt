@@ -46,6 +46,7 @@ module _ (text : Bytes) (rows : Words) where
 -- ---- the place of one in a list
 
 place : {A : Type 0} (l : List A) (x d : A) → In x l → (n : ℕ) × (n < length l) × (get_or l n d ≡ x)
+place {A = A} mathlib.Core.List.[] x d x3 = elim x3 [ ]
 place (y ∷ l) x d (inl e) = (zero, omega arith, sym e)
 place (y ∷ l) x d (inr i) = let r = place l x d i in let h = r.1 in (suc r.0, omega arith, r.2)
 

@@ -61,6 +61,7 @@ module _ {A : Type 0} where
 
     -- of two in the list, one comes before the other
     pub sorted-either : (l : List A) (x y : A) → Sorted R l → In x l → In y l → (x ≡ y) ⊎ (R x y ⊎ R y x)
+    sorted-either [] x y s x5 _ = elim x5 [ ]
     sorted-either (z ∷ l) x y s (inl e) (inl f) = inl (e ∙ sym f)
     sorted-either (z ∷ l) x y s (inl e) (inr j) = inr (inl (rw e (s.0 y j)))
     sorted-either (z ∷ l) x y s (inr i) (inl f) = inr (inr (rw f (s.0 x i)))

@@ -32,6 +32,7 @@ use Rattle.goscript.proofs.LoopsEnd.{lookup-ends}
 -- ---- from a pointer on, the flag is set, and a does not matter
 
 flag-kept : (T : Table) (r : Walk) → r.flag ≡ true → (d : ℕ) (w : Walk) → In w (over.walks (graph T) r d) → w.flag ≡ true
+flag-kept T r h zero w (inr x'') = elim x'' [ ]
 flag-kept T r h zero w (inl e) = ap (λ (x : Walk). x.flag) e ∙ h
 flag-kept T r h (suc d) w i =
     let v = In-flat (over.onward (graph T)) (over.walks (graph T) r d) w i in

@@ -37,6 +37,7 @@ module _ {A : Type 0} (p q : A → Bool) (h : (x : A) → p x ≡ true → q x �
 
   -- one fails that passed before
   keep-less : (l : List A) (z : A) → In z l → p z ≡ false → q z ≡ true → length (keep p l) < length (keep q l)
+  keep-less [] z x3 f g = elim x3 [ ]
   keep-less (x ∷ l) z (inl e) f g = let ih = keep-fewer l in rw (← e, f, g) (omega arith)
   keep-less (x ∷ l) z (inr i) f g =
       let ih = keep-less l z i f g in

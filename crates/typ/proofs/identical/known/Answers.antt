@@ -1,0 +1,15 @@
+use mathlib.Core.Path.{refl, sym, ap, ◌∙◌}
+use mathlib.Core.Logic.{inl, inr}
+use Rattle.objects.proofs.ListLaws.{clash}
+use Rattle.pair_marks.specs.Marks.{met}
+use Rattle.pair_marks.specs.Classes.{OneClass}
+use Rattle.typ.proofs.identical.known.Goals as goal
+
+pub returns-then-labels-x : goal.returns-then-labels-x
+unfolding OneClass
+returns-then-labels-x c = record { one_class = λ _. inl c.if-labels-x.true; y_value = λ q. clash refl q }
+
+pub returns : goal.returns
+returns c =
+    let is = c.is_met.ensures ∙ ap (met _) c.pair_number.ensures in
+    record { one_class = λ q. inr (sym is ∙ q); y_value = λ q. sym is ∙ q }

@@ -1,0 +1,33 @@
+use Rattle.std.proofs.Common.{rules}
+use mathlib.Core.Path.{◌≡◌}
+use mathlib.Core.Logic.{inl, inr, ⊎_elim}
+use Prim.Native.Nat.{◌-◌, ◌≤◌}
+use native.Mathlib.Omega.{arith}
+use lib.ListN.{length}
+use Rattle.objects.specs.Rows.{table_of}
+use Rattle.objects.proofs.RowLaws.{size-read}
+use Rattle.typ.proofs.Top.{turn-differ, Turns, turns-none, turns_more, turns-all}
+use Rattle.typ.proofs.opening.open_round.Goals as goal
+
+pub loop-i-init : goal.loop-i-init
+loop-i-init c = (search rules, search rules, search rules, turns-none _ _ _ _ _ c.requires.state)
+
+pub open_at-r-requires : goal.open_at-r-requires
+open_at-r-requires c =
+    record { library = c.requires.library; i_bound = (omega (arith, c.loop-i-test.true, c.type_count-n.ensures), omega (arith, c.loop-i.invariant.1, c.requires.rows_in_bounds)); state = c.loop-i.invariant.3.state }
+
+pub returns-then-r-eq0 : goal.returns-then-r-eq0
+returns-then-r-eq0 c = turn-differ _ _ _ _ _ _ _ _ (c.open_at-r.ensures.if-0 c.if-r-eq0.true)
+
+pub loop-i-preserved : goal.loop-i-preserved
+loop-i-preserved c =
+    (
+      search rules,
+      search rules,
+      search rules,
+      turns_more _ _ _ _ _ _ _ _ _ c.loop-i.invariant.3 _ _ _ _ c.open_at-r.ensures c.if-r-eq0.false (⊎_elim (λ w. inl (w.0.taken, w.1)) (λ w. inr (w.0.left, w.1)) c.if-r-eq2.branch),
+    )
+
+pub returns : goal.returns
+returns c =
+    turns-all _ _ _ _ _ _ _ _ _ c.loop-i.invariant.3 (omega (arith, size-read c.args.text.now c.args.rows.now, c.type_count-n.ensures, c.loop-i-test.false))

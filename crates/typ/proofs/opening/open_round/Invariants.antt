@@ -1,0 +1,16 @@
+use mathlib.Core.Path.{◌≡◌}
+use mathlib.Core.Logic.{inl, inr, ⊎_elim}
+use Prim.Native.Nat.{◌-◌, ◌≤◌}
+use native.Mathlib.Omega.{arith}
+use lib.ListN.{length}
+use Rattle.objects.specs.Rows.{table_of}
+use Rattle.objects.proofs.RowLaws.{size-read}
+use Rattle.typ.proofs.Top.{turn-differ, Turns, turns-none, turns_more, turns-all}
+use Rattle.typ.proofs.opening.open_round.Given as goal
+
+abbrev pub invariant-loop-i : goal.invariant-loop-i
+invariant-loop-i l =
+    (l.i ≤ l.n) × (length l.marks ≡ length l.initial.marks) × (length l.labels ≡ length l.initial.labels) × Turns (table_of l.text l.rows) l.x l.y l.initial.marks l.marks l.initial.labels l.labels l.i l.found
+
+abbrev pub decreases-loop-i : goal.decreases-loop-i
+decreases-loop-i l = l.n - l.i
