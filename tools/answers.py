@@ -42,15 +42,8 @@ def sources(crate, cache={}):
 def clauses_of(function, kind, cache={}):
     """The names of a function's clauses of a kind, by its path crate::module::name or crate::Type::name."""
     if function not in cache:
-        parts = function.split("::")
-        crate, mods, name = parts[0], tuple(parts[1:-1]), parts[-1]
-        texts = sources(crate)
-        text = texts.get(mods)
-        if text is None:
-            # a method: of the type that the last part names
-            home = texts.get(mods[:-1], "")
-            all_texts = [home] + list(texts.values())
-            text = next((x[x.index(f"impl {mods[-1]}") :] for x in all_texts if mods and f"impl {mods[-1]}" in x), home)
+        name = function.split("::")[-1]
+        text = text_of(function)
         m = re.search(rf"\bfn {re.escape(name)}\b", text)
         found = {"requires": [], "ensures": []}
         if m:
@@ -63,12 +56,23 @@ def clauses_of(function, kind, cache={}):
     return cache[function][kind]
 
 
+def text_of(function):
+    """The file of a function, from where it stands or from its type's impl on."""
+    parts = function.split("::")
+    crate, mods = parts[0], tuple(parts[1:-1])
+    texts = sources(crate)
+    if mods in texts:
+        return texts[mods]
+    found = [x for x in [texts.get(mods[:-1], ""), *texts.values()] if mods and f"impl {mods[-1]}" in x]
+    return found[0][found[0].index(f"impl {mods[-1]}") :] if found else ""
+
+
 def params_of(function):
     """The names of a function's parameters."""
     parts = function.split("::")
-    text = sources(parts[0]).get(tuple(parts[1:-1]), "")
+    text = text_of(function)
     m = re.search(rf"\bfn {re.escape(parts[-1])}\b[^(]*\((.*?)\)(?:\s*->|\s*\n|\s*\{{)", text, re.S)
-    return re.findall(r"(\w+)\s*:", m.group(1)) if m else []
+    return re.findall(r"\bself\b|\w+(?=\s*:(?!:))", m.group(1)) if m else []
 
 
 def split(term):
@@ -104,6 +108,9 @@ def as_record(term, fields):
         elif depth == 0:
             cut = w.end()
     lets, body = term[:cut], term[cut:].strip()
+    r = re.match(r"(?s)(rw (?:\([^()]*\)|\S+) )(\(.*\))$", body)
+    if r and split(r.group(2)):
+        return lets + ("\n    " if lets else "") + r.group(1) + "(" + as_record(r.group(2), fields) + ")"
     if re.match(r"(record|search|grind|omega|absurd|elim|⊎_elim|rw|simp|λ)\b", body) or "?" in body:
         return term
     parts = split(body)
@@ -204,6 +211,18 @@ class Function:
             left.append(path)
             return f"c.{path}"
         step = new[0]
+        if len(parts) > 2 and parts[1] in ("new", "auto") and parts[2] in ("0", "1") and step in self.callee:
+            # what a call left in its parameters, as pairs in pairs
+            names = params_of(self.callee[step])
+            at, left = 0, parts[2:]
+            while left and left[0] == "1" and at < len(names) - 1:
+                at, left = at + 1, left[1:]
+            if left and left[0] == "0" and at < len(names) - 1:
+                left = left[1:]
+            elif left and left[0] == "0" and len(names) == 1:
+                left = left[1:]
+            if at < len(names):
+                return ".".join(["c", step, parts[1], names[at], *left])
         if parts[1:2] == ["ensures"] and step in self.callee:
             return f"c.{step}.ensures" + self.index("ensures", self.callee[step], "".join("." + p for p in parts[2:]))
         return f"c.{step}{rest}"
@@ -262,8 +281,8 @@ def turn_term(fn, term, left):
 
     term = pattern.sub(path, term)
     # Today a test of `!b` says that b is false.
-    term = re.sub(r"\((?:not-true|not-false|not_yes|not-yes|un_not|un-not) _ (c\.[\w.-]+\.(?:true|false))\)", r"\1", term)
-    term = re.sub(r"(?<![\w-])(?:not-true|not-false|not_yes|not-yes|un_not|un-not) _ (c\.[\w.-]+\.(?:true|false))(?![\w.])", r"\1", term)
+    term = re.sub(r"\((?:not-true|not-false|not_yes|not-yes|un_not|un-not) (?:_|c\.[\w.-]+) (c\.[\w.-]+\.(?:true|false))\)", r"\1", term)
+    term = re.sub(r"(?<![\w-])(?:not-true|not-false|not_yes|not-yes|un_not|un-not) (?:_|c\.[\w.-]+) (c\.[\w.-]+\.(?:true|false))(?![\w.])", r"\1", term)
     # What is known of a slice's items.
     typed = {new: var for at in fn.entry["typed"] for var, old in at for new in fn.steps.get(norm(old), [])}
     term = re.sub(r"\(c\.([\w-]+)\.given (\w+|\([^()]*\)|c\.[\w.-]+)\)\.fits", lambda m: f"(c.type_inv.{typed[m.group(1)]} {m.group(2)}).fits" if m.group(1) in typed else m.group(), term)
@@ -338,6 +357,12 @@ def turn(proof, fn, module, report):
             fields = clauses_of(callee, "requires") if callee else []
         if len(fields) > 1 and len(d.group(1).split()) <= 1 + ("κs" in d.group(1).split()):
             turned = as_record(turned, fields)
+            # the parts of what a callee ensures have names too
+            turned = re.sub(
+                r"(c\.([\w-]+)\.ensures)\.(\d)(?=[ ;}])",
+                lambda m: m.group(1) + fn.index("ensures", fn.callee[m.group(2)], "." + m.group(3)) if m.group(2) in fn.callee else m.group(),
+                turned,
+            )
         sep = "\n    " if turned.lstrip().startswith("let ") or "\n" in term or len(turned) > 100 else " "
         above = above + "\n" if above else ""
         binders = "".join(" " + x for x in d.group(1).split()[1:] if x != "κs")

@@ -60,6 +60,10 @@ def record_of(term, fields):
         elif depth == 0:
             cut = w.end()
     lets, body = term[:cut], term[cut:].strip()
+    r = re.match(r"(?s)(rw (?:\([^()]*\)|\S+) )(\(.*\))$", body)
+    before = ""
+    if r and split(r.group(2)):
+        before, body = r.groups()
     parts = split(body)
     while parts and len(parts) < len(fields) and split(parts[-1]):
         parts = parts[:-1] + split(parts[-1])
@@ -69,7 +73,8 @@ def record_of(term, fields):
         parts = [f"({body}).{k}" if re.search(r"\s", body) else f"{body}.{k}" for k in range(len(fields))]
     else:
         return None
-    return lets + "\n    record {\n" + "".join(f"      {f} = {p};\n" for f, p in zip(fields, parts)) + "    }"
+    made = "record {\n" + "".join(f"      {f} = {p};\n" for f, p in zip(fields, parts)) + "    }"
+    return lets + "\n    " + (f"{before}({made})" if before else made)
 
 
 def main():
@@ -127,7 +132,7 @@ def main():
             path = f"{folder}/{path}"
             lines = lines_of(path)
             row = lines[int(line) - 1]
-            found = [x for x in re.finditer(rf"(?<=\.auto)\.{field}(?!\w)", row)]
+            found = [x for x in re.finditer(rf"(?:(?<=\.auto)|(?<=\.new))\.{field}(?!\w)", row)]
             near = sorted(found, key=lambda x: abs(x.start() - int(col) + 1))
             if near:
                 x = near[0]

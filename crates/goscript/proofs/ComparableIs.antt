@@ -54,9 +54,9 @@ module _ (T : Table) (sound : Sound T) where
   abbrev Contains : TypeKey → TypeKey → Type 0
   Contains q t = (e : TypeKey) × In e (contents T q) × Chain (contents T) (same_type t) e
 
-  chain-on : (e t u : TypeKey) → Chain (contents T) (same_type t) e → In u (contents T t) → Chain (contents T) (same_type u) e
-  chain-on e t u (here h) i = there (subst (λ z. In u (contents T z)) (same_key t e h) i) (here (same_self u))
-  chain-on e t u (there {y = y} j c) i = there j (chain-on y t u c i)
+  chain-on : (t e u : TypeKey) → Chain (contents T) (same_type t) e → In u (contents T t) → Chain (contents T) (same_type u) e
+  chain-on t e u (here h) i = there (subst (λ z. In u (contents T z)) (same_key t e h) i) (here (same_self u))
+  chain-on t e u (there {y = y} j c) i = there j (chain-on t y u c i)
 
   record Came (l : List TypeKey) (t : TypeKey) : Type 0 where
     contain : (q : TypeKey) → In q l → Contains q t
@@ -65,7 +65,7 @@ module _ (T : Table) (sound : Sound T) where
 
   on : (l : List TypeKey) (t u : TypeKey) → Came l t → In u (contents T t) → Came l u
   on l t u c i = record {
-    contain = λ q j. let r = c.contain q j in (r.0, r.1, chain-on r.0 t u r.2 i);
+    contain = λ q j. let r = c.contain q j in (r.0, r.1, chain-on t r.0 u r.2 i);
     distinct = c.distinct;
     inside = c.inside;
   }

@@ -76,8 +76,8 @@ module _ (T : Table) (sound : Sound T) (t : TypeKey) (in0 : t.0 < size T) where
       let method = entry m k.0 ps in
       let field = entry d.field d.flag d.places in
       let e = alike-one method given refl (go-is-select T sound t in0 false m.pkg m.name method (legal-method m k.1 k.2 k.3 k.4)) in
-      let f = alike-one field given refl (go-is-select T sound t in0 false m.pkg m.name field (legal-field d.field d.named d.denotes d.is_field)) in
-      clash k.3 (ap method_in (sym e ∙ f) ∙ d.is_field)
+      let f = alike-one field given refl (go-is-select T sound t in0 false m.pkg m.name field (legal-field d.field d.named d.denotes d.is-field)) in
+      clash k.3 (ap method_in (sym e ∙ f) ∙ d.is-field)
 
   -- S gives the field that covers a member's name
   covered-go : (m : Member) → covered T (identity_of T m) t ≡ true → In (identity_of T m) (method_names T) → empty_set T t ≡ false → DenotesField T t m

@@ -33,10 +33,7 @@ pub returns-in-Found : goal.returns-in-Found
 returns-in-Found c =
     let placed = placed_of c.args.text.now c.args.rows.now (take c.args.n c.args.names.now) c.place_of.result c.place_of.ensures c.args.w.member.0 c.id_of-id.ensures in
     let covered = c.hide.ensures ∙ covered-is c.args.walk.now c.args.w.row _ c.args.hits.now in
-    record {
-      held_2 = (rw covered (found-held c.args.text.now c.args.rows.now c.args.names.now c.args.n c.args.hits.now c.requires.held.0 c.args.w c.requires.held.1 c.in-Found.i placed c.in-Found.is _, found-covers c.args.text.now c.args.rows.now c.args.names.now c.args.n c.args.hits.now c.requires.held.0 c.args.w c.requires.held.1 c.in-Found.i placed c.in-Found.is c.requires.library c.args.walk.now)).0;
-      covered = (rw covered (found-held c.args.text.now c.args.rows.now c.args.names.now c.args.n c.args.hits.now c.requires.held.0 c.args.w c.requires.held.1 c.in-Found.i placed c.in-Found.is _, found-covers c.args.text.now c.args.rows.now c.args.names.now c.args.n c.args.hits.now c.requires.held.0 c.args.w c.requires.held.1 c.in-Found.i placed c.in-Found.is c.requires.library c.args.walk.now)).1;
-    }
+    rw covered (record { held_2 = found-held c.args.text.now c.args.rows.now c.args.names.now c.args.n c.args.hits.now c.requires.held.0 c.args.w c.requires.held.1 c.in-Found.i placed c.in-Found.is _; covered = found-covers c.args.text.now c.args.rows.now c.args.names.now c.args.n c.args.hits.now c.requires.held.0 c.args.w c.requires.held.1 c.in-Found.i placed c.in-Found.is c.requires.library c.args.walk.now })
 
 pub returns-in-At : goal.returns-in-At
 returns-in-At c =

@@ -7,4 +7,4 @@ cover_methods-requires c =
     record { library = c.requires.library; walked = (c.requires.walked.0, c.meet_methods-count.ensures.held, c.meet_methods-count.ensures.settles) }
 
 pub returns : goal.returns
-returns c = record { held = c.cover_methods.ensures.0; covered = c.cover_methods.ensures.1 }
+returns c = record { held = c.cover_methods.ensures.held; covered = c.cover_methods.ensures.covered }

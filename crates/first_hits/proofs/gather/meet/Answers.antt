@@ -18,10 +18,11 @@ offset_bounds-names-i c =
     let below = found-place c.args.text.now c.args.rows.now c.args.names.now c.args.n c.args.hits.now c.requires.held.0 c.args.w c.requires.held.1 c.in-Found.i placed c.in-Found.is in
     omega (arith, below, c.requires.held.0.few, c.requires.library.laid.members)
 
--- LEFT slice-read-meet-preserved
--- let placed = placed_of c.args.text.now c.args.rows.now (take c.args.n c.args.names.now) c.place_of.result c.place_of.ensures c.args.w.member.0 c.id_of-id.ensures in
---     let below = found-place c.args.text.now c.args.rows.now c.args.names.now c.args.n c.args.hits.now c.requires.held.0 c.args.w c.requires.held.1 c.in-Found.i placed c.in-Found.is in
---     omega (arith, below, c.requires.held.0.few, c.requires.held.0.long)
+pub bounds-names-i : goal.bounds-names-i
+bounds-names-i c =
+    let placed = placed_of c.args.text.now c.args.rows.now (take c.args.n c.args.names.now) c.place_of.result c.place_of.ensures c.args.w.member.0 c.id_of-id.ensures in
+    let below = found-place c.args.text.now c.args.rows.now c.args.names.now c.args.n c.args.hits.now c.requires.held.0 c.args.w c.requires.held.1 c.in-Found.i placed c.in-Found.is in
+    omega (arith, below, c.requires.held.0.few, c.requires.held.0.long)
 
 pub meet_again-requires : goal.meet_again-requires
 meet_again-requires c =
@@ -42,12 +43,9 @@ pub returns-in-Found : goal.returns-in-Found
 returns-in-Found c =
     let placed = placed_of c.args.text.now c.args.rows.now (take c.args.n c.args.names.now) c.place_of.result c.place_of.ensures c.args.w.member.0 c.id_of-id.ensures in
     let marked = c.meet_again.ensures ∙ marked-is c.args.walk.now c.args.w.row _ c.args.hits.now in
-    record {
-      held_2 = (rw marked (found-held c.args.text.now c.args.rows.now c.args.names.now c.args.n c.args.hits.now c.requires.held.0 c.args.w c.requires.held.1 c.in-Found.i placed c.in-Found.is _, found-carries c.args.text.now c.args.rows.now c.args.names.now c.args.n c.args.hits.now c.requires.held.0 c.args.w c.requires.held.1 c.in-Found.i placed c.in-Found.is c.requires.library c.args.walk.now)).0;
-      settles = (rw marked (found-held c.args.text.now c.args.rows.now c.args.names.now c.args.n c.args.hits.now c.requires.held.0 c.args.w c.requires.held.1 c.in-Found.i placed c.in-Found.is _, found-carries c.args.text.now c.args.rows.now c.args.names.now c.args.n c.args.hits.now c.requires.held.0 c.args.w c.requires.held.1 c.in-Found.i placed c.in-Found.is c.requires.library c.args.walk.now)).1;
-    }
+    rw marked (record { held_2 = found-held c.args.text.now c.args.rows.now c.args.names.now c.args.n c.args.hits.now c.requires.held.0 c.args.w c.requires.held.1 c.in-Found.i placed c.in-Found.is _; settles = found-carries c.args.text.now c.args.rows.now c.args.names.now c.args.n c.args.hits.now c.requires.held.0 c.args.w c.requires.held.1 c.in-Found.i placed c.in-Found.is c.requires.library c.args.walk.now })
 
 pub returns-in-At : goal.returns-in-At
 returns-in-At c =
     let placed = placed_of c.args.text.now c.args.rows.now (take c.args.n c.args.names.now) c.place_of.result c.place_of.ensures c.args.w.member.0 c.id_of-id.ensures in
-    record { held_2 = new-held c.args.text.now c.args.rows.now c.args.names.now c.args.n c.args.hits.now c.requires.held.0 c.args.w c.requires.held.1 c.in-At.i placed c.in-At.is c.put_name.new.0 c.put_name.ensures.names_len_unchanged c.put_name.ensures.names_after; settles = new-carries c.args.text.now c.args.rows.now c.args.names.now c.args.n c.args.hits.now c.requires.held.0 c.args.w c.requires.held.1 c.in-At.i placed c.in-At.is c.put_name.new.0 c.put_name.ensures.names_len_unchanged c.put_name.ensures.names_after c.args.walk.now }
+    record { held_2 = new-held c.args.text.now c.args.rows.now c.args.names.now c.args.n c.args.hits.now c.requires.held.0 c.args.w c.requires.held.1 c.in-At.i placed c.in-At.is c.put_name.new.names c.put_name.ensures.names_len_unchanged c.put_name.ensures.names_after; settles = new-carries c.args.text.now c.args.rows.now c.args.names.now c.args.n c.args.hits.now c.requires.held.0 c.args.w c.requires.held.1 c.in-At.i placed c.in-At.is c.put_name.new.names c.put_name.ensures.names_len_unchanged c.put_name.ensures.names_after c.args.walk.now }

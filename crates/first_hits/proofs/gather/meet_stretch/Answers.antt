@@ -32,7 +32,7 @@ loop-j-smaller c = omega (arith, c.loop-j-test.true)
 pub loop-j-preserved : goal.loop-j-preserved
 loop-j-preserved c =
     let met = stretch-more c.args.s.row c.args.s.first c.loop-j.j in
-    let carried = carries-then c.args.text.now c.args.rows.now c.args.walk.now met c.args.names.now c.args.n c.args.hits.now c.loop-j.names c.loop-j.end c.loop-j.hits c.meet-end.new.1.1.1.0 c.meet-end.result c.meet-end.new.1.1.1.1.1.0 c.loop-j.invariant.1 c.meet-end.ensures.settles in
+    let carried = carries-then c.args.text.now c.args.rows.now c.args.walk.now met c.args.names.now c.args.n c.args.hits.now c.loop-j.names c.loop-j.end c.loop-j.hits c.meet-end.new.names c.meet-end.result c.meet-end.new.hits c.loop-j.invariant.1 c.meet-end.ensures.settles in
     (c.meet-end.ensures.held_2, carried, omega (arith, c.loop-j-test.true), search rules, search rules)
 
 pub returns : goal.returns
