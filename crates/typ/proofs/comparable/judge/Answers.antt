@@ -11,4 +11,4 @@ comparable_impl-r-requires c =
 
 pub returns : goal.returns
 returns c =
-    record { value = c.comparable_impl-r.ensures.judged; met_unchanged = c.clear.ensures ∙ ap (λ (n : ℕ). replicate n 0) c.comparable_impl-r.auto.t.1.0 ∙ sym c.requires.met_value }
+    record { value = c.comparable_impl-r.ensures.judged; met_unchanged = c.clear.ensures ∙ ap (λ (n : ℕ). replicate n 0) c.comparable_impl-r.auto.met ∙ sym c.requires.met_value }

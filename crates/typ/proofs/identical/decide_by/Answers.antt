@@ -1,3 +1,4 @@
+use Rattle.std.proofs.Common.{ap, not}
 use Rattle.std.proofs.Common.{rules}
 use mathlib.Core.Path.{◌≡◌}
 use native.Mathlib.Omega.{arith}
@@ -23,12 +24,12 @@ returns-then-not-identical_impl_o c =
 pub loop-r-init : goal.loop-r-init
 loop-r-init c =
     let size_is = size-read c.args.text.now c.args.rows.now in
-    let begins = begun _ _ _ c.requires.by_index (omega (arith, size_is, c.number.auto.labels, c.requires.rows_in_bounds.0)) c.number.ensures _ _ _ _ _ c.identical_impl_o.ensures c.if-not-identical_impl_o.false in
+    let begins = begun _ _ _ c.requires.by_index (omega (arith, size_is, c.number.auto.labels, c.requires.rows_in_bounds.0)) c.number.ensures _ _ _ _ _ c.identical_impl_o.ensures (ap not c.if-not-identical_impl_o.false) in
     (search rules, search rules, rounds-none _ _ _ _ _ begins)
 
 pub open_round-r-requires : goal.open_round-r-requires
 open_round-r-requires c =
-    record { library = c.requires.library; rows_in_bounds = omega (arith, c.loop-r.invariant.0, c.identical_impl_o.auto.labels.1.0, c.requires.peers.1); state = c.loop-r.invariant.2.state c.loop-r-test.true }
+    record { library = c.requires.library; rows_in_bounds = omega (arith, c.loop-r.invariant.0, c.identical_impl_o.auto.marks, c.requires.peers.1); state = c.loop-r.invariant.2.state c.loop-r-test.true }
 
 pub loop-r-smaller : goal.loop-r-smaller
 loop-r-smaller c =

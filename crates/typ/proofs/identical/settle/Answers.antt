@@ -10,4 +10,4 @@ decide-r-requires c =
 
 pub returns : goal.returns
 returns c =
-    record { value = c.decide-r.ensures; marks_unchanged = c.clear.ensures ∙ ap (λ (n : ℕ). replicate n 0) c.decide-r.auto.x.1.0 ∙ sym c.requires.marks_value }
+    record { value = c.decide-r.ensures; marks_unchanged = c.clear.ensures ∙ ap (λ (n : ℕ). replicate n 0) c.decide-r.auto.marks ∙ sym c.requires.marks_value }

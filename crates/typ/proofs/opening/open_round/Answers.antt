@@ -8,6 +8,7 @@ use Rattle.objects.specs.Rows.{table_of}
 use Rattle.objects.proofs.RowLaws.{size-read}
 use Rattle.typ.proofs.Top.{turn-differ, Turns, turns-none, turns_more, turns-all}
 use Rattle.typ.proofs.opening.open_round.Goals as goal
+use Rattle.typ.proofs.opening.open_round.Goals.{then-r-eq2, else-r-eq2}
 
 pub loop-i-init : goal.loop-i-init
 loop-i-init c = (search rules, search rules, search rules, turns-none _ _ _ _ _ c.requires.state)
@@ -25,7 +26,7 @@ loop-i-preserved c =
       search rules,
       search rules,
       search rules,
-      turns_more _ _ _ _ _ _ _ _ _ c.loop-i.invariant.3 _ _ _ _ c.open_at-r.ensures c.if-r-eq0.false (⊎_elim (λ w. inl (w.0.taken, w.1)) (λ w. inr (w.0.left, w.1)) c.if-r-eq2.branch),
+      turns_more _ _ _ _ _ _ _ _ _ c.loop-i.invariant.3 _ _ _ _ c.open_at-r.ensures c.if-r-eq0.false (elim c.if-r-eq2.branch [ then-r-eq2 w ↦ inl (w.if-r-eq2.true, w.found-is) | else-r-eq2 w ↦ inr (w.if-r-eq2.false, w.found-is) ]),
     )
 
 pub returns : goal.returns

@@ -1,0 +1,16 @@
+-- `keep_methods` meets its contract.
+use mathlib.Core.Path.{◌≡◌, refl, sym, ap, ◌∙◌}
+use mathlib.Core.Logic.{⊎_elim}
+use Prim.Native.Nat.{◌-◌, ◌<◌, ◌≤◌}
+use native.Mathlib.Omega.{arith}
+use lib.ListN.{length, length-set}
+use Rattle.method_set.specs.Sets.{in_set}
+use Rattle.method_set.proofs.KeepLaws.{Keeping, keeping_start, keeping-read, keeping-yes, keeping-no, keeping-end}
+use Rattle.method_set.proofs.keep_methods.Given as goal
+
+abbrev pub invariant-loop-i : goal.invariant-loop-i
+invariant-loop-i l =
+    (length l.names ≡ length l.initial.names) × (l.i ≤ l.n) × Keeping (in_set l.rows l.walk l.hits) l.initial.names l.names l.r l.i
+
+abbrev pub decreases-loop-i : goal.decreases-loop-i
+decreases-loop-i l = l.n - l.i
