@@ -217,9 +217,7 @@ class Function:
             at, left = 0, parts[2:]
             while left and left[0] == "1" and at < len(names) - 1:
                 at, left = at + 1, left[1:]
-            if left and left[0] == "0" and at < len(names) - 1:
-                left = left[1:]
-            elif left and left[0] == "0" and len(names) == 1:
+            if left and left[0] == "0":
                 left = left[1:]
             if at < len(names):
                 return ".".join(["c", step, parts[1], names[at], *left])

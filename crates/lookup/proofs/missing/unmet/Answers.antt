@@ -1,0 +1,16 @@
+-- `lookup::missing::unmet` meets its contract.
+use mathlib.Core.Path.{sym, ◌∙◌}
+use Rattle.lookup.proofs.MissingLaws.{own-packaged, selected-unmet}
+use Rattle.lookup.proofs.missing.unmet.Goals as goal
+
+pub unmet_there-requires : goal.unmet_there-requires
+unmet_there-requires c =
+    record { library = c.requires.library; t_bound = c.requires.t_bound; t_value = (sym c.iface_under.ensures ∙ c.if-iface_under.true, c.requires.mark_words_in_bounds.0); marks_value = c.requires.marks_value }
+
+pub lookup_field_or_method-found-requires : goal.lookup_field_or_method-found-requires
+lookup_field_or_method-found-requires c =
+    record { library = c.requires.library; t_bound = (c.requires.t_bound.0, own-packaged _ _ _ c.name_of-q.ensures c.requires.t_bound.1); scratch = c.requires.mark_words_in_bounds.1 }
+
+pub returns : goal.returns
+returns c =
+    record { result_value = selected-unmet _ _ c.requires.library _ c.requires.t_bound.0 c.iface_under.ensures _ c.if-iface_under.false c.name_of-q.ensures _ _ c.lookup_field_or_method-found.ensures.selects _ _ c.unmet_by.ensures.by_index; marks_unchanged = c.unmet_by.ensures.marks_unchanged; wide = c.lookup_field_or_method-found.ensures.wide }
