@@ -1,0 +1,17 @@
+-- `new_numbers` meets its contract.
+use Rattle.tidy.proofs.NumberLaws.{numbers-own, numbers-other, less_other}
+use Prim.Native.Nat.{◌-◌, ◌≤◌}
+use mathlib.Core.Path.{◌≡◌, refl, sym, ap, ◌∙◌}
+use mathlib.Core.Logic.{⊎_elim}
+use native.Mathlib.Omega.{arith}
+use lib.ListN.{length, length-set}
+use Rattle.tidy.specs.Numbers.{own_below, NewNumbers}
+use Rattle.tidy.proofs.NumberLaws.{own-more, own_same, own-few}
+use Rattle.tidy.proofs.numbers.new_numbers.Given as goal
+
+abbrev pub invariant-loop-t : goal.invariant-loop-t
+invariant-loop-t l =
+    (l.t ≤ l.count) × (length l.numbers ≡ length l.initial.numbers) × (l.left ≡ own_below l.twins l.t) × NewNumbers l.twins l.t l.numbers
+
+abbrev pub decreases-loop-t : goal.decreases-loop-t
+decreases-loop-t l = l.count - l.t

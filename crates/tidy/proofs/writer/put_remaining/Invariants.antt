@@ -1,0 +1,26 @@
+-- `put_remaining` meets its contract.
+-- the lines of number i
+use mathlib.Core.Path.{◌≡◌, refl, ◌∙◌}
+use Prim.Native.Nat.{ℕ, ◌+◌, ◌-◌, ◌≤◌}
+use lib.ListN.{length}
+use Rattle.objects.specs.Lists.{Bytes}
+use Rattle.objects.specs.Table.{type_key}
+use Rattle.objects.specs.Rows.{Words, type_count}
+use Rattle.print.specs.Written.{written}
+use Rattle.print.proofs.WrittenLaws.{wrote-length}
+use Rattle.table_text.proofs.Loops.{left_from, zero_room, zero-wrote, zero-place, zero-all, less_as}
+use Rattle.tidy.specs.Text.{own_text}
+use native.Mathlib.Omega.{arith}
+use Rattle.tidy.proofs.writer.put_remaining.Given as goal
+
+abbrev pub lines : Bytes → Words → Words → Words → ℕ → Bytes
+lines text rows twins numbers i = own_text text rows twins numbers (type_key i)
+
+abbrev pub invariant-loop-j : goal.invariant-loop-j
+invariant-loop-j l =
+    (written l.initial.out l.at (left_from (lines l.text l.rows l.twins l.numbers) 0 (type_count l.rows) 0) ≡ written l.out l.i (left_from (lines l.text l.rows l.twins l.numbers) 0 (type_count l.rows) l.j))
+    × (l.i + length (left_from (lines l.text l.rows l.twins l.numbers) 0 (type_count l.rows) l.j) ≡ l.at + length (left_from (lines l.text l.rows l.twins l.numbers) 0 (type_count l.rows) 0))
+    × (l.j ≤ l.count) × (length l.out ≡ length l.initial.out)
+
+abbrev pub decreases-loop-j : goal.decreases-loop-j
+decreases-loop-j l = l.count - l.j
