@@ -221,6 +221,9 @@ class Function:
                 left = left[1:]
             if at < len(names):
                 return ".".join(["c", step, parts[1], names[at], *left])
+        if parts[1:2] == ["type-inv"]:
+            parts[1] = "type_inv"
+            rest = "".join("." + p for p in parts[1:])
         if parts[1:2] == ["ensures"] and step in self.callee:
             return f"c.{step}.ensures" + self.index("ensures", self.callee[step], "".join("." + p for p in parts[2:]))
         return f"c.{step}{rest}"

@@ -1,6 +1,5 @@
 -- Lines and questions with other numbers: types by f, packages by p.
-use Rattle.std.specs.Prelude.{List, map}
-use Rattle.std.proofs.Math.Option.{Option}
+use Rattle.std.specs.Prelude.{map}
 use Rattle.objects.specs.Lists.{mapped}
 use Rattle.objects.specs.declared.TypeKey.{TypeKey}
 use Rattle.objects.specs.declared.PackageKey.{PackageKey}

@@ -1,6 +1,6 @@
 -- The fields of a line as words of 32 bits (src/fields.rt), from what the cursor's readers tell.
 use mathlib.Core.Path.{◌≡◌, refl, sym, ap, ◌∙◌}
-use mathlib.Core.Bool.{Bool, true, false, not, ◌&&◌}
+use mathlib.Core.Bool.{Bool, true, false, not}
 use mathlib.Core.List.{List, [], ◌∷◌}
 use mathlib.Core.Option.{Option, none, some}
 use Prim.Native.Nat.{ℕ, ◌-◌, ◌≤◌, ◌<◌}
@@ -24,7 +24,7 @@ use Rattle.text.specs.Cursors.{part, fields_left, exactly, part_read, num_read, 
 use Rattle.text.specs.Runs.{Exact}
 use Rattle.text.proofs.FieldLaws.{done-left}
 use Rattle.text.proofs.AnswerLaws.{num-on, num-out, part-on, part_out, past-on, past-out, none-some, passed, exactly-some, number-below, exact-within}
-use Rattle.rules.specs.Forms.{package_ref, field_name, method_name, tag}
+use Rattle.rules.specs.Forms.{field_name, tag}
 use Rattle.line_forms.specs.declared.Small.{Small}
 use Rattle.line_forms.specs.declared.Piece.{Piece}
 use Rattle.line_forms.specs.declared.Packaged.{Packaged}

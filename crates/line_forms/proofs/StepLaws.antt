@@ -11,7 +11,7 @@ use Rattle.objects.specs.declared.PackageKey.{PackageKey}
 use Rattle.objects.specs.Bounds.{max_reference, max_basic, max_array}
 use Rattle.objects.specs.Lists.{Bytes, when, mapped}
 use Rattle.objects.specs.Table.{Kind, Basic, Array, Slice, Pointer, Map, Chan, Tuple, Func, Named, Field, Method, type_key}
-use Rattle.objects.specs.Rows.{kind_of, entity_of, dir_at, members_from, elements_from}
+use Rattle.objects.specs.Rows.{kind_of, entity_of, dir_at, members_from}
 use Rattle.objects.proofs.ListLaws.{cases}
 use Rattle.text.specs.Bytes.{ascii, same_bytes, is_path, number}
 use Rattle.text.specs.Readers.{Reader, ◌>>=◌, field, others, done}

@@ -1,6 +1,6 @@
 -- The list of methods of an interface (`all_methods`). What other proofs know of it stands here: each of its methods stands under some interface, and what
 -- lines say of such a method.
-use mathlib.Core.Path.{◌≡◌, refl}
+use mathlib.Core.Path.{◌≡◌}
 use mathlib.Core.Bool.{true, false}
 use mathlib.Core.List.{[]}
 use borrow.Author.Tests.{eqb-true}

@@ -2,7 +2,7 @@
 use Rattle.std.specs.Prelude.{Bool, true, false, not, ℕ, zero, suc, eqb}
 use Rattle.objects.specs.Lists.{every}
 use Rattle.objects.specs.declared.TypeKey.{TypeKey}
-use Rattle.objects.specs.Table.{Table, size, Member, Kind, Basic, Array, Slice, Pointer, Map, Chan, Tuple, Func, Struct, Iface, Named, kind_at}
+use Rattle.objects.specs.Table.{Table, size, Kind, Basic, Array, Slice, Pointer, Map, Chan, Tuple, Func, Struct, Iface, Named, kind_at}
 
 -- "a named type is judged as its u; an array is comparable if its element is, a struct if all its fields are; `yes` also for pointer, interface, chan
 -- and every basic but UntypedNil; otherwise `no`", where R tells which types are comparable

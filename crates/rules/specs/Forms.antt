@@ -1,5 +1,5 @@
 -- The forms of the lines of a table (4): the fields of each, from left to right. Questions read their numbers and names alike.
-use Rattle.std.specs.Prelude.{Bool, cond, not, ◌&&◌, List, [], ◌∷◌, ℕ, eqb}
+use Rattle.std.specs.Prelude.{Bool, cond, not, ◌&&◌, List, [], ◌∷◌, eqb}
 use Rattle.std.proofs.Math.Option.{Option, none, some}
 use Rattle.objects.specs.Bounds.{max_reference, max_basic, max_array}
 use Rattle.objects.specs.Lists.{Bytes, when, mapped}

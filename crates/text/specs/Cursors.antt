@@ -1,5 +1,5 @@
 -- What a cursor has left to read, and what its answers mean: each reader of the code is the reader by fields of the same name.
-use Rattle.std.specs.Prelude.{Bool, cond, List, [], ◌∷◌, ℕ, zero, suc, ◌+◌, ◌-◌, eqb, take, drop}
+use Rattle.std.specs.Prelude.{cond, List, [], ◌∷◌, ℕ, zero, suc, ◌+◌, ◌-◌, eqb, take, drop}
 use Rattle.std.proofs.Math.Option.{Option, none, some}
 use Rattle.objects.specs.Lists.{Bytes, when}
 use Rattle.text.specs.declared.Cursor.{Cursor}

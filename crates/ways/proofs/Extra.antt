@@ -3,7 +3,7 @@ use mathlib.Core.Path.{◌≡◌, refl, sym, ap, ap₂, ◌∙◌}
 use mathlib.Core.Bool.{Bool, true, false, cond, not, ◌||◌}
 use mathlib.Core.List.{List, [], ◌∷◌, ◌++◌, map, append-nil}
 use mathlib.Core.Logic.{inl, inr}
-use Prim.Native.Nat.{ℕ, zero, suc, ◌+◌}
+use Prim.Native.Nat.{ℕ, zero, suc}
 use Rattle.objects.specs.Lists.{any, keep, flat, In}
 use Rattle.objects.proofs.ListLaws.{cases, clash, or-false, any_none, none-In, keep-none, In-keep, flat_append, any-ext, any-In-ext, or_l, or_r}
 use Rattle.objects.specs.declared.TypeKey.{TypeKey}

@@ -10,7 +10,7 @@ use Rattle.objects.proofs.ListLaws.{cases, clash, or-true, any_append, keep-weak
 use Rattle.objects.specs.declared.TypeKey.{TypeKey}
 use Rattle.rules.specs.Members.{Identity}
 use Rattle.rules.specs.Ways.{Place, Walk, Way}
-use Rattle.ways.specs.Graph.{Graph, Step, along, onward, walks, matching, ends, ways, shortest}
+use Rattle.ways.specs.Graph.{Graph, Step, along, onward, walks, matching, ends, shortest}
 use Rattle.ways.specs.Levels.{EmbeddedType, at, mark, raw, twin, merge, next, hit, found, verdict, unseen, search-levels, tied, folded}
 use Rattle.ways.proofs.Merge.{Lawful, Class, any-merge, merge-keep, merge-next}
 

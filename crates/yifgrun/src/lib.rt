@@ -199,26 +199,14 @@ fn call(table: &[u8], question: &[u8], answer: &mut [u8], work: &mut [u32], all:
 }
 
 // A question line without its newline.
-#[unsafe(no_mangle)]
-pub extern "C" fn yifgrun_ask(
-    table: &[u8],
-    question: &[u8],
-    answer: &mut [u8],
-    work: &mut [u32],
-) -> i64
+pub fn yifgrun_ask(table: &[u8], question: &[u8], answer: &mut [u8], work: &mut [u32]) -> i64
     ensures { Gives (asked table.now question.now answer.old work.old) result answer.new work.new }
 {
     call(table, question, answer, work, false)
 }
 
 // Question lines, of which the last may lack its newline. The table is loaded once.
-#[unsafe(no_mangle)]
-pub extern "C" fn yifgrun_ask_all(
-    table: &[u8],
-    questions: &[u8],
-    answers: &mut [u8],
-    work: &mut [u32],
-) -> i64
+pub fn yifgrun_ask_all(table: &[u8], questions: &[u8], answers: &mut [u8], work: &mut [u32]) -> i64
     ensures { Gives (asked_all table.now questions.now answers.old work.old) result answers.new work.new }
 {
     call(table, questions, answers, work, true)
@@ -226,8 +214,7 @@ pub extern "C" fn yifgrun_ask_all(
 
 // The table with only the least-numbered type of each set of identical types. It uses none of the work area, and has functions of its own for its rows: they
 // leave the frames of the other calls as they are.
-#[unsafe(no_mangle)]
-pub extern "C" fn yifgrun_tidy(table: &[u8], output: &mut [u8], work: &mut [u32]) -> i64
+pub fn yifgrun_tidy(table: &[u8], output: &mut [u8], work: &mut [u32]) -> i64
     ensures { Gives (tidied_call table.now output.old work.old) result output.new work.new }
 {
     if work.len() < WORK_WORDS {
@@ -241,16 +228,14 @@ pub extern "C" fn yifgrun_tidy(table: &[u8], output: &mut [u8], work: &mut [u32]
 }
 
 // The words of work area that a call needs: fewer are refusal 1.
-#[unsafe(no_mangle)]
-pub extern "C" fn yifgrun_work_words() -> usize
+pub fn yifgrun_work_words() -> usize
     ensures { result ≡ work_words }
 {
     WORK_WORDS
 }
 
 // The library's version as one number.
-#[unsafe(no_mangle)]
-pub extern "C" fn yifgrun_version() -> u32
+pub fn yifgrun_version() -> u32
     ensures { result ≡ version }
 {
     VERSION

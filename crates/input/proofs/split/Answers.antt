@@ -1,12 +1,8 @@
 -- `input::split` meets its contract.
-use mathlib.Core.Path.{◌≡◌, ◌∙◌}
-use Prim.Native.Nat.{◌-◌, ◌≤◌}
+use mathlib.Core.Path.{◌∙◌}
 use native.Mathlib.Omega.{arith}
-use lib.ListN.{length, take, drop}
-use Rattle.text.specs.Lines.{pieces}
 use Rattle.text.specs.Cursors.{part}
-use Rattle.rules.specs.Typeask.{input_of}
-use Rattle.input.proofs.InputLaws.{front, input-start, end-within, end-behind, split-whole, split-until, split-on}
+use Rattle.input.proofs.InputLaws.{input-start, end-within, end-behind, split-whole, split-until, split-on}
 use Rattle.input.proofs.split.Goals as goal
 
 pub loop-at-init : goal.loop-at-init
@@ -35,9 +31,9 @@ pub returns-then-is_q : goal.returns-then-is_q
 unfolding part
 returns-then-is_q c =
     record {
-  says = c.loop-at.invariant.0 ∙ split-until c.args.input.now _ c.loop-at.invariant.1 c.line_end-end.ensures c.if-end-input.false c.is_q.ensures c.if-is_q.true;
-  within = (c.loop-at.invariant.1, omega (arith, end-within c.args.input.now _ c.loop-at.invariant.1 c.line_end-end.ensures, c.if-end-input.false));
-}
+      says = c.loop-at.invariant.0 ∙ split-until c.args.input.now _ c.loop-at.invariant.1 c.line_end-end.ensures c.if-end-input.false c.is_q.ensures c.if-is_q.true;
+      within = (c.loop-at.invariant.1, omega (arith, end-within c.args.input.now _ c.loop-at.invariant.1 c.line_end-end.ensures, c.if-end-input.false));
+    }
 
 pub overflow_add-at : goal.overflow_add-at
 overflow_add-at c =
@@ -49,8 +45,7 @@ loop-at-smaller c =
 
 pub loop-at-preserved : goal.loop-at-preserved
 unfolding part
-loop-at-preserved c =
-    (
+loop-at-preserved c = (
   c.loop-at.invariant.0 ∙ split-on c.args.input.now _ c.loop-at.invariant.1 c.line_end-end.ensures c.if-end-input.false c.is_q.ensures c.if-is_q.false,
   omega (arith, end-within c.args.input.now _ c.loop-at.invariant.1 c.line_end-end.ensures, c.if-end-input.false),
 )

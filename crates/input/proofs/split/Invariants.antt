@@ -1,12 +1,10 @@
 -- `input::split` meets its contract.
-use mathlib.Core.Path.{◌≡◌, ◌∙◌}
+use mathlib.Core.Path.{◌≡◌}
 use Prim.Native.Nat.{◌-◌, ◌≤◌}
-use native.Mathlib.Omega.{arith}
 use lib.ListN.{length, take, drop}
 use Rattle.text.specs.Lines.{pieces}
-use Rattle.text.specs.Cursors.{part}
 use Rattle.rules.specs.Typeask.{input_of}
-use Rattle.input.proofs.InputLaws.{front, input-start, end-within, end-behind, split-whole, split-until, split-on}
+use Rattle.input.proofs.InputLaws.{front}
 use Rattle.input.proofs.split.Given as goal
 
 abbrev pub invariant-loop-at : goal.invariant-loop-at

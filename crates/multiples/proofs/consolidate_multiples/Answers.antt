@@ -2,10 +2,9 @@
 use mathlib.Core.Path.{◌≡◌, refl, ap, ◌∙◌}
 use mathlib.Core.List.{[]}
 use mathlib.Core.Logic.{◌≢◌}
-use Prim.Native.Nat.{◌-◌, ◌≤◌}
 use native.Mathlib.Omega.{arith}
 use lib.ListN.{length, get_or, length-set}
-use Rattle.multiples.proofs.MarkLaws.{Absent, marked-first, marked-none, type-read, absent_more, absent-all}
+use Rattle.multiples.proofs.MarkLaws.{marked-first, marked-none, type-read, absent_more, absent-all}
 use Rattle.multiples.proofs.consolidate_multiples.Goals as goal
 
 pub loop-i-init : goal.loop-i-init

@@ -1,11 +1,8 @@
 -- `consolidate_multiples`: the records passed are of other types.
-use mathlib.Core.Path.{◌≡◌, refl, ap, ◌∙◌}
-use mathlib.Core.List.{[]}
-use mathlib.Core.Logic.{◌≢◌}
+use mathlib.Core.Path.{◌≡◌}
 use Prim.Native.Nat.{◌-◌, ◌≤◌}
-use native.Mathlib.Omega.{arith}
-use lib.ListN.{length, get_or, length-set}
-use Rattle.multiples.proofs.MarkLaws.{Absent, marked-first, marked-none, type-read, absent_more, absent-all}
+use lib.ListN.{length}
+use Rattle.multiples.proofs.MarkLaws.{Absent}
 use Rattle.multiples.proofs.consolidate_multiples.Given as goal
 
 abbrev pub invariant-loop-i : goal.invariant-loop-i

@@ -1,10 +1,5 @@
 -- `obj::order_parts` meets its contract. The invariant: the order of the ids is their order from `i` on. The measure is what is left of the first.
-use mathlib.Core.Path.{◌≡◌, refl, sym, ◌∙◌}
-use Prim.Native.Nat.{◌-◌}
-use native.Mathlib.Omega.{arith}
-use lib.ListN.{drop}
-use Rattle.text.specs.Compare.{order_of}
-use Rattle.obj.specs.Ids.{joined}
+use mathlib.Core.Path.{sym, ◌∙◌}
 use Rattle.obj.proofs.IdLaws.{ids-end, ids-part, ids_whole, ids-less, ids-greater, ids_next}
 use Rattle.obj.proofs.order_parts.Goals as goal
 

@@ -1,6 +1,5 @@
 -- `obj::same_before` meets its contract.
 use mathlib.Core.Path.{refl}
-use lib.Dec.{eqb}
 use borrow.Author.Tests.{eqb-true}
 use Rattle.objects.proofs.ListLaws.{clash}
 use Rattle.obj.proofs.same_before.Goals as goal

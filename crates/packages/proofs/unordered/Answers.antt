@@ -1,12 +1,8 @@
 -- `packages::unordered` meets its contract: up to package p the paths ascend, and what 14 finds is what it finds from p on.
-use mathlib.Core.Path.{◌≡◌, sym, ◌∙◌}
-use Prim.Native.Nat.{◌-◌, ◌<◌}
+use mathlib.Core.Path.{sym, ◌∙◌}
 use native.Mathlib.Omega.{arith}
-use Rattle.objects.specs.Rows.{table_of}
-use Rattle.rules.specs.Stages.{first_unordered}
-use Rattle.rules.proofs.PathLaws.{found_from, paths-start}
+use Rattle.rules.proofs.PathLaws.{paths-start}
 use Rattle.packages.proofs.PathRows.{from_on, from-stop, from_end}
-use borrow.Author.Tests.{not-true, not-false}
 use Rattle.packages.proofs.unordered.Goals as goal
 
 pub loop-p-init : goal.loop-p-init

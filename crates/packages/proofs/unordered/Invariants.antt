@@ -1,12 +1,9 @@
 -- `packages::unordered` meets its contract: up to package p the paths ascend, and what 14 finds is what it finds from p on.
-use mathlib.Core.Path.{◌≡◌, sym, ◌∙◌}
+use mathlib.Core.Path.{◌≡◌}
 use Prim.Native.Nat.{◌-◌, ◌<◌}
-use native.Mathlib.Omega.{arith}
 use Rattle.objects.specs.Rows.{table_of}
 use Rattle.rules.specs.Stages.{first_unordered}
-use Rattle.rules.proofs.PathLaws.{found_from, paths-start}
-use Rattle.packages.proofs.PathRows.{from_on, from-stop, from_end}
-use borrow.Author.Tests.{not-true, not-false}
+use Rattle.rules.proofs.PathLaws.{found_from}
 use Rattle.packages.proofs.unordered.Given as goal
 
 abbrev pub invariant-loop-p : goal.invariant-loop-p

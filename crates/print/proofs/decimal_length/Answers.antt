@@ -1,8 +1,4 @@
 use native.Mathlib.Omega.{arith}
-use Prim.Native.Nat.{◌+◌, ◌^◌, ◌<◌}
-use mathlib.Core.Path.{◌≡◌}
-use lib.ListN.{length}
-use Rattle.text.specs.Bytes.{decimal}
 use Rattle.print.proofs.DecimalLaws.{decimal-any, decimal-one, decimal-more}
 use Rattle.print.proofs.decimal_length.Goals as goal
 

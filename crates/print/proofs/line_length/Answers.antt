@@ -1,8 +1,5 @@
 use native.Mathlib.Omega.{arith}
-use Prim.Native.Nat.{◌+◌, ◌-◌, ◌≤◌}
-use mathlib.Core.Path.{◌≡◌}
-use lib.ListN.{length, take, drop, get_or}
-use Rattle.print.specs.Written.{number_line, line_end}
+use lib.ListN.{take, get_or}
 use Rattle.print.proofs.DecimalLaws.{decimal-any}
 use Rattle.print.proofs.LineLaws.{line-length, line-short, next-length, last-length}
 use Rattle.print.proofs.line_length.Goals as goal

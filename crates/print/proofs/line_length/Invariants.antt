@@ -1,10 +1,7 @@
-use native.Mathlib.Omega.{arith}
 use Prim.Native.Nat.{◌+◌, ◌-◌, ◌≤◌}
 use mathlib.Core.Path.{◌≡◌}
-use lib.ListN.{length, take, drop, get_or}
+use lib.ListN.{length, take, drop}
 use Rattle.print.specs.Written.{number_line, line_end}
-use Rattle.print.proofs.DecimalLaws.{decimal-any}
-use Rattle.print.proofs.LineLaws.{line-length, line-short, next-length, last-length}
 use Rattle.print.proofs.line_length.Given as goal
 
 abbrev pub invariant-loop-j : goal.invariant-loop-j

@@ -1,8 +1,7 @@
 use native.Mathlib.Omega.{arith}
-use Prim.Native.Nat.{◌≤◌}
-use mathlib.Core.Path.{◌≡◌, refl, ◌∙◌}
-use lib.ListN.{length, drop, length-set}
-use Rattle.text.specs.Bytes.{decimal, digits_on}
+use mathlib.Core.Path.{refl, ◌∙◌}
+use lib.ListN.{length-set}
+use Rattle.text.specs.Bytes.{decimal}
 use Rattle.print.proofs.WrittenLaws.{digits-part, digits-next, digits-full, wrote_as, room_as}
 use Rattle.print.proofs.put_decimal.Goals as goal
 

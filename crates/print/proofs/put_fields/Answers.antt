@@ -1,8 +1,6 @@
 use native.Mathlib.Omega.{arith}
-use Prim.Native.Nat.{◌+◌, ◌-◌, ◌≤◌}
-use mathlib.Core.Path.{◌≡◌, refl, ◌∙◌}
-use lib.ListN.{length, take, drop, length-set}
-use Rattle.print.specs.Written.{written, line_end}
+use mathlib.Core.Path.{◌∙◌}
+use lib.ListN.{length-set}
 use Rattle.print.proofs.LineLaws.{next-length, last-length, fields-next, fields-end}
 use Rattle.print.proofs.WrittenLaws.{wrote-length}
 use Rattle.print.proofs.put_fields.Goals as goal
@@ -11,8 +9,7 @@ pub put_field-i-requires : goal.put_field-i-requires
 put_field-i-requires c = omega (arith, next-length c.args.ns.now c.args.n c.loop-j.j (omega arith) c.loop-j-test.true)
 
 pub loop-j-preserved : goal.loop-j-preserved
-loop-j-preserved c =
-    (
+loop-j-preserved c = (
   c.loop-j.invariant.0 ∙ fields-next c.args.ns.now _ c.loop-j.j (omega arith) c.loop-j-test.true c.put_field-i.ensures,
   omega (arith, next-length c.args.ns.now c.args.n c.loop-j.j (omega arith) c.loop-j-test.true, c.put_field-i.ensures.past),
   omega arith,

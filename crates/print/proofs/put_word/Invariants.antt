@@ -1,9 +1,7 @@
-use native.Mathlib.Omega.{arith}
 use Prim.Native.Nat.{◌+◌, ◌-◌, ◌≤◌}
-use mathlib.Core.Path.{◌≡◌, refl, sym, ◌∙◌}
-use lib.ListN.{length, drop, length-set}
+use mathlib.Core.Path.{◌≡◌}
+use lib.ListN.{length, drop}
 use Rattle.print.specs.Written.{written}
-use Rattle.print.proofs.WrittenLaws.{written_next, written-end}
 use Rattle.print.proofs.put_word.Given as goal
 
 abbrev pub invariant-loop-j : goal.invariant-loop-j

@@ -1,11 +1,6 @@
-use mathlib.Core.Path.{◌≡◌, sym, ◌∙◌}
-use Prim.Native.Nat.{◌-◌}
-use native.Mathlib.Omega.{arith}
-use Rattle.objects.specs.Lists.{Bytes}
+use mathlib.Core.Path.{sym, ◌∙◌}
 use Rattle.objects.specs.Rows.{table_of}
-use Rattle.rules.specs.Checks.{items}
-use Rattle.rules.specs.Stages.{first_item}
-use Rattle.rules.proofs.ItemLaws.{types_left, types-start}
+use Rattle.rules.proofs.ItemLaws.{types-start}
 use Rattle.references.specs.Tests.{fails}
 use Rattle.references.proofs.Walking.{table_on, table-stop, table-end}
 use Rattle.references.proofs.first_line.Goals as goal

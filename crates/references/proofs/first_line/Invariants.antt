@@ -1,13 +1,11 @@
-use mathlib.Core.Path.{◌≡◌, sym, ◌∙◌}
+use mathlib.Core.Path.{◌≡◌}
 use Prim.Native.Nat.{◌-◌}
-use native.Mathlib.Omega.{arith}
 use Rattle.objects.specs.Lists.{Bytes}
 use Rattle.objects.specs.Rows.{table_of}
 use Rattle.rules.specs.Checks.{items}
 use Rattle.rules.specs.Stages.{first_item}
-use Rattle.rules.proofs.ItemLaws.{types_left, types-start}
+use Rattle.rules.proofs.ItemLaws.{types_left}
 use Rattle.references.specs.Tests.{fails}
-use Rattle.references.proofs.Walking.{table_on, table-stop, table-end}
 use Rattle.references.proofs.first_line.Given as goal
 
 abbrev pub invariant-loop-t : goal.invariant-loop-t

@@ -1,11 +1,8 @@
-use mathlib.Core.Path.{◌≡◌, sym, ◌∙◌}
-use Prim.Native.Nat.{◌-◌}
+use mathlib.Core.Path.{sym, ◌∙◌}
 use native.Mathlib.Omega.{arith}
-use Rattle.objects.specs.Lists.{Bytes}
 use Rattle.objects.specs.Table.{kind_at}
 use Rattle.objects.specs.Rows.{table_of}
-use Rattle.rules.specs.Stages.{first_item, lines_under}
-use Rattle.rules.proofs.ItemLaws.{members_left, members-start}
+use Rattle.rules.proofs.ItemLaws.{members-start}
 use Rattle.references.specs.Tests.{fails}
 use Rattle.references.proofs.RowKinds.{lines_fit, some-lines}
 use Rattle.references.proofs.Walking.{under-on, under-stop, under-end}

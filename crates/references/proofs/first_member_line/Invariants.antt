@@ -1,14 +1,11 @@
-use mathlib.Core.Path.{◌≡◌, sym, ◌∙◌}
+use mathlib.Core.Path.{◌≡◌}
 use Prim.Native.Nat.{◌-◌}
-use native.Mathlib.Omega.{arith}
 use Rattle.objects.specs.Lists.{Bytes}
 use Rattle.objects.specs.Table.{kind_at}
 use Rattle.objects.specs.Rows.{table_of}
 use Rattle.rules.specs.Stages.{first_item, lines_under}
-use Rattle.rules.proofs.ItemLaws.{members_left, members-start}
+use Rattle.rules.proofs.ItemLaws.{members_left}
 use Rattle.references.specs.Tests.{fails}
-use Rattle.references.proofs.RowKinds.{lines_fit, some-lines}
-use Rattle.references.proofs.Walking.{under-on, under-stop, under-end}
 use Rattle.references.proofs.first_member_line.Given as goal
 
 abbrev pub invariant-loop-i : goal.invariant-loop-i

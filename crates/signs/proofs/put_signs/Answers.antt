@@ -1,10 +1,6 @@
 -- `signs::put_signs` meets its contract. The invariant: the members before m are signed.
 use Rattle.std.proofs.Common.{rules}
-use mathlib.Core.Path.{◌≡◌}
-use Prim.Native.Nat.{◌-◌, ◌≤◌}
 use native.Mathlib.Omega.{arith}
-use lib.ListN.{length}
-use Rattle.signs.specs.Signing.{Signing}
 use Rattle.signs.proofs.SignLaws.{signing-none, signing-here, signing-room, signing-on, signing_end}
 use Rattle.signs.proofs.put_signs.Goals as goal
 

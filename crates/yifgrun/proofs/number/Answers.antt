@@ -12,7 +12,7 @@ overflow_cast-result c = record { sfits = subst Fits c.in-Said.is c.requires }
 
 pub returns-in-Refused : goal.returns-in-Refused
 unfolding number_read
-returns-in-Refused c = back _ c.refusal.type-inv ∙ c.refusal.ensures ∙ sym (ap number_read c.in-Refused.is)
+returns-in-Refused c = back _ c.refusal.type_inv ∙ c.refusal.ensures ∙ sym (ap number_read c.in-Refused.is)
 
 pub returns-in-Said : goal.returns-in-Said
 unfolding number_read Fits
@@ -20,4 +20,4 @@ returns-in-Said c = to_z_pos w64 c.in-Said.n (subst Fits c.in-Said.is c.requires
 
 pub returns-in-Long : goal.returns-in-Long
 unfolding number_read
-returns-in-Long c = back _ c.refusal-in-Long.type-inv ∙ c.refusal-in-Long.ensures ∙ sym (ap number_read c.in-Long.is)
+returns-in-Long c = back _ c.refusal-in-Long.type_inv ∙ c.refusal-in-Long.ensures ∙ sym (ap number_read c.in-Long.is)

@@ -4,4 +4,4 @@ use Rattle.yifgrun.proofs.Asking.{gives_one, gives-number}
 use Rattle.yifgrun.proofs.yifgrun_ask.Goals as goal
 
 pub returns : goal.returns
-returns c = gives_one _ _ _ _ (gives-number (back _ c.call.type-inv) c.call.ensures)
+returns c = gives_one _ _ _ _ (gives-number (back _ c.call.type_inv) c.call.ensures)

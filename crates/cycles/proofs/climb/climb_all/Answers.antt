@@ -1,10 +1,5 @@
 -- `cycles::climb::climb_all` meets its contract.
 use Rattle.std.proofs.Common.{rules}
-use mathlib.Core.Path.{◌≡◌}
-use Prim.Native.Nat.{◌-◌}
-use native.Mathlib.Omega.{arith}
-use lib.ListN.{length}
-use Rattle.cycles.specs.Ranking.{Advanced}
 use Rattle.cycles.proofs.RankLaws.{advanced-self, advanced-on}
 use Rattle.cycles.proofs.climb.climb_all.Goals as goal
 

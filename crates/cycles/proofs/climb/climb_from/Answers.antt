@@ -1,11 +1,6 @@
 -- `cycles::climb::climb_from` meets its contract.
 use Rattle.std.proofs.Common.{rules}
-use mathlib.Core.Path.{◌≡◌}
-use Prim.Native.Nat.{◌≤◌}
 use native.Mathlib.Omega.{arith}
-use lib.ListN.{length}
-use Rattle.objects.specs.Bounds.{max_types}
-use Rattle.cycles.specs.Ranking.{Advanced}
 use Rattle.cycles.proofs.RankLaws.{advanced-self, advanced-on}
 use Rattle.cycles.proofs.climb.climb_from.Goals as goal
 

@@ -20,7 +20,7 @@ pub returns-then-x-type_count : goal.returns-then-x-type_count
 returns-then-x-type_count c = c.visit.ensures
 
 pub returns-else-x-type_count : goal.returns-else-x-type_count
-returns-else-x-type_count c =     record {
-      advanced = advanced-self _ _ c.requires.0;
-      top_le_max_types = omega (arith, c.requires.3);
-    }
+returns-else-x-type_count c = record {
+  advanced = advanced-self _ _ c.requires.0;
+  top_le_max_types = omega (arith, c.requires.3);
+}

@@ -42,14 +42,14 @@ pub shape_of-scratch : goal.shape_of-scratch
 shape_of-scratch c = c.push.auto.scratch ∙ (simp length-set)
 
 pub returns-then-i-content_total : goal.returns-then-i-content_total
-returns-then-i-content_total c = 
+returns-then-i-content_total c =
     record {
       advanced = advanced-self _ _ c.requires.0;
       top_le_max_types = c.push.ensures;
     }
 
 pub returns-else-i-content_total : goal.returns-else-i-content_total
-returns-else-i-content_total c =     record {
-      advanced = advanced-given _ _ _ _ _ c.give.ensures;
-      top_le_max_types = omega (arith, c.requires.4);
-    }
+returns-else-i-content_total c = record {
+  advanced = advanced-given _ _ _ _ _ c.give.ensures;
+  top_le_max_types = omega (arith, c.requires.4);
+}

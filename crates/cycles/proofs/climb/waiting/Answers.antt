@@ -1,6 +1,4 @@
 -- `cycles::climb::waiting` meets its contract.
-use Prim.Native.Nat.{◌-◌}
-use native.Mathlib.Omega.{arith}
 use Rattle.cycles.proofs.climb.waiting.Goals as goal
 
 pub content-requires : goal.content-requires

@@ -1,6 +1,5 @@
 -- `cycles::climb::waiting` meets its contract.
 use Prim.Native.Nat.{◌-◌}
-use native.Mathlib.Omega.{arith}
 use Rattle.cycles.proofs.climb.waiting.Given as goal
 
 abbrev pub invariant-loop-i : goal.invariant-loop-i

@@ -1,8 +1,6 @@
 use Prim.Native.Nat.{ℕ, ◌-◌, ◌<◌, ◌≤◌}
-use native.Mathlib.Omega.{arith}
 use Rattle.rules.specs.Library.{rank_read}
 use Rattle.cycles.specs.Contents.{content_read}
-use Rattle.cycles.proofs.RankLaws.{all_yes, all-no, all_more}
 use Rattle.cycles.proofs.ranks.all_ranked.Given as goal
 
 abbrev pub invariant-loop-i : goal.invariant-loop-i

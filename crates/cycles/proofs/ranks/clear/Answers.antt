@@ -1,9 +1,5 @@
 use Rattle.std.proofs.Common.{rules}
-use mathlib.Core.Path.{◌≡◌}
-use Prim.Native.Nat.{◌-◌, ◌≤◌}
 use native.Mathlib.Omega.{arith}
-use lib.ListN.{length}
-use Rattle.cycles.specs.Ranking.{Cleared}
 use Rattle.cycles.proofs.RankLaws.{clear-start, clear_in, clear-more, clear-end}
 use Rattle.cycles.proofs.ranks.clear.Goals as goal
 

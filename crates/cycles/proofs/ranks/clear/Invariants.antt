@@ -1,9 +1,7 @@
 use mathlib.Core.Path.{◌≡◌}
 use Prim.Native.Nat.{◌-◌, ◌≤◌}
-use native.Mathlib.Omega.{arith}
 use lib.ListN.{length}
 use Rattle.cycles.specs.Ranking.{Cleared}
-use Rattle.cycles.proofs.RankLaws.{clear-start, clear_in, clear-more, clear-end}
 use Rattle.cycles.proofs.ranks.clear.Given as goal
 
 abbrev pub invariant-loop-t : goal.invariant-loop-t

@@ -1,9 +1,5 @@
 use Rattle.std.proofs.Common.{rules}
-use mathlib.Core.Path.{◌≡◌}
-use Prim.Native.Nat.{◌-◌, ◌≤◌}
 use native.Mathlib.Omega.{arith}
-use lib.ListN.{length}
-use Rattle.cycles.specs.Ranking.{Passing}
 use Rattle.cycles.proofs.RankLaws.{pass-start, pass-in, pass-more, pass-end}
 use Rattle.cycles.proofs.ranks.pass.Goals as goal
 

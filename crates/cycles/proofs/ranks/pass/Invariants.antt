@@ -1,9 +1,7 @@
 use mathlib.Core.Path.{◌≡◌}
 use Prim.Native.Nat.{◌-◌, ◌≤◌}
-use native.Mathlib.Omega.{arith}
 use lib.ListN.{length}
 use Rattle.cycles.specs.Ranking.{Passing}
-use Rattle.cycles.proofs.RankLaws.{pass-start, pass-in, pass-more, pass-end}
 use Rattle.cycles.proofs.ranks.pass.Given as goal
 
 abbrev pub invariant-loop-t : goal.invariant-loop-t

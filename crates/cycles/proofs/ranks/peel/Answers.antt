@@ -1,11 +1,7 @@
 use Rattle.std.proofs.Common.{rules}
-use mathlib.Core.Path.{◌≡◌}
-use Prim.Native.Nat.{suc, ◌-◌}
 use native.Mathlib.Omega.{arith}
-use lib.ListN.{length}
-use Rattle.objects.specs.Rows.{type_count}
 use Rattle.cycles.proofs.LineLaws.{refers-within}
-use Rattle.cycles.proofs.RankLaws.{advanced-passed, Peeling, peel-start, peel-given, peel-less, peel-more, peel-end}
+use Rattle.cycles.proofs.RankLaws.{advanced-passed, peel-start, peel-given, peel-less, peel-more, peel-end}
 use Rattle.cycles.proofs.ranks.peel.Goals as goal
 
 pub pass-most-requires : goal.pass-most-requires

@@ -1,10 +1,8 @@
 use mathlib.Core.Path.{◌≡◌}
 use Prim.Native.Nat.{suc, ◌-◌}
-use native.Mathlib.Omega.{arith}
 use lib.ListN.{length}
 use Rattle.objects.specs.Rows.{type_count}
-use Rattle.cycles.proofs.LineLaws.{refers-within}
-use Rattle.cycles.proofs.RankLaws.{advanced-passed, Peeling, peel-start, peel-given, peel-less, peel-more, peel-end}
+use Rattle.cycles.proofs.RankLaws.{Peeling}
 use Rattle.cycles.proofs.ranks.peel.Given as goal
 
 abbrev pub invariant-loop-last : goal.invariant-loop-last

@@ -1,8 +1,6 @@
 use Prim.Native.Nat.{◌-◌, ◌<◌, ◌≤◌}
-use native.Mathlib.Omega.{arith}
 use Rattle.objects.specs.declared.TypeKey.{TypeKey}
 use Rattle.cycles.specs.Contents.{Back}
-use Rattle.cycles.proofs.LineLaws.{clear-more, finds-none, finds-some}
 use Rattle.cycles.proofs.search.first_back.Given as goal
 
 abbrev pub invariant-loop-t : goal.invariant-loop-t

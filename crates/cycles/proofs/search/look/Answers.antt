@@ -1,10 +1,5 @@
 use Rattle.std.proofs.Common.{rules}
-use mathlib.Core.Path.{◌≡◌}
-use Prim.Native.Nat.{◌-◌}
 use native.Mathlib.Omega.{arith}
-use lib.ListN.{length}
-use Rattle.objects.specs.Bounds.{max_types}
-use Rattle.cycles.specs.Search.{Searched}
 use Rattle.cycles.proofs.SearchLaws.{queue-few, in-table, search-found, search-more, search-none}
 use Rattle.cycles.proofs.search.look.Goals as goal
 

@@ -1,10 +1,8 @@
 use mathlib.Core.Path.{◌≡◌}
 use Prim.Native.Nat.{◌-◌}
-use native.Mathlib.Omega.{arith}
 use lib.ListN.{length}
 use Rattle.objects.specs.Bounds.{max_types}
 use Rattle.cycles.specs.Search.{Searched}
-use Rattle.cycles.proofs.SearchLaws.{queue-few, in-table, search-found, search-more, search-none}
 use Rattle.cycles.proofs.search.look.Given as goal
 
 abbrev pub invariant-loop-done : goal.invariant-loop-done

@@ -1,9 +1,5 @@
 use Rattle.std.proofs.Common.{rules}
-use mathlib.Core.Path.{◌≡◌}
-use Prim.Native.Nat.{◌-◌, ◌≤◌}
 use native.Mathlib.Omega.{arith}
-use lib.ListN.{length}
-use Rattle.cycles.specs.Search.{Meets}
 use Rattle.cycles.proofs.SearchLaws.{meet-start, content-small, meet-more, meet-end}
 use Rattle.cycles.proofs.search.meet.Goals as goal
 

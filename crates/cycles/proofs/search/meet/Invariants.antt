@@ -1,9 +1,7 @@
 use mathlib.Core.Path.{◌≡◌}
 use Prim.Native.Nat.{◌-◌, ◌≤◌}
-use native.Mathlib.Omega.{arith}
 use lib.ListN.{length}
 use Rattle.cycles.specs.Search.{Meets}
-use Rattle.cycles.proofs.SearchLaws.{meet-start, content-small, meet-more, meet-end}
 use Rattle.cycles.proofs.search.meet.Given as goal
 
 abbrev pub invariant-loop-i : goal.invariant-loop-i

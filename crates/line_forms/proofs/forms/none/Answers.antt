@@ -1,5 +1,5 @@
 -- `line_forms::forms::none` meets its contract.
-use mathlib.Core.Path.{refl, sym, ◌∙◌}
+use mathlib.Core.Path.{refl, sym}
 use Rattle.line_forms.proofs.Chain.{ended-yes, ended-no}
 use Rattle.line_forms.specs.Forms.{form_read, form_meant, unread}
 use Rattle.line_forms.specs.Steps.{none_rest}

@@ -1,9 +1,8 @@
 use Rattle.std.proofs.Common.{rules}
-use mathlib.Core.Path.{◌≡◌, sym, ◌∙◌}
-use Prim.Native.Nat.{◌-◌, ◌≤◌}
+use mathlib.Core.Path.{sym, ◌∙◌}
 use native.Mathlib.Omega.{arith}
-use lib.ListN.{length, length-set}
-use Rattle.pair_marks.proofs.JoinLaws.{label-old, label-other, Changed, changed-none, changed-more, changed-all}
+use lib.ListN.{length-set}
+use Rattle.pair_marks.proofs.JoinLaws.{label-old, label-other, changed-none, changed-more, changed-all}
 use Rattle.pair_marks.proofs.classes.relabel.Goals as goal
 use Rattle.pair_marks.proofs.classes.relabel.Goals.{then-c-old, else-c-old}
 
@@ -11,8 +10,7 @@ pub loop-i-init : goal.loop-i-init
 loop-i-init c = (search rules, search rules, changed-none _ _ c.args.labels.now)
 
 pub loop-i-preserved : goal.loop-i-preserved
-loop-i-preserved c =
-    (
+loop-i-preserved c = (
   simp length-set (omega arith),
   simp length-set (omega arith),
   changed-more c.args.new c.args.old c.args.labels.now c.loop-i.labels c.loop-i.i c.if-c-old.labels c.loop-i-test.true

@@ -1,9 +1,7 @@
-use mathlib.Core.Path.{◌≡◌, sym, ◌∙◌}
-use mathlib.Core.Logic.{⊎_elim}
+use mathlib.Core.Path.{◌≡◌}
 use Prim.Native.Nat.{◌-◌, ◌≤◌}
-use native.Mathlib.Omega.{arith}
-use lib.ListN.{length, length-set}
-use Rattle.pair_marks.proofs.JoinLaws.{label-old, label-other, Changed, changed-none, changed-more, changed-all}
+use lib.ListN.{length}
+use Rattle.pair_marks.proofs.JoinLaws.{Changed}
 use Rattle.pair_marks.proofs.classes.relabel.Given as goal
 
 abbrev pub invariant-loop-i : goal.invariant-loop-i

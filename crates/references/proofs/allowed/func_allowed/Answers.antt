@@ -1,5 +1,3 @@
-use Rattle.objects.proofs.ListLaws.{un_not}
-use Rattle.objects.proofs.BoolLaws.{not_yes}
 use mathlib.Core.List.{[]}
 use Rattle.objects.specs.Table.{type_key}
 use Rattle.references.proofs.Allowing.{tuple-there, func-row-first, func-row-second, func-row-plain, func-row-variadic}

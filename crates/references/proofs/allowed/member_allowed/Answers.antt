@@ -1,5 +1,3 @@
-use Rattle.objects.proofs.ListLaws.{un_not}
-use Rattle.objects.proofs.BoolLaws.{not_yes}
 use Rattle.references.proofs.Allowing.{line-method, line-field, line-embedded}
 use Rattle.references.proofs.allowed.member_allowed.Goals as goal
 

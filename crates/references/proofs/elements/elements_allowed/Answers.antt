@@ -1,13 +1,8 @@
 use Rattle.std.proofs.Common.{rules}
-use mathlib.Core.Path.{◌≡◌, refl, sym, ◌∙◌}
-use mathlib.Core.Bool.{true}
-use Prim.Native.Nat.{◌≤◌}
+use mathlib.Core.Path.{refl, sym, ◌∙◌}
 use native.Mathlib.Omega.{arith}
-use lib.ListN.{drop}
-use Rattle.objects.specs.Lists.{Bytes, every}
-use Rattle.objects.specs.Rows.{elements_from, table_of}
-use Rattle.objects.proofs.ListLaws.{un_not}
-use Rattle.objects.proofs.BoolLaws.{and_i, not_yes}
+use Rattle.objects.specs.Rows.{table_of}
+use Rattle.objects.proofs.BoolLaws.{and_i}
 use Rattle.rules.specs.Checks.{may_refer}
 use Rattle.references.proofs.RowKinds.{places-there}
 use Rattle.references.proofs.Referring.{elements-none, elements-all, elements-on, elements-stop, elements-of}

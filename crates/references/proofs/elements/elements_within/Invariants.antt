@@ -1,12 +1,9 @@
-use mathlib.Core.Path.{◌≡◌, ◌∙◌}
+use mathlib.Core.Path.{◌≡◌}
 use Prim.Native.Nat.{◌≤◌}
-use native.Mathlib.Omega.{arith}
 use lib.ListN.{drop}
 use Rattle.objects.specs.Lists.{Bytes, every}
 use Rattle.objects.specs.Table.{has_type}
 use Rattle.objects.specs.Rows.{elements_from, table_of}
-use Rattle.references.proofs.RowKinds.{places-there}
-use Rattle.references.proofs.Referring.{type-had, elements-none, elements-all, elements-on, elements-of}
 use Rattle.references.proofs.elements.elements_within.Given as goal
 
 abbrev pub invariant-loop-i : goal.invariant-loop-i

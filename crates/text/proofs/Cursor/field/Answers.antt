@@ -7,7 +7,6 @@ use Rattle.text.proofs.Cursor.field.Goals as goal
 
 pub returns-in-To : goal.returns-in-To
 returns-in-To c =
-    
     record {
       result_value = field_is c.args.s.now c.args.self c.if-more.true c.until-to.ensures c.behind.ensures c.in-To.is;
       exact = field-exact c.args.s.now c.args.self _ c.until-to.ensures;
@@ -19,7 +18,7 @@ returns-in-Wrong c =
 
 pub returns-else-more : goal.returns-else-more
 unfolding part_read
-returns-else-more c =     record {
-      result_value = sym (none_left c.args.s.now c.args.self some c.if-more.false);
-      exact = wrong-exact c.args.s.now;
-    }
+returns-else-more c = record {
+  result_value = sym (none_left c.args.s.now c.args.self some c.if-more.false);
+  exact = wrong-exact c.args.s.now;
+}

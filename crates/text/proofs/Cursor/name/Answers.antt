@@ -5,7 +5,6 @@ use Rattle.text.proofs.Cursor.name.Goals as goal
 
 pub returns-in_default : goal.returns-in_default
 returns-in_default c =
-    
     record {
       result_value = name-wrong c.args.s.now c.args.self c.name_end-stop.ensures c.closed.ensures c.in_default.is;
       exact = wrong-exact c.args.s.now;
@@ -16,7 +15,6 @@ bounds-s-from c = name-within c.args.s.now c.args.self c.name_end-stop.ensures c
 
 pub returns-then-digit : goal.returns-then-digit
 returns-then-digit c =
-    
     record {
       result_value = name-digit c.args.s.now c.args.self c.name_end-stop.ensures c.closed.ensures c.in-Is.is c.wide.ensures c.digit.ensures c.if-digit.true;
       exact = wrong-exact c.args.s.now;
@@ -24,7 +22,7 @@ returns-then-digit c =
 
 pub returns-else-digit : goal.returns-else-digit
 returns-else-digit c =
-        record {
+    record {
       result_value = name-is c.args.s.now c.args.self c.name_end-stop.ensures c.closed.ensures c.in-Is.is c.wide.ensures c.digit.ensures c.if-digit.false;
       exact = name-exact c.args.s.now c.args.self c.name_end-stop.ensures c.closed.ensures c.in-Is.is c.wide.ensures c.digit.ensures;
     }

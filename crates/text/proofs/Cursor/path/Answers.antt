@@ -5,7 +5,6 @@ use Rattle.text.proofs.Cursor.path.Goals as goal
 
 pub returns-in_default : goal.returns-in_default
 returns-in_default c =
-    
     record {
       result_value = path-wrong c.args.s.now c.args.self c.plain_end-stop.ensures c.closed.ensures c.in_default.is;
       exact = wrong-exact c.args.s.now;
@@ -13,7 +12,6 @@ returns-in_default c =
 
 pub returns-then-blank : goal.returns-then-blank
 returns-then-blank c =
-    
     record {
       result_value = path-blank c.args.s.now c.args.self c.plain_end-stop.ensures c.closed.ensures c.in-Is.is c.blank.ensures c.if-blank.true;
       exact = wrong-exact c.args.s.now;
@@ -21,7 +19,7 @@ returns-then-blank c =
 
 pub returns-else-blank : goal.returns-else-blank
 returns-else-blank c =
-        record {
+    record {
       result_value = path-is c.args.s.now c.args.self c.plain_end-stop.ensures c.closed.ensures c.in-Is.is c.blank.ensures c.if-blank.false;
       exact = path-exact c.args.s.now c.args.self c.plain_end-stop.ensures c.closed.ensures c.in-Is.is c.blank.ensures;
     }

@@ -4,7 +4,7 @@ use Rattle.text.proofs.Cursor.tag.Goals as goal
 
 pub returns : goal.returns
 returns c =
-        record {
+    record {
       result_value = tag_is c.args.s.now c.args.self c.plain_end-stop.ensures c.closed.ensures;
       exact = tag-exact c.args.s.now c.args.self c.plain_end-stop.ensures c.closed.ensures;
     }

@@ -1,5 +1,4 @@
 -- `text::compare::differ_four` meets its contract.
-use native.Mathlib.Omega.{arith}
 use Rattle.text.proofs.CompareLaws.{differ-four}
 use Rattle.text.proofs.compare.differ_four.Goals as goal
 

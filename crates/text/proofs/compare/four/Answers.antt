@@ -51,7 +51,7 @@ overflow_add-result-3 c =
 
 pub returns : goal.returns
 returns c =
-        record {
+    record {
       value = four_is _ _ _ _ c.wide-a.ensures c.wide-b.ensures c.wide-c.ensures c.wide-d.ensures;
       upper_bound = omega (arith, (c.type_inv.s c.args.i).fits, (c.type_inv.s (c.args.i + 1)).fits, (c.type_inv.s (c.args.i + 2)).fits, (c.type_inv.s (c.args.i + 3)).fits, c.wide-a.ensures, c.wide-b.ensures, c.wide-c.ensures, c.wide-d.ensures);
     }

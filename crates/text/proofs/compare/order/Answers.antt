@@ -1,9 +1,7 @@
 -- `text::compare::order` meets its contract. The invariant: the order of the texts is their order from `i` on. The measure is what is left of the shorter.
-use mathlib.Core.Path.{◌≡◌, refl, sym, ◌∙◌}
-use Prim.Native.Nat.{◌+◌, ◌-◌, ◌≤◌}
+use mathlib.Core.Path.{sym, ◌∙◌}
 use native.Mathlib.Omega.{arith}
-use lib.ListN.{length, drop}
-use Rattle.text.specs.Compare.{order_of}
+use lib.ListN.{length}
 use Rattle.text.proofs.RunLaws.{stop-short, stop-before}
 use Rattle.text.proofs.CompareLaws.{four-less, four-greater, four-next}
 use Rattle.text.proofs.compare.order.Goals as goal

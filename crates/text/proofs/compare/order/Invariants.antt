@@ -1,11 +1,8 @@
 -- `text::compare::order` meets its contract. The invariant: the order of the texts is their order from `i` on. The measure is what is left of the shorter.
-use mathlib.Core.Path.{◌≡◌, refl, sym, ◌∙◌}
-use Prim.Native.Nat.{◌+◌, ◌-◌, ◌≤◌}
-use native.Mathlib.Omega.{arith}
-use lib.ListN.{length, drop}
+use mathlib.Core.Path.{◌≡◌}
+use Prim.Native.Nat.{◌-◌, ◌≤◌}
+use lib.ListN.{drop}
 use Rattle.text.specs.Compare.{order_of}
-use Rattle.text.proofs.RunLaws.{stop-short, stop-before}
-use Rattle.text.proofs.CompareLaws.{four-less, four-greater, four-next}
 use Rattle.text.proofs.compare.order.Given as goal
 
 abbrev pub invariant-loop-i : goal.invariant-loop-i

@@ -1,8 +1,5 @@
 -- `text::compare::order_each` meets its contract. The invariant: the order from the place on is the order from `i` on. The measure is what is left of the first.
-use mathlib.Core.Path.{◌≡◌, refl, sym, ◌∙◌}
-use Prim.Native.Nat.{◌-◌}
-use lib.ListN.{length, drop}
-use Rattle.text.specs.Compare.{order_of}
+use mathlib.Core.Path.{sym, ◌∙◌}
 use Rattle.text.proofs.CompareLaws.{order-end, order-part, order-whole, order-less, order-greater, order-next}
 use Rattle.text.proofs.compare.order_each.Goals as goal
 

@@ -1,9 +1,8 @@
 -- `text::compare::order_each` meets its contract. The invariant: the order from the place on is the order from `i` on. The measure is what is left of the first.
-use mathlib.Core.Path.{◌≡◌, refl, sym, ◌∙◌}
+use mathlib.Core.Path.{◌≡◌}
 use Prim.Native.Nat.{◌-◌}
 use lib.ListN.{length, drop}
 use Rattle.text.specs.Compare.{order_of}
-use Rattle.text.proofs.CompareLaws.{order-end, order-part, order-whole, order-less, order-greater, order-next}
 use Rattle.text.proofs.compare.order_each.Given as goal
 
 abbrev pub invariant-loop-i : goal.invariant-loop-i

@@ -1,8 +1,6 @@
 -- `text::compare::same-bytes` meets its contract. The invariant: the bytes before `i` are alike. The measure is what is left up to the last four.
-use mathlib.Core.Path.{◌≡◌, sym}
-use Prim.Native.Nat.{ℕ, ◌-◌, ◌<◌}
+use mathlib.Core.Path.{sym}
 use native.Mathlib.Omega.{arith}
-use lib.ListN.{length, get_or}
 use Rattle.text.proofs.CompareLaws.{same-joined, alike-more}
 use Rattle.text.proofs.compare.same_bytes.Goals as goal
 

@@ -1,9 +1,7 @@
 -- `text::compare::same-bytes` meets its contract. The invariant: the bytes before `i` are alike. The measure is what is left up to the last four.
-use mathlib.Core.Path.{◌≡◌, sym}
+use mathlib.Core.Path.{◌≡◌}
 use Prim.Native.Nat.{ℕ, ◌-◌, ◌<◌}
-use native.Mathlib.Omega.{arith}
-use lib.ListN.{length, get_or}
-use Rattle.text.proofs.CompareLaws.{same-joined, alike-more}
+use lib.ListN.{get_or}
 use Rattle.text.proofs.compare.same_bytes.Given as goal
 
 abbrev pub invariant-loop-i : goal.invariant-loop-i

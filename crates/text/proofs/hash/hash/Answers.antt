@@ -1,9 +1,6 @@
 -- `text::hash::hash` meets its contract. The invariant: the hash of the name is that of the bytes from `i` on, with what those before gave.
-use mathlib.Core.Path.{◌≡◌, refl, sym, ◌∙◌}
-use Prim.Native.Nat.{◌-◌, ◌<◌, ◌≤◌}
+use mathlib.Core.Path.{sym, ◌∙◌}
 use native.Mathlib.Omega.{arith}
-use lib.ListN.{length, drop}
-use Rattle.text.specs.Hash.{hashes, hash_from}
 use Rattle.text.proofs.HashLaws.{hash-next, hash-end}
 use Rattle.text.proofs.hash.hash.Goals as goal
 
@@ -34,7 +31,7 @@ hash_rest-requires c = c.loop-i.invariant.1
 
 pub returns : goal.returns
 returns c =
-        record {
+    record {
       value = c.hash_rest.ensures.value ∙ sym (c.loop-i.invariant.0 ∙ hash-end c.args.name.now c.loop-i.h c.loop-i.i c.loop-i-test.false);
       upper_bound = c.hash_rest.ensures.upper_bound;
     }

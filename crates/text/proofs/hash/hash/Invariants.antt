@@ -1,10 +1,8 @@
 -- `text::hash::hash` meets its contract. The invariant: the hash of the name is that of the bytes from `i` on, with what those before gave.
-use mathlib.Core.Path.{◌≡◌, refl, sym, ◌∙◌}
+use mathlib.Core.Path.{◌≡◌}
 use Prim.Native.Nat.{◌-◌, ◌<◌, ◌≤◌}
-use native.Mathlib.Omega.{arith}
 use lib.ListN.{length, drop}
 use Rattle.text.specs.Hash.{hashes, hash_from}
-use Rattle.text.proofs.HashLaws.{hash-next, hash-end}
 use Rattle.text.proofs.hash.hash.Given as goal
 
 abbrev pub invariant-loop-i : goal.invariant-loop-i

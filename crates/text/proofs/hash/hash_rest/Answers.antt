@@ -1,9 +1,6 @@
 -- `text::hash::hash_rest` meets its contract. The invariant: the hash is that of the bytes from `i` on, with what those before gave.
-use mathlib.Core.Path.{◌≡◌, refl, sym, ◌∙◌}
-use Prim.Native.Nat.{◌-◌, ◌<◌}
+use mathlib.Core.Path.{refl, sym, ◌∙◌}
 use native.Mathlib.Omega.{arith}
-use lib.ListN.{length, drop}
-use Rattle.text.specs.Hash.{hashes, hash_rest}
 use Rattle.text.proofs.HashLaws.{rest-next, rest_end}
 use Rattle.text.proofs.hash.hash_rest.Goals as goal
 
@@ -22,7 +19,7 @@ loop-i-preserved c =
 
 pub returns : goal.returns
 returns c =
-        record {
+    record {
       value = sym (c.loop-i.invariant.0 ∙ rest_end c.args.name.now c.loop-i.h c.loop-i.i c.loop-i-test.false);
       upper_bound = c.loop-i.invariant.1;
     }

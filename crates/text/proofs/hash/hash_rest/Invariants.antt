@@ -1,10 +1,8 @@
 -- `text::hash::hash_rest` meets its contract. The invariant: the hash is that of the bytes from `i` on, with what those before gave.
-use mathlib.Core.Path.{◌≡◌, refl, sym, ◌∙◌}
+use mathlib.Core.Path.{◌≡◌}
 use Prim.Native.Nat.{◌-◌, ◌<◌}
-use native.Mathlib.Omega.{arith}
 use lib.ListN.{length, drop}
 use Rattle.text.specs.Hash.{hashes, hash_rest}
-use Rattle.text.proofs.HashLaws.{rest-next, rest_end}
 use Rattle.text.proofs.hash.hash_rest.Given as goal
 
 abbrev pub invariant-loop-i : goal.invariant-loop-i

@@ -1,9 +1,5 @@
 -- `text::numbers::digits` meets its contract. The invariant: the field is the number v, at most max, followed by the digits from `i` on. The measure is what is left up to `stop`.
-use mathlib.Core.Path.{◌≡◌, refl, sym, ◌∙◌}
-use Prim.Native.Nat.{◌-◌, ◌≤◌}
-use native.Mathlib.Omega.{arith}
-use Rattle.text.specs.Cursors.{part}
-use Rattle.text.specs.Runs.{digits_left}
+use mathlib.Core.Path.{sym, ◌∙◌}
 use Rattle.text.proofs.PartLaws.{stop-in}
 use Rattle.text.proofs.NumberLaws.{digits-end, digits-tab, digits-wrong, digits-next, pushed-next}
 use Rattle.text.proofs.numbers.digits.Goals as goal

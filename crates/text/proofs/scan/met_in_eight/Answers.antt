@@ -1,7 +1,5 @@
 -- `text::scan::met_in_eight` meets its contract. The invariant: `met` says it of the first k bytes. The measure is what is left of the eight.
-use Prim.Native.Nat.{◌-◌, ◌≤◌}
 use native.Mathlib.Omega.{arith}
-use Rattle.text.specs.Runs.{Met}
 use Rattle.text.proofs.RunLaws.{met-none, met_next, met_all}
 use Rattle.text.proofs.scan.met_in_eight.Goals as goal
 

@@ -1,11 +1,8 @@
 -- `text::scan::name_end` meets its contract. The invariant: the run from the start ends where the run from `i` ends. The measure is what is left up to `stop`.
-use mathlib.Core.Path.{◌≡◌, refl, sym, ◌∙◌}
+use mathlib.Core.Path.{◌≡◌}
 use Prim.Native.Nat.{◌-◌}
 use Rattle.text.specs.Bytes.{is_name_byte}
 use Rattle.text.specs.Runs.{run_end}
-use Rattle.text.proofs.PartLaws.{stop-in}
-use Rattle.text.proofs.RunLaws.{run-done, run-next, run-stop}
-use Rattle.text.proofs.NameLaws.{newline-ended, newline-end}
 use Rattle.text.proofs.scan.name_end.Given as goal
 
 abbrev pub invariant-loop-i : goal.invariant-loop-i

@@ -1,10 +1,7 @@
 -- `text::scan::name_end_met` meets its contract. The invariant: the run from the start goes on from `i`. The measure is what is left of the text.
 use mathlib.Core.Path.{refl, sym, ◌∙◌}
-use Prim.Native.Nat.{◌-◌}
 use native.Mathlib.Omega.{arith}
-use lib.ListN.{length}
-use Rattle.text.specs.Bytes.{is_name_byte}
-use Rattle.text.proofs.RunLaws.{GoesOn, on-within, on-next, on-stop}
+use Rattle.text.proofs.RunLaws.{on-within, on-next, on-stop}
 use Rattle.text.proofs.scan.name_end_met.Goals as goal
 
 pub loop-i-init : goal.loop-i-init

@@ -1,8 +1,5 @@
 -- `text::scan::plain_end` meets its contract. The invariant: the run from the start ends where the run from `i` ends. The measure is what is left up to `stop`.
-use mathlib.Core.Path.{◌≡◌, refl, sym, ◌∙◌}
-use Prim.Native.Nat.{◌-◌}
-use Rattle.text.specs.Bytes.{between}
-use Rattle.text.specs.Runs.{run_end}
+use mathlib.Core.Path.{sym, ◌∙◌}
 use Rattle.text.proofs.PartLaws.{stop-in}
 use Rattle.text.proofs.RunLaws.{run-done, run-next, run-stop}
 use Rattle.text.proofs.scan.plain_end.Goals as goal

@@ -1,9 +1,7 @@
 -- `text::scan::until` meets its contract. The invariant: the run from the start ends where the run from `i` ends, and `i` is not past `stop`. The measure is
 -- what is left up to `stop`.
-use mathlib.Core.Path.{◌≡◌, refl, sym, ◌∙◌}
-use Prim.Native.Nat.{◌-◌, ◌≤◌}
+use mathlib.Core.Path.{refl, sym, ◌∙◌}
 use native.Mathlib.Omega.{arith}
-use Rattle.text.specs.Runs.{other, run_end}
 use Rattle.text.proofs.RunLaws.{run-done, stop-short, met-before, met-past}
 use Rattle.text.proofs.scan.until.Goals as goal
 

@@ -1,7 +1,5 @@
 -- `text::scan::until_each` meets its contract. The invariant: the run from the start ends where the run from `i` ends. The measure is what is left up to `stop`.
-use mathlib.Core.Path.{◌≡◌, refl, sym, ◌∙◌}
-use Prim.Native.Nat.{◌-◌}
-use Rattle.text.specs.Runs.{other, run_end}
+use mathlib.Core.Path.{sym, ◌∙◌}
 use Rattle.text.proofs.PartLaws.{stop-in}
 use Rattle.text.proofs.RunLaws.{run-done, run-next, run-stop, other-no, other-yes}
 use Rattle.text.proofs.scan.until_each.Goals as goal

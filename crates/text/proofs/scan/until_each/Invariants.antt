@@ -1,9 +1,7 @@
 -- `text::scan::until_each` meets its contract. The invariant: the run from the start ends where the run from `i` ends. The measure is what is left up to `stop`.
-use mathlib.Core.Path.{◌≡◌, refl, sym, ◌∙◌}
+use mathlib.Core.Path.{◌≡◌}
 use Prim.Native.Nat.{◌-◌}
 use Rattle.text.specs.Runs.{other, run_end}
-use Rattle.text.proofs.PartLaws.{stop-in}
-use Rattle.text.proofs.RunLaws.{run-done, run-next, run-stop, other-no, other-yes}
 use Rattle.text.proofs.scan.until_each.Given as goal
 
 abbrev pub invariant-loop-i : goal.invariant-loop-i

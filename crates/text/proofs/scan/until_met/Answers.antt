@@ -1,11 +1,7 @@
 -- `text::scan::until_met` meets its contract. The invariant: the run from the start goes on from `i`. The measure is what is left of the text.
 use mathlib.Core.Path.{refl}
-use Prim.Native.Nat.{◌-◌}
 use native.Mathlib.Omega.{arith}
-use lib.ListN.{length}
-use borrow.Author.Tests.{not-true, not-false}
-use Rattle.text.specs.Runs.{other}
-use Rattle.text.proofs.RunLaws.{GoesOn, on-within, on-next, on-stop, other-no, other-yes}
+use Rattle.text.proofs.RunLaws.{on-within, on-next, on-stop, other-no, other-yes}
 use Rattle.text.proofs.scan.until_met.Goals as goal
 
 pub loop-i-init : goal.loop-i-init

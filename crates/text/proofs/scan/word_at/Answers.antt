@@ -1,10 +1,6 @@
 -- `text::scan::word_at` meets its contract. The invariant: the word is the next field if its bytes from `j` on are the field from `i` on. The measure is what is left of the word.
-use mathlib.Core.Path.{◌≡◌, refl, sym, ◌∙◌}
-use Prim.Native.Nat.{◌-◌}
+use mathlib.Core.Path.{sym, ◌∙◌}
 use native.Mathlib.Omega.{arith}
-use lib.ListN.{length, drop}
-use Rattle.text.specs.Lines.{fields}
-use Rattle.text.specs.Cursors.{part, exactly}
 use Rattle.text.proofs.WordLaws.{word-tab, word-other, word_next, word_end, word-within}
 use Rattle.text.proofs.scan.word_at.Goals as goal
 
