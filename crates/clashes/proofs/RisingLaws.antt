@@ -1,6 +1,6 @@
 -- Methods that ascend by their ids: one that comes after the last of them comes after each, so it has the identity of none.
 use mathlib.Core.Path.{◌≡◌, refl, sym}
-use mathlib.Core.Bool.{Bool, true, false}
+use mathlib.Core.Bool.{true, false}
 use mathlib.Core.List.{List, [], ◌∷◌, ◌++◌}
 use mathlib.Core.Logic.{inl, inr}
 use Rattle.objects.specs.Lists.{any, last_of, In, Sorted}

@@ -14,7 +14,7 @@ use Rattle.rules.specs.Members.{identity_of}
 use Rattle.rules.proofs.AscendLaws.{Has}
 use Rattle.interfaces.specs.Interfaces.{Interfaces, itself, Tells}
 use Rattle.interfaces.specs.FullList.{Entry, entry, choice, identity_at, full_list}
-use Rattle.interfaces.specs.Runs.{Arranged, runs, Runs, Parted, reaches_run, read_list, read_total, read_place}
+use Rattle.interfaces.specs.Runs.{Arranged, Runs, Parted, reaches_run, read_list, read_total, read_place}
 use Rattle.interfaces.specs.Orders.{Falls, Unions}
 use Rattle.interfaces.specs.Held.{ListsHeld}
 use Rattle.interfaces.proofs.Fit.{Linked, Fit}

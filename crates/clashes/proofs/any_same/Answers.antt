@@ -1,10 +1,7 @@
 -- `clashes::any_same` meets its contract. The invariant: none of the first i has m's identity.
-use mathlib.Core.Path.{◌≡◌, sym, ◌∙◌}
-use mathlib.Core.Bool.{false}
-use Prim.Native.Nat.{◌-◌, ◌≤◌}
+use mathlib.Core.Path.{sym, ◌∙◌}
 use native.Mathlib.Omega.{arith}
-use Rattle.objects.specs.Lists.{any}
-use Rattle.objects.specs.Rows.{member_at, members_from, table_of}
+use Rattle.objects.specs.Rows.{member_at, table_of}
 use Rattle.rules.specs.Members.{same_member}
 use Rattle.clashes.proofs.MemberRuns.{any-start, any-on, any_here, any-end}
 use Rattle.clashes.proofs.any_same.Goals as goal

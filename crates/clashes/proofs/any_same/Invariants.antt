@@ -1,12 +1,10 @@
 -- `clashes::any_same` meets its contract. The invariant: none of the first i has m's identity.
-use mathlib.Core.Path.{◌≡◌, sym, ◌∙◌}
+use mathlib.Core.Path.{◌≡◌}
 use mathlib.Core.Bool.{false}
 use Prim.Native.Nat.{◌-◌, ◌≤◌}
-use native.Mathlib.Omega.{arith}
 use Rattle.objects.specs.Lists.{any}
 use Rattle.objects.specs.Rows.{member_at, members_from, table_of}
 use Rattle.rules.specs.Members.{same_member}
-use Rattle.clashes.proofs.MemberRuns.{any-start, any-on, any_here, any-end}
 use Rattle.clashes.proofs.any_same.Given as goal
 
 abbrev pub invariant-loop-i : goal.invariant-loop-i

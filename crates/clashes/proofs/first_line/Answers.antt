@@ -1,19 +1,14 @@
 -- `clashes::first_line` meets its contract. The invariant: what is found under t is found from its member i on, those before ascend in an interface, and
 -- they are marked elsewhere.
 use Rattle.std.proofs.Common.{rules}
-use mathlib.Core.Path.{◌≡◌, sym, ◌∙◌}
-use Prim.Native.Nat.{◌-◌}
+use mathlib.Core.Path.{sym, ◌∙◌}
 use native.Mathlib.Omega.{arith}
-use lib.ListN.{length}
 use Rattle.objects.specs.Table.{kind_at}
 use Rattle.objects.specs.Rows.{table_of}
 use Rattle.rules.specs.Checks.{clashing}
-use Rattle.rules.specs.Stages.{first_item, lines_under}
-use Rattle.rules.proofs.ItemLaws.{members_left, members-start}
+use Rattle.rules.proofs.ItemLaws.{members-start}
 use Rattle.references.proofs.RowKinds.{lines_fit}
 use Rattle.references.proofs.Walking.{under-end}
-use Rattle.clashes.specs.Known.{Rising}
-use Rattle.clashes.specs.Marks.{Grows, Seen}
 use Rattle.clashes.proofs.ClashLaws.{clash-on, clash-stop, rising-start, rising-on}
 use Rattle.clashes.proofs.first_line.Goals as goal
 

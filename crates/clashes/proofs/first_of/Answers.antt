@@ -1,15 +1,10 @@
 -- `clashes::first_of` meets its contract. The invariant: what is found in the table is found from type t on.
 use Rattle.std.proofs.Common.{rules}
-use mathlib.Core.Path.{◌≡◌, sym, ◌∙◌}
-use Prim.Native.Nat.{◌-◌}
-use native.Mathlib.Omega.{arith}
-use lib.ListN.{length}
+use mathlib.Core.Path.{sym, ◌∙◌}
 use Rattle.objects.specs.Rows.{table_of}
-use Rattle.rules.specs.Checks.{items, clashing}
-use Rattle.rules.specs.Stages.{first_item}
-use Rattle.rules.proofs.ItemLaws.{types_left, types-start}
+use Rattle.rules.specs.Checks.{clashing}
+use Rattle.rules.proofs.ItemLaws.{types-start}
 use Rattle.references.proofs.Walking.{table_on, table-stop, table-end}
-use Rattle.clashes.specs.Marks.{Ready}
 use Rattle.clashes.proofs.ClashLaws.{lines-clash}
 use Rattle.clashes.proofs.first_of.Goals as goal
 

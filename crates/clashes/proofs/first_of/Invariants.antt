@@ -1,15 +1,12 @@
 -- `clashes::first_of` meets its contract. The invariant: what is found in the table is found from type t on.
-use mathlib.Core.Path.{◌≡◌, sym, ◌∙◌}
+use mathlib.Core.Path.{◌≡◌}
 use Prim.Native.Nat.{◌-◌}
-use native.Mathlib.Omega.{arith}
 use lib.ListN.{length}
 use Rattle.objects.specs.Rows.{table_of}
 use Rattle.rules.specs.Checks.{items, clashing}
 use Rattle.rules.specs.Stages.{first_item}
-use Rattle.rules.proofs.ItemLaws.{types_left, types-start}
-use Rattle.references.proofs.Walking.{table_on, table-stop, table-end}
+use Rattle.rules.proofs.ItemLaws.{types_left}
 use Rattle.clashes.specs.Marks.{Ready}
-use Rattle.clashes.proofs.ClashLaws.{lines-clash}
 use Rattle.clashes.proofs.first_of.Given as goal
 
 abbrev pub invariant-loop-t : goal.invariant-loop-t

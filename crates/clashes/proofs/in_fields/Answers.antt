@@ -12,8 +12,7 @@ returns-then-type_count-u c =
     fields_out c.args.text.now c.args.rows.now c.args.u (same_member (table_of c.args.text.now c.args.rows.now) (member_at c.args.text.now c.args.rows.now c.args.m)) c.type_count.ensures c.if-type_count-u.true
 
 pub any_same-requires : goal.any_same-requires
-any_same-requires c =
-    (
+any_same-requires c = (
   c.requires.2,
   fields-packaged c.args.text.now c.args.rows.now c.args.u (same_member (table_of c.args.text.now c.args.rows.now) (member_at c.args.text.now c.args.rows.now c.args.m)) c.type_count.ensures c.if-type_count-u.false c.kind_number.ensures c.requires.1 c.if-kind_number-eq-STRUCT.true c.first_member.ensures c.member_total.ensures,
   omega (arith, places-fit c.args.rows.now c.requires.0 c.args.u (rw c.type_count.ensures at c.if-type_count-u.false), c.first_member.ensures, c.member_total.ensures),

@@ -1,11 +1,6 @@
 -- `clashes::marks::meet_all` meets its contract. The invariant: the first i names are marked.
 use Rattle.std.proofs.Common.{rules}
-use mathlib.Core.Path.{◌≡◌}
-use Prim.Native.Nat.{◌-◌, ◌≤◌}
 use native.Mathlib.Omega.{arith}
-use lib.ListN.{length}
-use Rattle.objects.specs.Rows.{members_from}
-use Rattle.clashes.specs.Marks.{Noted}
 use Rattle.clashes.proofs.MarkLaws.{noted-none, noted-on, noted-end}
 use Rattle.clashes.proofs.marks.meet_all.Goals as goal
 

@@ -1,11 +1,9 @@
 -- `clashes::marks::meet_all` meets its contract. The invariant: the first i names are marked.
 use mathlib.Core.Path.{◌≡◌}
 use Prim.Native.Nat.{◌-◌, ◌≤◌}
-use native.Mathlib.Omega.{arith}
 use lib.ListN.{length}
 use Rattle.objects.specs.Rows.{members_from}
 use Rattle.clashes.specs.Marks.{Noted}
-use Rattle.clashes.proofs.MarkLaws.{noted-none, noted-on, noted-end}
 use Rattle.clashes.proofs.marks.meet_all.Given as goal
 
 abbrev pub invariant-loop-i : goal.invariant-loop-i
