@@ -51,7 +51,7 @@ fn miss(archive: &Path, copy: &Path) {
     }
     let path = archive.display();
     warn(&format!("the library's archive is not there: {path}"));
-    warn("in the root of the repository `rt staticlib yifgrun` makes it;");
+    warn("in the root of the repository `host/archive.sh` makes it;");
     warn("one that stands elsewhere is named by the variable YIFGRUN_ARCHIVE");
 }
 

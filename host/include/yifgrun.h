@@ -2,7 +2,7 @@
  * question on a table, yifgrun_ask_all for several, which loads the table once, and yifgrun_tidy writes a table out
  * again without repeated types.
  *
- * Link with libyifgrun.a, which `rt staticlib yifgrun` makes as target/staticlib/libyifgrun.a, for x86-64 Linux. The
+ * Link with libyifgrun.a, which `host/archive.sh` makes as target/staticlib/libyifgrun.a, for x86-64 Linux. The
  * library keeps nothing between calls and allocates nothing; calls on different buffers may run at the same time. A
  * call takes less than 600 KB of stack. docs/ENTRY.md has a program, docs/MANUAL.md the table text, the questions and
  * the answers. */

@@ -65,7 +65,7 @@ fn another_target_is_told() {
 #[test]
 fn a_missing_archive_is_told() {
     let due = "the library's archive is not there: /nowhere/libyifgrun.a\n\
-        in the root of the repository `rt staticlib yifgrun` makes it;\n\
+        in the root of the repository `host/archive.sh` makes it;\n\
         one that stands elsewhere is named by the variable YIFGRUN_ARCHIVE\n";
     let nowhere = Path::new("/nowhere/libyifgrun.a");
     assert_eq!(
@@ -96,5 +96,5 @@ fn without_the_archive_the_package_is_checked_and_documented_but_not_built() {
     let output = cargo(&folder, &["build"]);
     let said = text(output.stderr);
     assert!(!output.status.success(), "{said}");
-    assert!(said.contains("`rt staticlib yifgrun` makes it"), "{said}");
+    assert!(said.contains("`host/archive.sh` makes it"), "{said}");
 }
