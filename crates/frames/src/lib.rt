@@ -1,10 +1,12 @@
 // Several inputs in one: each stands behind its length, five digits and a newline. So the programs that run on stored inputs have them on standard input.
 #![tactic(auto)]
 
-ghost use Rattle.std.specs.Prelude.{◌≤◌, length};
+ghost use Rattle.std.specs.Prelude.{◌≤◌, length, IfOk};
 ghost use Rattle.frames.specs.Frames.{Fits};
 
 use objects::bounds::MAX_TEXT;
+use std::io;
+use std::io::{ErrorKind, Read};
 
 // A buffer of so many bytes takes inputs that are longer than any that loads.
 pub const ROOM: usize = MAX_TEXT + 32;
@@ -41,20 +43,29 @@ fn number(head: &[u8; 6]) -> usize
     a * 1_000 + b
 }
 
-// Reads the next input to the front of the buffer. One that is cut short or has no room there ends them.
-pub fn next(buf: &mut [u8]) -> Frame
-    ensures { Fits (length buf.old) result }
+// Whether the reader had as many bytes left as the buffer has. If so, they stand there.
+fn fill<R: Read>(from: &mut R, buf: &mut [u8]) -> io::Result<bool> {
+    match from.read_exact(buf) {
+        Ok(()) => Ok(true),
+        Err(e) if e.kind() == ErrorKind::UnexpectedEof => Ok(false),
+        Err(e) => Err(e),
+    }
+}
+
+// Reads the next input to the front of the buffer. One that is cut short or has no room there ends them. An error is the reader's.
+pub fn next<R: Read>(from: &mut R, buf: &mut [u8]) -> io::Result<Frame>
+    ensures { IfOk result (λ f. Fits (length buf.old) f) }
 {
     let mut head = [0u8; 6];
-    if io::read_full(0, &mut head) < 6 {
-        return Frame::End;
+    if !fill(from, &mut head)? {
+        return Ok(Frame::End);
     }
     let n = number(&head);
     if buf.len() < n {
-        return Frame::End;
+        return Ok(Frame::End);
     }
-    if io::read_full(0, &mut buf[0..n]) < n {
-        return Frame::End;
+    if !fill(from, &mut buf[0..n])? {
+        return Ok(Frame::End);
     }
-    Frame::Input(n)
+    Ok(Frame::Input(n))
 }
