@@ -5,48 +5,50 @@
 use frames::{Frame, ROOM};
 use objects::bounds::ALL_WORDS;
 use objects::rows::{member_count, package_count, type_count};
+use std::io;
+use std::io::{Read, Write};
 use table::Loading;
 
-fn field(n: u32) {
-    io::write_all(1, b"\t");
-    io::print_decimal(1, n as u64);
+fn field<W: Write>(out: &mut W, n: u32) -> io::Result<()> {
+    write!(out, "\t{n}")
 }
 
-fn counts(rows: &[u32]) {
-    io::write_all(1, b"ok");
-    field(package_count(rows));
-    field(type_count(rows));
-    field(member_count(rows));
-    io::write_all(1, b"\n");
+fn counts<W: Write>(out: &mut W, rows: &[u32]) -> io::Result<()> {
+    out.write_all(b"ok")?;
+    field(out, package_count(rows))?;
+    field(out, type_count(rows))?;
+    field(out, member_count(rows))?;
+    out.write_all(b"\n")
 }
 
-fn refused(n: u32, line: u32) {
-    io::write_all(1, b"refused");
-    field(n);
-    field(line);
-    io::write_all(1, b"\n");
+fn refused<W: Write>(out: &mut W, n: u32, line: u32) -> io::Result<()> {
+    out.write_all(b"refused")?;
+    field(out, n)?;
+    field(out, line)?;
+    out.write_all(b"\n")
 }
 
-fn one(text: &[u8]) {
+fn one<W: Write>(out: &mut W, text: &[u8]) -> io::Result<()> {
     let mut rows = [0u32; ALL_WORDS];
     match table::load(text, &mut rows) {
-        Loading::Refused(n, line) => refused(n, line),
-        Loading::Loaded => counts(&rows),
+        Loading::Refused(n, line) => refused(out, n, line),
+        Loading::Loaded => counts(out, &rows),
     }
 }
 
-fn all(buf: &mut [u8]) {
+fn all<R: Read, W: Write>(from: &mut R, out: &mut W, buf: &mut [u8]) -> io::Result<()> {
     let mut left: u32 = 10_000;
     while 0 < left {
-        let Frame::Input(n) = frames::next(buf) else {
-            return;
+        let Frame::Input(n) = frames::next(from, buf)? else {
+            return Ok(());
         };
-        one(&buf[0..n]);
+        one(out, &buf[0..n])?;
         left -= 1;
     }
+    Ok(())
 }
 
-fn main() {
+fn main(rt: HostRuntime) -> io::Result<()> {
     let mut buf = [0u8; ROOM];
-    all(&mut buf);
+    all(&mut rt.stdin(), &mut rt.stdout(), &mut buf)
 }
