@@ -13,6 +13,8 @@ use objects::bounds::{ALL_WORDS, MAX_TYPES, WORK_WORDS};
 use objects::rows::type_count;
 use pair_marks::classes::number;
 use pair_marks::marks::is_met;
+use std::io;
+use std::io::{Read, Write};
 use table::Loading;
 use typ::identical::identical_impl;
 
@@ -31,24 +33,22 @@ fn pairs_met(marks: &[u32]) -> u32
     n
 }
 
-fn show(same: bool, pairs: u32) {
+fn show<W: Write>(out: &mut W, same: bool, pairs: u32) -> io::Result<()> {
     if same {
-        io::write_all(1, b"yes\t");
+        out.write_all(b"yes\t")?;
     } else {
-        io::write_all(1, b"no\t");
+        out.write_all(b"no\t")?;
     }
-    io::print_decimal(1, pairs as u64);
-    io::write_all(1, b"\n");
+    writeln!(out, "{pairs}")
 }
 
 // Every type begins as a class of its own.
-fn compare(text: &[u8], rows: &[u32])
+fn compare<W: Write>(out: &mut W, text: &[u8], rows: &[u32]) -> io::Result<()>
     requires { Library text.now rows.now }
 {
     let n = type_count(rows);
     if n < 2 {
-        io::write_all(1, b"none\n");
-        return;
+        return out.write_all(b"none\n");
     }
     let mut marks = [0u32; WORK_WORDS];
     let mut labels = [0u32; MAX_TYPES];
@@ -57,31 +57,30 @@ fn compare(text: &[u8], rows: &[u32])
     let y = TypeKey(n - 1);
     let same = identical_impl(text, rows, &mut marks, &mut labels, x, y, 0);
     let pairs = pairs_met(&marks);
-    show(same, pairs);
+    show(out, same, pairs)
 }
 
-fn one(text: &[u8]) {
+fn one<W: Write>(out: &mut W, text: &[u8]) -> io::Result<()> {
     let mut rows = [0u32; ALL_WORDS];
     match table::load(text, &mut rows) {
-        Loading::Refused(_, _) => {
-            io::write_all(1, b"refused\n");
-        }
-        Loading::Loaded => compare(text, &rows),
+        Loading::Refused(_, _) => out.write_all(b"refused\n"),
+        Loading::Loaded => compare(out, text, &rows),
     }
 }
 
-fn all(buf: &mut [u8]) {
+fn all<R: Read, W: Write>(from: &mut R, out: &mut W, buf: &mut [u8]) -> io::Result<()> {
     let mut left: u32 = 10_000;
     while 0 < left {
-        let Frame::Input(n) = frames::next(buf) else {
-            return;
+        let Frame::Input(n) = frames::next(from, buf)? else {
+            return Ok(());
         };
-        one(&buf[0..n]);
+        one(out, &buf[0..n])?;
         left -= 1;
     }
+    Ok(())
 }
 
-fn main() {
+fn main(rt: HostRuntime) -> io::Result<()> {
     let mut buf = [0u8; ROOM];
-    all(&mut buf);
+    all(&mut rt.stdin(), &mut rt.stdout(), &mut buf)
 }
