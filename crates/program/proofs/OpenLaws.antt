@@ -11,7 +11,7 @@ use Rattle.objects.specs.Lists.{Bytes, flat}
 use Rattle.objects.specs.Rows.{Words, table_of}
 use Rattle.text.specs.Bytes.{ascii}
 use Rattle.text.specs.Lines.{split, pieces}
-use Rattle.rules.specs.Load.{Loaded, refused, load}
+use Rattle.rules.specs.Load.{refused, load}
 use Rattle.rules.specs.Library.{Library}
 use Rattle.rules.specs.AskedAll.{question_lines}
 use Rattle.rules.specs.Typeask.{input_of, printed_one, printed_all, answered_all, typeask_within, typeask}

@@ -1,6 +1,6 @@
 -- From the answers that a buffer holds to what is printed: the next piece of what is due, and piece after piece up to the end.
 use mathlib.Core.Path.{◌≡◌, refl, sym, ap, ap₂, subst, ◌∙◌}
-use mathlib.Core.List.{List, [], ◌∷◌, ◌++◌, append_assoc}
+use mathlib.Core.List.{List, [], ◌∷◌, ◌++◌, append_assoc, append-nil}
 use Prim.Native.Nat.{ℕ, ◌+◌, ◌*◌, ◌-◌, ◌≤◌, ◌<◌}
 use native.Mathlib.Omega.{arith}
 use lib.ListN.{length, take, drop, length-append, length-drop}
@@ -165,11 +165,11 @@ pub record Reached (T : Table) (questions : Bytes) (at total : ℕ) : Type 0 whe
   pub few : total ≤ at * program_answer
 
 module _ (T : Table) (questions : Bytes) where
-  pub none-reached : Reached T questions 0 0
+  unfoldable pub none-reached : Reached T questions 0 0
   none-reached = record { inside = omega arith; bytes = []; place = refl; parts = refl; few = omega arith }
 
   module _ {at total : ℕ} (h : Reached T questions at total) {r : Filled} {out : Bytes} (p : Prints T (take (length questions - at) (drop at questions)) r out) where
-    rest-printed : Prints T (drop at questions) r out
+    pub rest-printed : Prints T (drop at questions) r out
     rest-printed = subst (λ q. Prints T q r out) (part-rest questions at) p
 
     -- the end
@@ -178,7 +178,12 @@ module _ (T : Table) (questions : Bytes) where
         let none : due T (drop at questions) ≡ [] = rest-printed.none e in
         omega (arith, h.place, ap length h.parts, length-append h.bytes (due T (drop at questions)), ap length none)
 
-    behind : due T questions ≡ h.bytes ++ (take r.n out ++ due T (drop (at + r.at) questions))
+    pub all-bytes : r.at ≡ 0 → h.bytes ≡ due T questions
+    all-bytes e =
+        let none : due T (drop at questions) ≡ [] = rest-printed.none e in
+        sym (h.parts ∙ ap (λ d. h.bytes ++ d) none ∙ append-nil h.bytes)
+
+    pub behind : due T questions ≡ h.bytes ++ (take r.n out ++ due T (drop (at + r.at) questions))
     behind = h.parts ∙ ap (λ d. h.bytes ++ d) (rest-printed.parts ∙ ap (λ q. take r.n out ++ due T q) (drop-drop r.at at questions))
 
     pub piece-stands : Stands (due T questions) total (take r.n out)
@@ -188,16 +193,16 @@ module _ (T : Table) (questions : Bytes) where
     next-inside = let i = h.inside in omega (arith, rest-printed.inside, length-drop at questions)
 
     module _ (room : length out ≡ program_answer) (on : 0 < r.at) where
-      next-few : total + r.n ≤ (at + r.at) * program_answer
+      pub next-few : total + r.n ≤ (at + r.at) * program_answer
       next-few = omega (arith, h.few, rest-printed.fits, room, on)
 
-      pub next-reached : Reached T questions (at + r.at) (total + r.n)
-      next-reached = record {
+      unfoldable pub next-reached : (k : ℕ) → k ≡ total + r.n → Reached T questions (at + r.at) k
+      next-reached k e = record {
         inside = next-inside;
         bytes = h.bytes ++ take r.n out;
-        place = omega (arith, length-append h.bytes (take r.n out), h.place, length-take-le r.n out rest-printed.fits);
+        place = omega (arith, e, length-append h.bytes (take r.n out), h.place, length-take-le r.n out rest-printed.fits);
         parts = behind ∙ sym (append_assoc h.bytes (take r.n out) (due T (drop (at + r.at) questions)));
-        few = next-few;
+        few = omega (arith, e, next-few);
       }
 
       pub next-within : length questions ≤ max_text → total + r.n ≤ max_text * program_answer
