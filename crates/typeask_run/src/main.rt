@@ -3,26 +3,27 @@
 #![tactic(auto)]
 
 use frames::{Frame, ROOM};
+use std::io;
+use std::io::{Read, Write};
 
-fn title(k: u32) {
-    io::write_all(1, b"== ");
-    io::print_decimal(1, k as u64);
-    io::write_all(1, b"\n");
+fn title<W: Write>(out: &mut W, k: u32) -> io::Result<()> {
+    writeln!(out, "== {k}")
 }
 
-fn all(buf: &mut [u8]) {
+fn all<R: Read, W: Write>(from: &mut R, out: &mut W, buf: &mut [u8]) -> io::Result<()> {
     let mut k: u32 = 0;
     while k < 10_000 {
-        let Frame::Input(n) = frames::next(buf) else {
-            return;
+        let Frame::Input(n) = frames::next(from, buf)? else {
+            return Ok(());
         };
-        title(k);
-        program::run(&buf[0..n]);
+        title(out, k)?;
+        program::run(out, &buf[0..n])?;
         k += 1;
     }
+    Ok(())
 }
 
-fn main() {
+fn main(rt: HostRuntime) -> io::Result<()> {
     let mut buf = [0u8; ROOM];
-    all(&mut buf);
+    all(&mut rt.stdin(), &mut rt.stdout(), &mut buf)
 }
