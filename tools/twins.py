@@ -3,7 +3,7 @@
 
     twins.py [--edits] [NAME | NAME/X ..]
 
-A must-fail edit shows something only if the prover refuses what it means. crates/NAME/must-fail/X.twin, in the format of X.edit, changes the same texts
+A must-fail edit shows something only if the prover refuses what it means. crates/NAME/twins/X.twin, in the format of must-fail/X.edit, changes the same texts
 to others of the same shape that mean what they meant before: where even that is refused, the edit fails by the shape of a proof. Each twin is applied to
 a copy of its crate, which must still be proved. With --edits the edits are tried in the same way, and must be refused: one crate's alone, without those of
 all crates below it. Ends with status 1 if a twin is refused, missing or bad, or an edit survives.

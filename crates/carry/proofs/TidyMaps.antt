@@ -31,7 +31,7 @@ use Rattle.edits.specs.Assembled.{number_kind, assembled}
 use Rattle.edits.specs.Tidy.{least, remaining, tidy_type, tidied}
 use Rattle.carry.proofs.Pairing.{pairs-split, pairs-both, pairs-of}
 use Rattle.carry.proofs.Lines.{own-other, all-members}
-use Rattle.carry.proofs.AssembledLaws.{line, carried-kind, line-carried, assembled-size, assembled-at}
+use Rattle.carry.proofs.AssembledLaws.{carried-kind, line-carried, assembled-size, assembled-at}
 use Rattle.carry.proofs.Twins.{least-is, tidy-at, tidy-same, same-tidy}
 
 -- ---- identical types that are not named have equal lines, but for references to identical types

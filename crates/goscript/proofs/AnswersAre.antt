@@ -18,7 +18,6 @@ use Rattle.rules.specs.MethodSet.{method_set}
 use Rattle.rules.specs.Sound.{Sound}
 use Rattle.rules.specs.Question.{Question, ask_s, ask_m, ask_n, ask_i, ask_c, ask_v, in_table}
 use Rattle.rules.specs.Answer.{sel_of, lack_answer, answer}
-use Rattle.rules.specs.Answer as rules
 use Rattle.goscript.specs.Maps.{Map}
 use Rattle.goscript.specs.MethodSets.{MethodCollision, new_method_set}
 use Rattle.goscript.specs.Departures.{less_departed}

@@ -24,7 +24,7 @@ use Rattle.ways.proofs.MemberSorts.{owned-member}
 use Rattle.ways.proofs.MethodLevels.{callable-method, given-way, enough-levels}
 use Rattle.gospec.proofs.OneView.{method-named}
 use Rattle.goscript.specs.Maps.{Map, get, is_some, keys}
-use Rattle.goscript.specs.MethodSets.{Selection, MethodCollision, method, selected, sorted, new_method_set}
+use Rattle.goscript.specs.MethodSets.{Selection, MethodCollision, selected, sorted, new_method_set}
 use Rattle.goscript.proofs.MapLaws.{keys-have}
 use Rattle.goscript.proofs.Collisions.{selection_of}
 use Rattle.goscript.proofs.Values.{entry_of}

@@ -12,7 +12,7 @@ use Rattle.objects.specs.declared.TypeKey.{TypeKey}
 use Rattle.objects.specs.Table.{Table, same_type, Kind, kind_number, is_struct, is_iface, is_named, members_of, fields_of, declared_of, all_methods_of, all_methods, kind_at, under}
 use Rattle.rules.specs.Members.{Identity}
 use Rattle.rules.specs.Ways.{Place, places_from, Way, field_places, owned}
-use Rattle.ways.specs.Levels.{EmbeddedType, at, first_of, next, hit}
+use Rattle.ways.specs.Levels.{EmbeddedType, at, first_of, hit}
 use Rattle.ways.specs.Graph as over
 use Rattle.ways.specs.OfTable.{graph}
 use Rattle.ways.proofs.Same.{One}

@@ -10,7 +10,7 @@ use Rattle.rules.specs.Members.{Identity}
 use Rattle.rules.specs.Ways.{Walk, Way}
 use Rattle.rules.specs.MethodSet.{method_flag}
 use Rattle.ways.specs.MethodLevels.{Standing, absent, hidden, given, as_goscript, alone, settled}
-use Rattle.ways.specs.Levels.{EmbeddedType, at, mark, raw, twin, merge, found}
+use Rattle.ways.specs.Levels.{EmbeddedType, mark, raw, twin, merge, found}
 use Rattle.ways.specs.OfTable.{graph}
 use Rattle.goscript.specs.Maps.{is_some}
 use Rattle.goscript.specs.MethodSets.{MethodCollision, method, collision, FieldCollision, var, collided, method_in, field_in}

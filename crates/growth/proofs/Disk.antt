@@ -17,7 +17,6 @@ use Rattle.rules.specs.Rows.{called}
 use Rattle.growth.specs.Grown.{path_at, known_as, Numbers, Grew, grew-tuple, grew-func, grew-iface, grew-pointer, grew-struct, grew-named, Grown, GrownTexts}
 use Rattle.growth.specs.Incident.{alone, both}
 use Rattle.growth.proofs.Shown.{free-by, shift, shift_in, type-own, of_one}
-use Rattle.growth.proofs.Promised.{grown}
 
 -- ---- the two tables
 

@@ -1,9 +1,9 @@
 -- The type above (5, 6): what the rows tell of the last type of the table that they hold.
 use mathlib.Core.Path.{◌≡◌, refl, sym, ap, ◌∙◌}
-use mathlib.Core.Bool.{Bool, true, false, cond, ◌&&◌, ◌||◌}
+use mathlib.Core.Bool.{true, false, ◌&&◌}
 use mathlib.Core.List.{List, [], ◌∷◌, ◌++◌, map}
 use mathlib.Core.Logic.{◌≢◌}
-use Prim.Native.Nat.{ℕ, zero, suc, ◌+◌, ◌-◌, ◌≤◌, ◌<◌}
+use Prim.Native.Nat.{ℕ, zero, suc, ◌-◌, ◌≤◌, ◌<◌}
 use native.Mathlib.Omega.{arith}
 use lib.Dec.{eqb, ltb}
 use lib.ListN.{length}
@@ -11,8 +11,8 @@ use borrow.Author.Tests.{eq-eqb, ne_eqb, eqb-true, lt-ltb, le-ltb, ltb-true}
 use Rattle.objects.specs.declared.TypeKey.{TypeKey}
 use Rattle.objects.specs.Bounds.{max_members, max_per_type}
 use Rattle.objects.specs.Lists.{Bytes, empty, last_or, up_to}
-use Rattle.objects.specs.Table.{Kind, Basic, type_key, kind_number, members_of, Entity, member_count}
-use Rattle.objects.specs.Rows.{Words, type_count, member_count_of, type_word, entity_of, kind_read, members_from, table_of}
+use Rattle.objects.specs.Table.{Kind, Basic, type_key, kind_number, members_of, member_count}
+use Rattle.objects.specs.Rows.{Words, type_count, member_count_of, type_word, entity_of, kind_read, table_of}
 use Rattle.objects.specs.Types.{number_of, number_read, first_read, total_read}
 use Rattle.objects.specs.Laid.{last_type}
 use Rattle.objects.proofs.ListLaws.{cases, clash, and_l}

@@ -14,7 +14,6 @@ use Rattle.objects.specs.Lists.{any, keep, flat, In}
 use Rattle.objects.proofs.ListLaws.{either, keep_append, keep-none, keep_all, any_none, flat_append, In-keep, In-map, In-flat, In-append}
 use Rattle.objects.proofs.KeyLaws.{same_key}
 use Rattle.objects.specs.declared.TypeKey.{TypeKey}
-use Rattle.objects.specs.Table.{size}
 use Rattle.rules.specs.Members.{Identity}
 use Rattle.rules.specs.Ways.{Walk, Way, judged}
 use Rattle.ways.specs.Graph.{Graph, walks, matching, ends, ways, shortest, start}

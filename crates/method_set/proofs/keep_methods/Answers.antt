@@ -1,10 +1,9 @@
 -- `keep_methods` meets its contract.
-use mathlib.Core.Path.{◌≡◌, refl, sym, ap, ◌∙◌}
-use Prim.Native.Nat.{◌-◌, ◌<◌, ◌≤◌}
+use mathlib.Core.Path.{refl, sym, ap, ◌∙◌}
+use Prim.Native.Nat.{◌<◌}
 use native.Mathlib.Omega.{arith}
 use lib.ListN.{length, length-set}
-use Rattle.method_set.specs.Sets.{in_set}
-use Rattle.method_set.proofs.KeepLaws.{Keeping, keeping_start, keeping-read, keeping-yes, keeping-no, keeping-end}
+use Rattle.method_set.proofs.KeepLaws.{keeping_start, keeping-read, keeping-yes, keeping-no, keeping-end}
 use Rattle.method_set.proofs.keep_methods.Goals as goal
 use Rattle.method_set.proofs.keep_methods.Goals.{then-in_set, else-in_set}
 
@@ -22,16 +21,16 @@ pub loop-i-preserved : goal.loop-i-preserved
 loop-i-preserved c =
     let inside : c.loop-i.i < length c.args.names.now = omega (arith, c.requires.n_in_bounds, c.loop-i-test.true) in
     elim c.if-in_set.branch [
-    | then-in_set w ↦ (
-      ap length w.names-is ∙ length-set c.loop-i.names c.loop-i.r _ ∙ c.loop-i.invariant.0,
-      omega arith,
-      keeping-yes _ _ _ _ _ c.loop-i.invariant.0 inside c.loop-i.invariant.2 (sym c.in_set.ensures ∙ w.if-in_set.true) w.names-is w.r-is,
-    )
-    | else-in_set w ↦ (
-      ap length w.names-is ∙ c.loop-i.invariant.0,
-      omega arith,
-      keeping-no _ _ _ _ _ c.loop-i.invariant.0 inside c.loop-i.invariant.2 (sym c.in_set.ensures ∙ w.if-in_set.false) w.names-is w.r-is,
-    )
+      | then-in_set w ↦ (
+        ap length w.names-is ∙ length-set c.loop-i.names c.loop-i.r _ ∙ c.loop-i.invariant.0,
+        omega arith,
+        keeping-yes _ _ _ _ _ c.loop-i.invariant.0 inside c.loop-i.invariant.2 (sym c.in_set.ensures ∙ w.if-in_set.true) w.names-is w.r-is,
+      )
+      | else-in_set w ↦ (
+        ap length w.names-is ∙ c.loop-i.invariant.0,
+        omega arith,
+        keeping-no _ _ _ _ _ c.loop-i.invariant.0 inside c.loop-i.invariant.2 (sym c.in_set.ensures ∙ w.if-in_set.false) w.names-is w.r-is,
+      )
     ]
 
 pub returns : goal.returns

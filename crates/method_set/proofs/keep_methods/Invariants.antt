@@ -1,11 +1,9 @@
 -- `keep_methods` meets its contract.
-use mathlib.Core.Path.{◌≡◌, refl, sym, ap, ◌∙◌}
-use mathlib.Core.Logic.{⊎_elim}
-use Prim.Native.Nat.{◌-◌, ◌<◌, ◌≤◌}
-use native.Mathlib.Omega.{arith}
-use lib.ListN.{length, length-set}
+use mathlib.Core.Path.{◌≡◌}
+use Prim.Native.Nat.{◌-◌, ◌≤◌}
+use lib.ListN.{length}
 use Rattle.method_set.specs.Sets.{in_set}
-use Rattle.method_set.proofs.KeepLaws.{Keeping, keeping_start, keeping-read, keeping-yes, keeping-no, keeping-end}
+use Rattle.method_set.proofs.KeepLaws.{Keeping}
 use Rattle.method_set.proofs.keep_methods.Given as goal
 
 abbrev pub invariant-loop-i : goal.invariant-loop-i

@@ -1,7 +1,6 @@
 -- `selection::find` meets its contract. The invariant: what the whole list gives, the members from i on give.
-use Prim.Native.Nat.{◌-◌, ◌≤◌}
 use native.Mathlib.Omega.{arith}
-use Rattle.selection.proofs.FindLaws.{Left, find-start, find-here, find-next, find-end}
+use Rattle.selection.proofs.FindLaws.{find-start, find-here, find-next, find-end}
 use Rattle.selection.proofs.find.Goals as goal
 
 pub loop-i-init : goal.loop-i-init

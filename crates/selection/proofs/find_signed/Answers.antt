@@ -1,8 +1,6 @@
 -- `selection::find_signed` meets its contract. The invariant is that of `find`: what the whole list gives, the members from i on give.
-use mathlib.Core.Logic.{⊎_elim}
-use Prim.Native.Nat.{◌-◌, ◌≤◌}
 use native.Mathlib.Omega.{arith}
-use Rattle.selection.proofs.FindLaws.{Left, find-start, find-here, find-next, find-end, signs-fit, signs-long, find-skip}
+use Rattle.selection.proofs.FindLaws.{find-start, find-here, find-next, find-end, signs-fit, signs-long, find-skip}
 use Rattle.selection.proofs.find_signed.Goals as goal
 use Rattle.selection.proofs.find_signed.Goals.{then-signs-i+else-same_id, else-signs-i}
 
@@ -30,11 +28,11 @@ returns-then-same_id c =
 pub loop-i-preserved : goal.loop-i-preserved
 loop-i-preserved c =
     elim c.if-signs-i.branch [
-    | then-signs-i+else-same_id w ↦ (find-next _ _ _ _ _ _ _ c.loop-i-test.true c.loop-i.invariant.0 w.same_id.ensures w.if-same_id.false, omega arith)
-    | else-signs-i w ↦ (
-      find-skip _ _ _ _ c.requires.1 c.requires.2 c.signs_of-signs.ensures _ c.loop-i-test.true _ c.args.q c.sign_of-sign.ensures w.if-signs-i.false c.loop-i.invariant.0,
-      omega arith,
-    )
+      | then-signs-i+else-same_id w ↦ (find-next _ _ _ _ _ _ _ c.loop-i-test.true c.loop-i.invariant.0 w.same_id.ensures w.if-same_id.false, omega arith)
+      | else-signs-i w ↦ (
+        find-skip _ _ _ _ c.requires.1 c.requires.2 c.signs_of-signs.ensures _ c.loop-i-test.true _ c.args.q c.sign_of-sign.ensures w.if-signs-i.false c.loop-i.invariant.0,
+        omega arith,
+      )
     ]
 
 pub returns : goal.returns

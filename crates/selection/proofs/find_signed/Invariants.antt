@@ -1,8 +1,6 @@
 -- `selection::find_signed` meets its contract. The invariant is that of `find`: what the whole list gives, the members from i on give.
-use mathlib.Core.Logic.{⊎_elim}
 use Prim.Native.Nat.{◌-◌, ◌≤◌}
-use native.Mathlib.Omega.{arith}
-use Rattle.selection.proofs.FindLaws.{Left, find-start, find-here, find-next, find-end, signs-fit, signs-long, find-skip}
+use Rattle.selection.proofs.FindLaws.{Left}
 use Rattle.selection.proofs.find_signed.Given as goal
 
 abbrev pub invariant-loop-i : goal.invariant-loop-i

@@ -5,17 +5,16 @@ use Rattle.rules.proofs.Sounds.{library-sound}
 use Rattle.selection.proofs.listed.Goals as goal
 
 pub place-i-requires : goal.place-i-requires
-place-i-requires c =
-    (
-      c.requires.library,
-      record {
-        packaged = list-packaged _ _ _ c.requires.library c.requires.t_bound.0 c.first_member-from.ensures c.member_total-count.ensures c.requires.t_bound.2;
-        asked = c.requires.t_bound.1;
-        fits = list-fits _ _ _ c.requires.library c.requires.t_bound.0 c.first_member-from.ensures c.member_total-count.ensures;
-        ordered = (library-sound c.requires.library).ordered;
-      },
-      list-within _ _ _ c.requires.library c.requires.t_bound.0 c.first_member-from.ensures c.member_total-count.ensures c.requires.t_bound.2,
-    )
+place-i-requires c = (
+  c.requires.library,
+  record {
+    packaged = list-packaged _ _ _ c.requires.library c.requires.t_bound.0 c.first_member-from.ensures c.member_total-count.ensures c.requires.t_bound.2;
+    asked = c.requires.t_bound.1;
+    fits = list-fits _ _ _ c.requires.library c.requires.t_bound.0 c.first_member-from.ensures c.member_total-count.ensures;
+    ordered = (library-sound c.requires.library).ordered;
+  },
+  list-within _ _ _ c.requires.library c.requires.t_bound.0 c.first_member-from.ensures c.member_total-count.ensures c.requires.t_bound.2,
+)
 
 pub overflow_add-result : goal.overflow_add-result
 overflow_add-result c =

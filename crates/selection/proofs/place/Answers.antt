@@ -1,6 +1,5 @@
 -- `selection::place` meets its contract: rows that say so are signed.
 use mathlib.Core.Path.{◌∙◌}
-use Rattle.selection.proofs.find_signed.Reads as find-signed-reads
 use Rattle.selection.proofs.place.Goals as goal
 
 pub find_signed-requires : goal.find_signed-requires

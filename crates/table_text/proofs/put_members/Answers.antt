@@ -1,16 +1,9 @@
 -- `put_members` meets its contract.
 -- the line of member i
-use mathlib.Core.Path.{◌≡◌, refl, ◌∙◌}
-use Prim.Native.Nat.{ℕ, ◌+◌, ◌-◌, ◌≤◌}
+use mathlib.Core.Path.{◌∙◌}
 use native.Mathlib.Omega.{arith}
-use lib.ListN.{length}
-use Rattle.objects.specs.Lists.{Bytes}
-use Rattle.objects.specs.Table.{obj_key}
-use Rattle.objects.specs.Rows.{Words}
-use Rattle.print.specs.Written.{written}
 use Rattle.print.proofs.WrittenLaws.{wrote-length}
-use Rattle.table_text.specs.Rows.{member_text}
-use Rattle.table_text.proofs.Loops.{left_from, next-room, next-wrote, next_place, all-wrote}
+use Rattle.table_text.proofs.Loops.{next-room, next-wrote, next_place, all-wrote}
 use Rattle.table_text.proofs.put_members.Invariants.{lines}
 use Rattle.table_text.proofs.put_members.Goals as goal
 
@@ -21,16 +14,15 @@ put_member_line-i-requires c =
     c.loop-j.invariant.1 c.requires.1 c.loop-j.invariant.3
 
 pub loop-j-preserved : goal.loop-j-preserved
-loop-j-preserved c =
-    (
-      c.loop-j.invariant.0
-          ∙ next-wrote (lines c.args.numbers.now c.args.text.now c.args.rows.now) c.args.first c.args.count
-          c.loop-j.j c.loop-j-test.true c.put_member_line-i.ensures,
-      next_place (lines c.args.numbers.now c.args.text.now c.args.rows.now) c.args.first c.args.count
-          c.loop-j.j c.loop-j-test.true _ c.put_member_line-i.ensures c.loop-j.invariant.1,
-      omega arith,
-      wrote-length c.put_member_line-i.ensures ∙ c.loop-j.invariant.3,
-    )
+loop-j-preserved c = (
+  c.loop-j.invariant.0
+      ∙ next-wrote (lines c.args.numbers.now c.args.text.now c.args.rows.now) c.args.first c.args.count
+      c.loop-j.j c.loop-j-test.true c.put_member_line-i.ensures,
+  next_place (lines c.args.numbers.now c.args.text.now c.args.rows.now) c.args.first c.args.count
+      c.loop-j.j c.loop-j-test.true _ c.put_member_line-i.ensures c.loop-j.invariant.1,
+  omega arith,
+  wrote-length c.put_member_line-i.ensures ∙ c.loop-j.invariant.3,
+)
 
 pub shape_of-out : goal.shape_of-out
 shape_of-out c = c.loop-j.invariant.3

@@ -1,16 +1,14 @@
 -- `put_members` meets its contract.
 -- the line of member i
-use mathlib.Core.Path.{◌≡◌, refl, ◌∙◌}
+use mathlib.Core.Path.{◌≡◌}
 use Prim.Native.Nat.{ℕ, ◌+◌, ◌-◌, ◌≤◌}
-use native.Mathlib.Omega.{arith}
 use lib.ListN.{length}
 use Rattle.objects.specs.Lists.{Bytes}
 use Rattle.objects.specs.Table.{obj_key}
 use Rattle.objects.specs.Rows.{Words}
 use Rattle.print.specs.Written.{written}
-use Rattle.print.proofs.WrittenLaws.{wrote-length}
 use Rattle.table_text.specs.Rows.{member_text}
-use Rattle.table_text.proofs.Loops.{left_from, next-room, next-wrote, next_place, all-wrote}
+use Rattle.table_text.proofs.Loops.{left_from}
 use Rattle.table_text.proofs.put_members.Given as goal
 
 abbrev pub lines : Words → Bytes → Words → ℕ → Bytes

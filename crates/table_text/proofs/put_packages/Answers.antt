@@ -1,16 +1,10 @@
 -- `put_packages` meets its contract.
 -- the lines of number i
-use mathlib.Core.Path.{◌≡◌, refl, ◌∙◌}
-use Prim.Native.Nat.{ℕ, ◌+◌, ◌-◌, ◌≤◌}
+use mathlib.Core.Path.{◌∙◌}
 use native.Mathlib.Omega.{arith}
-use lib.ListN.{length}
-use Rattle.objects.specs.Lists.{Bytes}
-use Rattle.objects.specs.Table.{package_key}
-use Rattle.objects.specs.Rows.{Words, package_count}
-use Rattle.print.specs.Written.{written}
+use Rattle.objects.specs.Rows.{package_count}
 use Rattle.print.proofs.WrittenLaws.{wrote-length}
-use Rattle.table_text.specs.Rows.{package_text}
-use Rattle.table_text.proofs.Loops.{left_from, zero_room, zero-wrote, zero-place, zero-all}
+use Rattle.table_text.proofs.Loops.{zero_room, zero-wrote, zero-place, zero-all}
 use Rattle.table_text.proofs.put_packages.Invariants.{lines}
 use Rattle.table_text.proofs.put_packages.Goals as goal
 
@@ -21,17 +15,16 @@ put_package_line-i-requires c =
     c.loop-j.invariant.1 c.requires c.loop-j.invariant.3
 
 pub loop-j-preserved : goal.loop-j-preserved
-loop-j-preserved c =
-    (
-      c.loop-j.invariant.0
-          ∙ zero-wrote (lines c.args.text.now c.args.rows.now) (package_count c.args.rows.now)
-          c.package_count-count.ensures c.loop-j.j c.loop-j-test.true c.put_package_line-i.ensures,
-      zero-place (lines c.args.text.now c.args.rows.now) (package_count c.args.rows.now)
-          c.package_count-count.ensures c.loop-j.j c.loop-j-test.true _ c.put_package_line-i.ensures
-          c.loop-j.invariant.1,
-      omega arith,
-      wrote-length c.put_package_line-i.ensures ∙ c.loop-j.invariant.3,
-    )
+loop-j-preserved c = (
+  c.loop-j.invariant.0
+      ∙ zero-wrote (lines c.args.text.now c.args.rows.now) (package_count c.args.rows.now)
+      c.package_count-count.ensures c.loop-j.j c.loop-j-test.true c.put_package_line-i.ensures,
+  zero-place (lines c.args.text.now c.args.rows.now) (package_count c.args.rows.now)
+      c.package_count-count.ensures c.loop-j.j c.loop-j-test.true _ c.put_package_line-i.ensures
+      c.loop-j.invariant.1,
+  omega arith,
+  wrote-length c.put_package_line-i.ensures ∙ c.loop-j.invariant.3,
+)
 
 pub shape_of-out : goal.shape_of-out
 shape_of-out c = c.loop-j.invariant.3

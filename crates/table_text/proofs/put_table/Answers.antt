@@ -11,12 +11,11 @@ put_packages-j-requires c =
     packages-room c.args.text.now c.args.rows.now c.args.out.now _ c.requires.1 c.put_word-i.ensures
 
 pub put_types-requires : goal.put_types-requires
-put_types-requires c =
-    (
-      laid-small c.args.rows.now c.requires.0,
-      types-room c.args.text.now c.args.rows.now c.args.out.now _ c.requires.1 c.put_word-i.ensures
-          c.put_packages-j.ensures,
-    )
+put_types-requires c = (
+  laid-small c.args.rows.now c.requires.0,
+  types-room c.args.text.now c.args.rows.now c.args.out.now _ c.requires.1 c.put_word-i.ensures
+      c.put_packages-j.ensures,
+)
 
 pub returns : goal.returns
 returns c =

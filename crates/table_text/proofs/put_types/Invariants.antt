@@ -1,16 +1,14 @@
 -- `put_types` meets its contract.
 -- the lines of number i
-use mathlib.Core.Path.{◌≡◌, refl, ◌∙◌}
+use mathlib.Core.Path.{◌≡◌}
 use Prim.Native.Nat.{ℕ, ◌+◌, ◌-◌, ◌≤◌}
-use native.Mathlib.Omega.{arith}
 use lib.ListN.{length}
 use Rattle.objects.specs.Lists.{Bytes}
 use Rattle.objects.specs.Table.{type_key}
 use Rattle.objects.specs.Rows.{Words, type_count}
 use Rattle.print.specs.Written.{written}
-use Rattle.print.proofs.WrittenLaws.{wrote-length}
 use Rattle.table_text.specs.Rows.{type_lines_text}
-use Rattle.table_text.proofs.Loops.{left_from, zero_room, zero-wrote, zero-place, zero-all, less_as}
+use Rattle.table_text.proofs.Loops.{left_from}
 use Rattle.table_text.proofs.put_types.Given as goal
 
 abbrev pub lines : Words → Bytes → Words → ℕ → Bytes

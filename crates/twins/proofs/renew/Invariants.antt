@@ -1,10 +1,8 @@
 -- `renew` meets its contract. The invariant: the labels before `i` are the fresh ones, the others are as they were, and `changed` tells whether one of the first is another.
 use mathlib.Core.Path.{◌≡◌}
-use mathlib.Core.Logic.{⊎_elim}
 use Prim.Native.Nat.{◌-◌, ◌≤◌}
-use native.Mathlib.Omega.{arith}
-use lib.ListN.{length, length-set}
-use Rattle.twins.proofs.SlackLaws.{Renewing, renewing-none, renewing-other, renewing-same, renewing-all}
+use lib.ListN.{length}
+use Rattle.twins.proofs.SlackLaws.{Renewing}
 use Rattle.twins.proofs.renew.Given as goal
 
 abbrev pub invariant-loop-i : goal.invariant-loop-i

@@ -1,12 +1,10 @@
 -- `settle` meets its contract. The invariant: identical types have one label, and once no round changes a label they are the least twins.
-use mathlib.Core.Path.{◌≡◌, refl, ◌∙◌}
+use mathlib.Core.Path.{◌≡◌}
 use mathlib.Core.Bool.{false}
-use native.Mathlib.Omega.{arith}
 use lib.ListN.{length}
 use Rattle.objects.specs.Rows.{table_of}
-use Rattle.objects.proofs.ListLaws.{clash}
 use Rattle.twins.specs.Labels.{Coarse, Twinned}
-use Rattle.twins.proofs.SettleLaws.{cleared-coarse, ahead, next-coarse, next-twinned, next-falls}
+use Rattle.twins.proofs.SettleLaws.{ahead}
 use Rattle.twins.proofs.settle.Given as goal
 
 abbrev pub invariant-loop-more : goal.invariant-loop-more

@@ -1,12 +1,8 @@
 -- `first_hits::cover::cover_methods` meets its contract. The invariant: the names are hidden by the fields that the rows so far have.
-use mathlib.Core.Path.{◌≡◌, refl, ap}
+use mathlib.Core.Path.{◌≡◌}
 use Prim.Native.Nat.{◌-◌, ◌≤◌}
-use native.Mathlib.Omega.{arith}
 use lib.ListN.{length, take}
-use Rattle.walk_rows.proofs.StateLaws.{rows-most}
 use Rattle.first_hits.specs.Hits.{Held, Covered, methods_met, fields_met}
-use Rattle.first_hits.proofs.CoverLaws.{covered_none, covered-empty}
-use Rattle.first_hits.proofs.MetLaws.{row_typed, fields-none, fields-more}
 use Rattle.first_hits.proofs.cover.cover_methods.Given as goal
 
 abbrev pub invariant-loop-i : goal.invariant-loop-i

@@ -1,11 +1,9 @@
 -- `first_hits::cover::cover_stretch` meets its contract. The invariant: the hits go from those at the start to those now, by the fields met so far.
-use mathlib.Core.Path.{◌≡◌, refl}
+use mathlib.Core.Path.{◌≡◌}
 use Prim.Native.Nat.{◌-◌, ◌≤◌}
-use native.Mathlib.Omega.{arith}
 use lib.ListN.{length, take}
 use Rattle.first_hits.specs.Hits.{Held, stretch_met}
-use Rattle.first_hits.proofs.CoverLaws.{Covers, covers-none, covers-then}
-use Rattle.first_hits.proofs.MetLaws.{stretch-none, stretch-more}
+use Rattle.first_hits.proofs.CoverLaws.{Covers}
 use Rattle.first_hits.proofs.cover.cover_stretch.Given as goal
 
 abbrev pub invariant-loop-j : goal.invariant-loop-j

@@ -1,6 +1,4 @@
 -- `first_hits::gather::meet_declared` meets its contract.
-use Rattle.objects.proofs.ListLaws.{un_not}
-use Rattle.objects.proofs.BoolLaws.{not_yes}
 use Rattle.levels.proofs.HitLaws.{type-read}
 use Rattle.first_hits.proofs.SettleLaws.{carries-none}
 use Rattle.first_hits.proofs.MetLaws.{declared-none, declared-some, declared-within}

@@ -1,12 +1,8 @@
 -- `first_hits::gather::meet_methods` meets its contract. The invariant: the names are settled by what the rows so far have.
-use mathlib.Core.Path.{◌≡◌, refl}
+use mathlib.Core.Path.{◌≡◌}
 use Prim.Native.Nat.{◌-◌, ◌≤◌}
-use native.Mathlib.Omega.{arith}
 use lib.ListN.{length, take}
-use Rattle.walk_rows.proofs.StateLaws.{rows-most}
 use Rattle.first_hits.specs.Hits.{Held, Settles, methods_met}
-use Rattle.first_hits.proofs.SettleLaws.{settles-none}
-use Rattle.first_hits.proofs.MetLaws.{row_typed, methods-none, methods-more}
 use Rattle.first_hits.proofs.gather.meet_methods.Given as goal
 
 abbrev pub invariant-loop-i : goal.invariant-loop-i

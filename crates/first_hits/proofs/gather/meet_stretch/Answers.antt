@@ -1,11 +1,8 @@
 -- `first_hits::gather::meet_stretch` meets its contract. The invariant: the names and hits go from those at the start to those now, by the members met so far.
 use Rattle.std.proofs.Common.{rules}
 use mathlib.Core.Path.{◌≡◌, refl}
-use Prim.Native.Nat.{◌-◌, ◌≤◌}
 use native.Mathlib.Omega.{arith}
-use lib.ListN.{length}
-use Rattle.first_hits.specs.Hits.{Held, stretch_met}
-use Rattle.first_hits.proofs.SettleLaws.{Carries, carries-none, carries-then}
+use Rattle.first_hits.proofs.SettleLaws.{carries-none, carries-then}
 use Rattle.first_hits.proofs.MetLaws.{stretch-none, stretch-more}
 use Rattle.first_hits.proofs.gather.meet_stretch.Goals as goal
 

@@ -1,11 +1,9 @@
 -- `first_hits::gather::meet_stretch` meets its contract. The invariant: the names and hits go from those at the start to those now, by the members met so far.
-use mathlib.Core.Path.{◌≡◌, refl}
+use mathlib.Core.Path.{◌≡◌}
 use Prim.Native.Nat.{◌-◌, ◌≤◌}
-use native.Mathlib.Omega.{arith}
 use lib.ListN.{length}
 use Rattle.first_hits.specs.Hits.{Held, stretch_met}
-use Rattle.first_hits.proofs.SettleLaws.{Carries, carries-none, carries-then}
-use Rattle.first_hits.proofs.MetLaws.{stretch-none, stretch-more}
+use Rattle.first_hits.proofs.SettleLaws.{Carries}
 use Rattle.first_hits.proofs.gather.meet_stretch.Given as goal
 
 abbrev pub invariant-loop-j : goal.invariant-loop-j

@@ -5,7 +5,7 @@ use native.Mathlib.Omega.{arith}
 use lib.ListN.{get_or}
 use Rattle.obj.specs.Ids.{id_meant}
 use Rattle.first_hits.proofs.KeyMembers.{packaged-at}
-use Rattle.first_hits.proofs.SearchLaws.{Between, between_start, between-less, between-greater, between-equal, between-end, id-read, name-key, halfway}
+use Rattle.first_hits.proofs.SearchLaws.{between_start, between-less, between-greater, between-equal, between-end, id-read, name-key, halfway}
 use Rattle.first_hits.proofs.names.place_of.Goals as goal
 
 pub loop-low-init : goal.loop-low-init

@@ -1,10 +1,8 @@
 -- `first_hits::names::shift` meets its contract. The invariant: the words from j up to n went one place further.
-use mathlib.Core.Path.{◌≡◌, ap, ◌∙◌}
+use mathlib.Core.Path.{◌≡◌}
 use mathlib.Core.List.{◌++◌}
 use Prim.Native.Nat.{◌+◌, ◌-◌, ◌≤◌}
-use native.Mathlib.Omega.{arith}
 use lib.ListN.{take, drop}
-use Rattle.first_hits.proofs.SortedParts.{gone, gone-none, gone-more, gone_long}
 use Rattle.first_hits.proofs.names.shift.Given as goal
 
 abbrev pub invariant-loop-j : goal.invariant-loop-j

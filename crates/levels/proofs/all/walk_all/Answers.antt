@@ -1,14 +1,10 @@
 -- `levels::all::walk_all` meets its contract. The invariant: the records hold the levels so far, from the type of the first row on.
 use Rattle.std.proofs.Common.{rules}
-use mathlib.Core.Path.{◌≡◌, refl}
-use Prim.Native.Nat.{◌-◌}
+use mathlib.Core.Path.{refl}
 use native.Mathlib.Omega.{arith}
-use lib.ListN.{length}
-use Rattle.multiples.specs.Records.{max_records}
-use Rattle.walk_rows.specs.Records.{row_of}
 use Rattle.walk_rows.proofs.StateLaws.{rows-most}
 use Rattle.levels.proofs.StageLaws.{staged-first, stage-begins, stage-last}
-use Rattle.levels.proofs.AllLaws.{Deepens, root-type, deepens-first, deepens-on, deepens-all}
+use Rattle.levels.proofs.AllLaws.{root-type, deepens-first, deepens-on, deepens-all}
 use Rattle.levels.proofs.all.walk_all.Goals as goal
 
 pub put_root-requires : goal.put_root-requires

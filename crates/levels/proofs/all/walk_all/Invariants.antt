@@ -1,13 +1,10 @@
 -- `levels::all::walk_all` meets its contract. The invariant: the records hold the levels so far, from the type of the first row on.
-use mathlib.Core.Path.{◌≡◌, refl}
+use mathlib.Core.Path.{◌≡◌}
 use Prim.Native.Nat.{◌-◌}
-use native.Mathlib.Omega.{arith}
 use lib.ListN.{length}
 use Rattle.multiples.specs.Records.{max_records}
 use Rattle.walk_rows.specs.Records.{row_of}
-use Rattle.walk_rows.proofs.StateLaws.{rows-most}
-use Rattle.levels.proofs.StageLaws.{staged-first, stage-begins, stage-last}
-use Rattle.levels.proofs.AllLaws.{Deepens, root-type, deepens-first, deepens-on, deepens-all}
+use Rattle.levels.proofs.AllLaws.{Deepens}
 use Rattle.levels.proofs.all.walk_all.Given as goal
 
 abbrev pub invariant-loop-lo : goal.invariant-loop-lo

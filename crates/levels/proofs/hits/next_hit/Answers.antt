@@ -1,12 +1,10 @@
 -- `levels::hits::next_hit` meets its contract. The invariant: no row from lo up to i has the name.
-use Prim.Native.Nat.{◌-◌}
 use native.Mathlib.Omega.{arith}
 use Rattle.objects.specs.Rows.{word_at}
-use Rattle.selection.specs.Results.{name_meant}
 use Rattle.walk_rows.proofs.StateLaws.{rows-most}
 use Rattle.walk_rows.proofs.LowerLaws.{row_in}
 use Rattle.levels.specs.Hits.{Tells}
-use Rattle.levels.proofs.HitLaws.{type-read, Looked, looked-start, looked-on, looked-end, hit-found}
+use Rattle.levels.proofs.HitLaws.{type-read, looked-start, looked-on, looked-end, hit-found}
 use Rattle.levels.proofs.hits.next_hit.Goals as goal
 
 pub loop-i-init : goal.loop-i-init

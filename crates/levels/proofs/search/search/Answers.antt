@@ -1,15 +1,11 @@
 -- `levels::search::search` meets its contract. The invariant: the records hold the levels so far, and what is left of the search gives what is due.
 use Rattle.std.proofs.Common.{rules}
-use mathlib.Core.Path.{◌≡◌, refl}
-use Prim.Native.Nat.{◌-◌}
+use mathlib.Core.Path.{refl}
 use native.Mathlib.Omega.{arith}
-use lib.ListN.{length}
-use Rattle.selection.specs.Results.{name_meant}
-use Rattle.multiples.specs.Records.{max_records}
 use Rattle.walk_rows.proofs.StateLaws.{rows-most}
 use Rattle.levels.proofs.StageLaws.{staged-first, stage-begins, stage-last}
 use Rattle.levels.proofs.HitLaws.{tells-nothing, tells_at}
-use Rattle.levels.proofs.SearchLaws.{Going, going-first, going_on, going-short, going-beside, going-found, going_end}
+use Rattle.levels.proofs.SearchLaws.{going-first, going_on, going-short, going-beside, going-found, going_end}
 use Rattle.levels.proofs.search.search.Goals as goal
 
 pub put_root-requires : goal.put_root-requires

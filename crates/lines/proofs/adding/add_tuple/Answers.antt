@@ -13,13 +13,12 @@ put_type-requires c =
     (c.requires.0, few, c.requires.3 few)
 
 pub put_elements-requires : goal.put_elements-requires
-put_elements-requires c =
-    (
-      c.put_type.ensures.holds.laid,
-      new-tuple _ _ _ _ c.put_type.ensures.holds,
-      omega (arith, c.put_type.ensures.rows_unchanged, c.requires.1),
-      omega (arith, tuple-members c.args.s.now _ _ _ c.put_type.ensures.holds, c.put_type.ensures.rows_unchanged, c.put_type.auto.rows, ap members_at c.put_type.auto.rows, c.requires.2),
-    )
+put_elements-requires c = (
+  c.put_type.ensures.holds.laid,
+  new-tuple _ _ _ _ c.put_type.ensures.holds,
+  omega (arith, c.put_type.ensures.rows_unchanged, c.requires.1),
+  omega (arith, tuple-members c.args.s.now _ _ _ c.put_type.ensures.holds, c.put_type.ensures.rows_unchanged, c.put_type.auto.rows, ap members_at c.put_type.auto.rows, c.requires.2),
+)
 
 pub returns-then-put_elements : goal.returns-then-put_elements
 returns-then-put_elements c =

@@ -1,8 +1,5 @@
 -- `lines::adding::listed` meets its contract.
-use mathlib.Core.Path.{◌≡◌, refl, sym, ◌∙◌}
-use lib.ListN.{length}
-use Rattle.text.specs.Cursors.{fields_left}
-use Rattle.line_forms.specs.Steps.{all_read}
+use mathlib.Core.Path.{sym, ◌∙◌}
 use Rattle.lines.proofs.TupleLaws.{all_done, all-wrong, all_more, fields-fall}
 use Rattle.lines.proofs.adding.listed.Goals as goal
 

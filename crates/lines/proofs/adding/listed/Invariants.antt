@@ -1,9 +1,8 @@
 -- `lines::adding::listed` meets its contract.
-use mathlib.Core.Path.{◌≡◌, refl, sym, ◌∙◌}
+use mathlib.Core.Path.{◌≡◌}
 use lib.ListN.{length}
 use Rattle.text.specs.Cursors.{fields_left}
 use Rattle.line_forms.specs.Steps.{all_read}
-use Rattle.lines.proofs.TupleLaws.{all_done, all-wrong, all_more, fields-fall}
 use Rattle.lines.proofs.adding.listed.Given as goal
 
 abbrev pub invariant-loop-d : goal.invariant-loop-d

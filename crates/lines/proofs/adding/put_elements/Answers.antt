@@ -1,16 +1,8 @@
 -- `lines::adding::put_elements` meets its contract.
-use mathlib.Core.Path.{◌≡◌, refl, sym, ap, ◌∙◌}
-use Prim.Native.Nat.{◌+◌, ◌≤◌}
+use mathlib.Core.Path.{refl, sym, ap, ◌∙◌}
 use lib.ListN.{length}
 use native.Mathlib.Omega.{arith}
 use Rattle.objects.specs.Bounds.{members_at}
-use Rattle.objects.specs.Table.{kind_number}
-use Rattle.objects.specs.Rows.{element_count, table_of}
-use Rattle.objects.specs.Laid.{used, Laid}
-use Rattle.text.specs.Cursors.{fields_left}
-use Rattle.rules.specs.Load.{last_kind}
-use Rattle.line_forms.specs.Steps.{all_read, elements_read}
-use Rattle.lines.specs.Adding.{with_elements}
 use Rattle.lines.proofs.TupleLaws.{all_done, all-wrong, all_more, elements-done, elements-end, elements-more, element-members, still-tuple, turn, turn_end, element-ready}
 use Rattle.lines.proofs.adding.put_elements.Goals as goal
 
@@ -34,8 +26,7 @@ loop-d-smaller c = omega (arith, ap length (elements-more c.args.s.now c.loop-d.
 pub loop-d-preserved : goal.loop-d-preserved
 loop-d-preserved c =
     let more = elements-more c.args.s.now c.loop-d.d _ c.small.ensures c.in-Value.is in
-    let shorter = ap length more in
-    (
+    let shorter = ap length more in (
       c.put_element.ensures.holds.laid,
       still-tuple _ _ _ _ c.put_element.ensures.holds c.loop-d.invariant.1,
       c.loop-d.invariant.2 ∙ turn _ _ _ _ c.put_element.ensures.holds _ more,

@@ -1,9 +1,7 @@
 -- `lines::adding::put_elements` meets its contract.
-use mathlib.Core.Path.{◌≡◌, refl, sym, ap, ◌∙◌}
+use mathlib.Core.Path.{◌≡◌}
 use Prim.Native.Nat.{◌+◌, ◌≤◌}
 use lib.ListN.{length}
-use native.Mathlib.Omega.{arith}
-use Rattle.objects.specs.Bounds.{members_at}
 use Rattle.objects.specs.Table.{kind_number}
 use Rattle.objects.specs.Rows.{element_count, table_of}
 use Rattle.objects.specs.Laid.{used, Laid}
@@ -11,7 +9,6 @@ use Rattle.text.specs.Cursors.{fields_left}
 use Rattle.rules.specs.Load.{last_kind}
 use Rattle.line_forms.specs.Steps.{all_read, elements_read}
 use Rattle.lines.specs.Adding.{with_elements}
-use Rattle.lines.proofs.TupleLaws.{all_done, all-wrong, all_more, elements-done, elements-end, elements-more, element-members, still-tuple, turn, turn_end, element-ready}
 use Rattle.lines.proofs.adding.put_elements.Given as goal
 
 abbrev pub invariant-loop-d : goal.invariant-loop-d

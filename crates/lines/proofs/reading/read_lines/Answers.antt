@@ -1,15 +1,9 @@
 -- `lines::reading::read_lines` meets its contract.
 use Rattle.std.proofs.Common.{rules}
-use mathlib.Core.Path.{◌≡◌, refl, subst, ◌∙◌}
-use Prim.Native.Nat.{◌-◌, ◌≤◌}
+use mathlib.Core.Path.{refl, subst, ◌∙◌}
 use native.Mathlib.Omega.{arith}
-use lib.ListN.{length, drop}
-use Rattle.objects.specs.Bounds.{bounds}
 use Rattle.objects.specs.Rows.{table_of}
-use Rattle.objects.specs.Laid.{Laid}
-use Rattle.text.specs.Lines.{pieces}
-use Rattle.rules.specs.Load.{lines_from}
-use Rattle.lines.specs.Adding.{bytes_taken, Grown}
+use Rattle.lines.specs.Adding.{Grown}
 use Rattle.lines.specs.Reading.{read_meant}
 use Rattle.lines.proofs.ReadLaws.{end-within, end-behind, text-ends, line-cut, line-room, line-brings, line_refused, line_read}
 use Rattle.lines.proofs.reading.read_lines.Goals as goal

@@ -1,12 +1,8 @@
 -- `lookup::missing::first_unmet` meets its contract. The invariant: what the whole list gives, the methods from i on give.
 use Rattle.std.proofs.Common.{rules}
-use mathlib.Core.Path.{◌≡◌, refl, sym, ap, ◌∙◌}
-use Prim.Native.Nat.{◌+◌, ◌-◌, ◌≤◌}
+use mathlib.Core.Path.{refl, sym, ap, ◌∙◌}
 use native.Mathlib.Omega.{arith}
 use lib.ListN.{length}
-use Rattle.objects.specs.Rows.{members_from, table_of}
-use Rattle.rules.specs.Missing.{first_unmet}
-use Rattle.walk_rows.specs.State.{Wide}
 use Rattle.lookup.proofs.MissingLaws.{zeros-still, long-still, scratch-still, unmet-start, unmet-here, unmet-next, unmet-end}
 use Rattle.lookup.proofs.missing.first_unmet.Goals as goal
 

@@ -1,16 +1,12 @@
 -- `fits` meets its contract and ends: what is spent so far and what is still due are all.
-use mathlib.Core.Path.{◌≡◌, refl, sym, ap, ◌∙◌}
+use mathlib.Core.Path.{◌≡◌}
 use Prim.Native.Nat.{◌+◌, ◌-◌, ◌≤◌}
-use native.Mathlib.Omega.{arith}
 use lib.ListN.{length}
-use borrow.Author.Tests.{le-leb, lt-leb}
 use Rattle.objects.specs.Lists.{flat}
 use Rattle.objects.specs.Rows.{table_of}
-use Rattle.text.specs.Cursors.{part}
 use Rattle.rules.specs.AskedAll.{question_lines, reply_bytes}
 use Rattle.input.specs.Parts.{questions_at}
 use Rattle.answer.specs.Lent.{Lent}
-use Rattle.replies.proofs.Filling.{due_all, due-none, due-next, inside}
 use Rattle.replies.proofs.all.fits.Given as goal
 
 abbrev pub invariant-loop-end : goal.invariant-loop-end

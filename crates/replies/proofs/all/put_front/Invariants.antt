@@ -1,10 +1,8 @@
 -- `put_front` meets its contract: the bytes so far stand in front, those behind are as they were.
-use mathlib.Core.Path.{◌≡◌, refl, ap, ◌∙◌}
+use mathlib.Core.Path.{◌≡◌}
 use mathlib.Core.List.{◌++◌}
 use Prim.Native.Nat.{◌-◌, ◌≤◌}
-use native.Mathlib.Omega.{arith}
-use lib.ListN.{length, take, drop, get_or, set}
-use Rattle.replies.proofs.Filling.{front_length, front-next}
+use lib.ListN.{take, drop}
 use Rattle.replies.proofs.all.put_front.Given as goal
 
 abbrev pub invariant-loop-i : goal.invariant-loop-i

@@ -1,15 +1,10 @@
 -- `fill` meets its contract and ends: at each turn the place lies further behind. The marks are clear at each turn, and the scratch may be lent again.
-use mathlib.Core.Path.{◌≡◌, refl, ap, ◌∙◌}
-use Prim.Native.Nat.{ℕ, ◌-◌, ◌^◌, ◌≤◌, ◌<◌}
-use native.Mathlib.Omega.{arith}
+use mathlib.Core.Path.{◌≡◌}
+use Prim.Native.Nat.{◌-◌}
 use lib.ListN.{length}
-use borrow.Rule.Slice.PartMut.{same_len_mid}
 use Rattle.objects.specs.Rows.{table_of}
-use Rattle.text.specs.Cursors.{part}
 use Rattle.answer.specs.Lent.{Lent}
 use Rattle.replies.specs.Replies.{Filling}
-use Rattle.replies.proofs.Replying.{said-is, long-is, never-refused}
-use Rattle.replies.proofs.Filling.{none_filled, out-length, full-end, full-next, filling-kept, filled_next, within}
 use Rattle.replies.proofs.fill.fill.Given as goal
 
 abbrev pub invariant-loop-end : goal.invariant-loop-end

@@ -1,11 +1,7 @@
 -- `put_lines` meets its contract: what is written and what is still to be are the whole.
 use native.Mathlib.Omega.{arith}
-use mathlib.Core.Path.{◌≡◌, refl, ◌∙◌}
-use Prim.Native.Nat.{◌+◌, ◌-◌, ◌≤◌}
-use lib.ListN.{length, take, drop}
-use Rattle.print.specs.Written.{written}
+use mathlib.Core.Path.{◌∙◌}
 use Rattle.print.proofs.WrittenLaws.{wrote-length}
-use Rattle.reply.specs.SetLines.{sel_lines}
 use Rattle.reply.proofs.Setting.{next-length, lines-wrote, all-wrote, short-at}
 use Rattle.reply.proofs.set_lines.put_lines.Goals as goal
 
@@ -14,14 +10,13 @@ put_sel-end-requires c =
     record { says = (short-at c.args.rows.now c.args.walk.now c.args.hits.now c.args.names.now c.args.n c.loop-i.i (omega arith) c.loop-i-test.true c.requires.short, omega arith); k_in_bounds = omega (arith, next-length c.args.rows.now c.args.walk.now c.args.hits.now c.args.names.now c.args.n c.loop-i.i (omega arith) c.loop-i-test.true, c.loop-i.invariant.1, c.loop-i.invariant.3, c.requires.names_in_bounds) }
 
 pub loop-i-preserved : goal.loop-i-preserved
-loop-i-preserved c =
-    (
-      c.loop-i.invariant.0 ∙ lines-wrote c.args.rows.now c.args.walk.now c.args.hits.now c.args.names.now c.args.n c.loop-i.i (omega arith) c.loop-i-test.true c.put_sel-end.ensures,
-      omega (arith, c.loop-i.invariant.1, next-length c.args.rows.now c.args.walk.now c.args.hits.now c.args.names.now c.args.n c.loop-i.i (omega arith) c.loop-i-test.true, c.put_sel-end.ensures.past),
-      omega arith,
-      wrote-length c.put_sel-end.ensures ∙ c.loop-i.invariant.3,
-      c.put_sel-end.auto.numbers ∙ c.loop-i.invariant.4,
-    )
+loop-i-preserved c = (
+  c.loop-i.invariant.0 ∙ lines-wrote c.args.rows.now c.args.walk.now c.args.hits.now c.args.names.now c.args.n c.loop-i.i (omega arith) c.loop-i-test.true c.put_sel-end.ensures,
+  omega (arith, c.loop-i.invariant.1, next-length c.args.rows.now c.args.walk.now c.args.hits.now c.args.names.now c.args.n c.loop-i.i (omega arith) c.loop-i-test.true, c.put_sel-end.ensures.past),
+  omega arith,
+  wrote-length c.put_sel-end.ensures ∙ c.loop-i.invariant.3,
+  c.put_sel-end.auto.numbers ∙ c.loop-i.invariant.4,
+)
 
 pub shape_of-answer : goal.shape_of-answer
 shape_of-answer c = c.loop-i.invariant.3

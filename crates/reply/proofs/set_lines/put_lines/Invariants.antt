@@ -1,12 +1,9 @@
 -- `put_lines` meets its contract: what is written and what is still to be are the whole.
-use native.Mathlib.Omega.{arith}
-use mathlib.Core.Path.{◌≡◌, refl, ◌∙◌}
+use mathlib.Core.Path.{◌≡◌}
 use Prim.Native.Nat.{◌+◌, ◌-◌, ◌≤◌}
 use lib.ListN.{length, take, drop}
 use Rattle.print.specs.Written.{written}
-use Rattle.print.proofs.WrittenLaws.{wrote-length}
 use Rattle.reply.specs.SetLines.{sel_lines}
-use Rattle.reply.proofs.Setting.{next-length, lines-wrote, all-wrote, short-at}
 use Rattle.reply.proofs.set_lines.put_lines.Given as goal
 
 abbrev pub invariant-loop-i : goal.invariant-loop-i

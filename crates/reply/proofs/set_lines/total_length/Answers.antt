@@ -1,10 +1,6 @@
 -- `total_length` meets its contract: what is counted and what is left are the whole.
 use native.Mathlib.Omega.{arith}
-use mathlib.Core.Path.{◌≡◌, refl, ◌∙◌}
-use Prim.Native.Nat.{◌+◌, ◌*◌, ◌-◌, ◌≤◌}
-use lib.ListN.{length, take, drop}
-use Rattle.print.specs.Written.{max_line}
-use Rattle.reply.specs.SetLines.{sel_lines}
+use mathlib.Core.Path.{◌∙◌}
 use Rattle.reply.proofs.Setting.{next-length, end-length, short-at}
 use Rattle.reply.proofs.set_lines.total_length.Goals as goal
 
@@ -13,13 +9,12 @@ sel_length-total-requires c =
     (short-at c.args.rows.now c.args.walk.now c.args.hits.now c.args.names.now c.args.n c.loop-i.i (omega arith) c.loop-i-test.true c.requires.short, omega arith)
 
 pub loop-i-preserved : goal.loop-i-preserved
-loop-i-preserved c =
-    (
-      omega (arith, c.loop-i.invariant.0, next-length c.args.rows.now c.args.walk.now c.args.hits.now c.args.names.now c.args.n c.loop-i.i (omega arith) c.loop-i-test.true, c.sel_length-total.ensures.0),
-      omega arith,
-      omega arith,
-      c.sel_length-total.auto.numbers ∙ c.loop-i.invariant.3,
-    )
+loop-i-preserved c = (
+  omega (arith, c.loop-i.invariant.0, next-length c.args.rows.now c.args.walk.now c.args.hits.now c.args.names.now c.args.n c.loop-i.i (omega arith) c.loop-i-test.true, c.sel_length-total.ensures.0),
+  omega arith,
+  omega arith,
+  c.sel_length-total.auto.numbers ∙ c.loop-i.invariant.3,
+)
 
 pub returns : goal.returns
 returns c =

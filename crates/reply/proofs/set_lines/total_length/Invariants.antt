@@ -1,11 +1,9 @@
 -- `total_length` meets its contract: what is counted and what is left are the whole.
-use native.Mathlib.Omega.{arith}
-use mathlib.Core.Path.{◌≡◌, refl, ◌∙◌}
+use mathlib.Core.Path.{◌≡◌}
 use Prim.Native.Nat.{◌+◌, ◌*◌, ◌-◌, ◌≤◌}
 use lib.ListN.{length, take, drop}
 use Rattle.print.specs.Written.{max_line}
 use Rattle.reply.specs.SetLines.{sel_lines}
-use Rattle.reply.proofs.Setting.{next-length, end-length, short-at}
 use Rattle.reply.proofs.set_lines.total_length.Given as goal
 
 abbrev pub invariant-loop-i : goal.invariant-loop-i

@@ -1,12 +1,10 @@
 -- `put_elements` meets its contract: what is written and what is still to be written is always the whole.
-use mathlib.Core.Path.{◌≡◌, refl, ap, ◌∙◌}
-use Prim.Native.Nat.{◌+◌, ◌-◌, ◌≤◌}
+use mathlib.Core.Path.{ap, ◌∙◌}
 use native.Mathlib.Omega.{arith}
 use lib.ListN.{length, length-set}
 use Rattle.objects.specs.declared.TypeKey.{TypeKey}
-use Rattle.print.specs.Written.{written}
 use Rattle.print.proofs.WrittenLaws.{wrote-length}
-use Rattle.table_text.proofs.Writing.{elements_left, elements-all, element-length, element-wrote, none-length, elements-wrote}
+use Rattle.table_text.proofs.Writing.{elements-all, element-length, element-wrote, none-length, elements-wrote}
 use Rattle.table_text.specs.Rows.{carried_number}
 use Rattle.table_text.proofs.lines.put_elements.Goals as goal
 
@@ -21,23 +19,22 @@ put_field-i-requires c =
     )
 
 pub loop-j-preserved : goal.loop-j-preserved
-loop-j-preserved c =
-    (
-      c.loop-j.invariant.0
-          ∙ element-wrote c.args.numbers.now c.args.rows.now c.args.first c.args.count c.loop-j.j
-          c.loop-j-test.true
-          (c.carried-n.ensures ∙ ap (λ (e : TypeKey). carried_number c.args.numbers.now e.0) c.element-e.ensures)
-          c.put_field-i.ensures,
-      omega (
-        arith,
-        c.put_field-i.ensures.past,
-        element-length c.args.numbers.now c.args.rows.now c.args.first c.args.count c.loop-j.j
-            c.loop-j-test.true
-            (c.carried-n.ensures ∙ ap (λ (e : TypeKey). carried_number c.args.numbers.now e.0) c.element-e.ensures),
-      ),
-      omega arith,
-      wrote-length c.put_field-i.ensures ∙ c.loop-j.invariant.3,
-    )
+loop-j-preserved c = (
+  c.loop-j.invariant.0
+      ∙ element-wrote c.args.numbers.now c.args.rows.now c.args.first c.args.count c.loop-j.j
+      c.loop-j-test.true
+      (c.carried-n.ensures ∙ ap (λ (e : TypeKey). carried_number c.args.numbers.now e.0) c.element-e.ensures)
+      c.put_field-i.ensures,
+  omega (
+    arith,
+    c.put_field-i.ensures.past,
+    element-length c.args.numbers.now c.args.rows.now c.args.first c.args.count c.loop-j.j
+        c.loop-j-test.true
+        (c.carried-n.ensures ∙ ap (λ (e : TypeKey). carried_number c.args.numbers.now e.0) c.element-e.ensures),
+  ),
+  omega arith,
+  wrote-length c.put_field-i.ensures ∙ c.loop-j.invariant.3,
+)
 
 pub bounds-out-i : goal.bounds-out-i
 bounds-out-i c =

@@ -1,13 +1,9 @@
 -- `put_elements` meets its contract: what is written and what is still to be written is always the whole.
-use mathlib.Core.Path.{◌≡◌, refl, ap, ◌∙◌}
+use mathlib.Core.Path.{◌≡◌}
 use Prim.Native.Nat.{◌+◌, ◌-◌, ◌≤◌}
-use native.Mathlib.Omega.{arith}
-use lib.ListN.{length, length-set}
-use Rattle.objects.specs.declared.TypeKey.{TypeKey}
+use lib.ListN.{length}
 use Rattle.print.specs.Written.{written}
-use Rattle.print.proofs.WrittenLaws.{wrote-length}
-use Rattle.table_text.proofs.Writing.{elements_left, elements-all, element-length, element-wrote, none-length, elements-wrote}
-use Rattle.table_text.specs.Rows.{carried_number}
+use Rattle.table_text.proofs.Writing.{elements_left}
 use Rattle.table_text.proofs.lines.put_elements.Given as goal
 
 abbrev pub invariant-loop-j : goal.invariant-loop-j

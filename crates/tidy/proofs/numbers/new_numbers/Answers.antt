@@ -1,11 +1,9 @@
 -- `new_numbers` meets its contract.
 use Rattle.tidy.proofs.NumberLaws.{numbers-own, numbers-other, less_other}
-use Prim.Native.Nat.{◌-◌, ◌≤◌}
 use mathlib.Core.Path.{◌≡◌, refl, sym, ap, ◌∙◌}
-use mathlib.Core.Logic.{⊎_elim}
 use native.Mathlib.Omega.{arith}
 use lib.ListN.{length, length-set}
-use Rattle.tidy.specs.Numbers.{own_below, NewNumbers}
+use Rattle.tidy.specs.Numbers.{own_below}
 use Rattle.tidy.proofs.NumberLaws.{own-more, own_same, own-few}
 use Rattle.tidy.proofs.numbers.new_numbers.Goals as goal
 use Rattle.tidy.proofs.numbers.new_numbers.Goals.{then-u-t, else-u-t}
@@ -33,18 +31,18 @@ pub loop-t-preserved : goal.loop-t-preserved
 loop-t-preserved c =
     let lower = c.requires.2 c.loop-t.t c.loop-t-test.true in
     elim c.if-u-t.branch [
-    | then-u-t w ↦ (
-      omega arith,
-      ap length w.numbers-is ∙ simp length-set (omega arith),
-      w.left-is ∙ rw c.loop-t.invariant.2 (sym (own-more c.args.twins.now c.loop-t.t w.if-u-t.true)),
-      rw w.numbers-is (numbers-own c.args.twins.now c.loop-t.numbers c.loop-t.t _ (omega arith) c.loop-t.invariant.3 w.if-u-t.true c.loop-t.invariant.2),
-    )
-    | else-u-t w ↦ (
-      omega arith,
-      ap length w.numbers-is ∙ simp length-set (omega arith),
-      w.left-is ∙ c.loop-t.invariant.2 ∙ sym (own_same c.args.twins.now c.loop-t.t w.if-u-t.false),
-      rw w.numbers-is (numbers-other c.args.twins.now c.loop-t.numbers c.loop-t.t _ (omega arith) c.loop-t.invariant.3 (less_other lower.0 w.if-u-t.false) lower.1 refl),
-    )
+      | then-u-t w ↦ (
+        omega arith,
+        ap length w.numbers-is ∙ simp length-set (omega arith),
+        w.left-is ∙ rw c.loop-t.invariant.2 (sym (own-more c.args.twins.now c.loop-t.t w.if-u-t.true)),
+        rw w.numbers-is (numbers-own c.args.twins.now c.loop-t.numbers c.loop-t.t _ (omega arith) c.loop-t.invariant.3 w.if-u-t.true c.loop-t.invariant.2),
+      )
+      | else-u-t w ↦ (
+        omega arith,
+        ap length w.numbers-is ∙ simp length-set (omega arith),
+        w.left-is ∙ c.loop-t.invariant.2 ∙ sym (own_same c.args.twins.now c.loop-t.t w.if-u-t.false),
+        rw w.numbers-is (numbers-other c.args.twins.now c.loop-t.numbers c.loop-t.t _ (omega arith) c.loop-t.invariant.3 (less_other lower.0 w.if-u-t.false) lower.1 refl),
+      )
     ]
 
 pub returns : goal.returns

@@ -1,12 +1,8 @@
 -- `new_numbers` meets its contract.
-use Rattle.tidy.proofs.NumberLaws.{numbers-own, numbers-other, less_other}
 use Prim.Native.Nat.{◌-◌, ◌≤◌}
-use mathlib.Core.Path.{◌≡◌, refl, sym, ap, ◌∙◌}
-use mathlib.Core.Logic.{⊎_elim}
-use native.Mathlib.Omega.{arith}
-use lib.ListN.{length, length-set}
+use mathlib.Core.Path.{◌≡◌}
+use lib.ListN.{length}
 use Rattle.tidy.specs.Numbers.{own_below, NewNumbers}
-use Rattle.tidy.proofs.NumberLaws.{own-more, own_same, own-few}
 use Rattle.tidy.proofs.numbers.new_numbers.Given as goal
 
 abbrev pub invariant-loop-t : goal.invariant-loop-t

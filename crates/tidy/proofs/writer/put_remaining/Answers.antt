@@ -1,15 +1,10 @@
 -- `put_remaining` meets its contract.
 -- the lines of number i
-use mathlib.Core.Path.{◌≡◌, refl, ◌∙◌}
-use Prim.Native.Nat.{ℕ, ◌+◌, ◌-◌, ◌≤◌}
-use lib.ListN.{length}
-use Rattle.objects.specs.Lists.{Bytes}
+use mathlib.Core.Path.{◌∙◌}
 use Rattle.objects.specs.Table.{type_key}
-use Rattle.objects.specs.Rows.{Words, type_count}
-use Rattle.print.specs.Written.{written}
+use Rattle.objects.specs.Rows.{type_count}
 use Rattle.print.proofs.WrittenLaws.{wrote-length}
-use Rattle.table_text.proofs.Loops.{left_from, zero_room, zero-wrote, zero-place, zero-all, less_as}
-use Rattle.tidy.specs.Text.{own_text}
+use Rattle.table_text.proofs.Loops.{zero_room, zero-wrote, zero-place, zero-all, less_as}
 use native.Mathlib.Omega.{arith}
 use Rattle.tidy.proofs.writer.put_remaining.Invariants.{lines}
 use Rattle.tidy.proofs.writer.put_remaining.Goals as goal

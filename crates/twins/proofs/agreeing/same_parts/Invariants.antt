@@ -1,11 +1,8 @@
 -- `same_parts` meets its contract. The invariant: the parts before `i` have one label each.
 use mathlib.Core.Path.{◌≡◌}
 use Prim.Native.Nat.{ℕ, ◌-◌, ◌<◌, ◌≤◌}
-use native.Mathlib.Omega.{arith}
 use lib.ListN.{get_or}
 use Rattle.type_parts.specs.Parts.{part_at}
-use Rattle.type_parts.proofs.KinLaws.{peers-kin, left-place, right-place, left-inside, right-inside}
-use Rattle.twins.proofs.ReadingLaws.{parts-together, together-more, parts-apart}
 use Rattle.twins.proofs.agreeing.same_parts.Given as goal
 
 abbrev pub invariant-loop-i : goal.invariant-loop-i

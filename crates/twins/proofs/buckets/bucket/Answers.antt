@@ -22,9 +22,8 @@ mix_parts-h-requires c =
     record { library = c.requires.library; t_bound = (c.requires.t_bound.0, c.requires.t_bound.1, c.mix-label.ensures.1) }
 
 pub returns : goal.returns
-returns c =
-    (
-      bucket-read _ _ _ c.requires.t_bound.0 _ c.first_name-name.ensures.0 c.kind_number.ensures c.mix-kind.ensures.0
-          c.own_number.ensures c.mix-own.ensures.0 c.mix-label.ensures.0 c.mix_parts-h.ensures.0,
-      omega arith,
-    )
+returns c = (
+  bucket-read _ _ _ c.requires.t_bound.0 _ c.first_name-name.ensures.0 c.kind_number.ensures c.mix-kind.ensures.0
+      c.own_number.ensures c.mix-own.ensures.0 c.mix-label.ensures.0 c.mix_parts-h.ensures.0,
+  omega arith,
+)

@@ -12,9 +12,8 @@ returns-then-member_total-eq0 c =
     (name-none _ _ _ c.requires.1 c.kind_number.ensures c.if-kind_number-lt-STRUCT.false c.member_total.ensures c.if-member_total-eq0.true, omega arith)
 
 pub returns : goal.returns
-returns c =
-    (
-      name-first _ _ _ c.requires.1 c.kind_number.ensures c.if-kind_number-lt-STRUCT.false c.member_total.ensures
-          c.if-member_total-eq0.false c.first_member.ensures c.name_hash.ensures.value,
-      c.name_hash.ensures.upper_bound,
-    )
+returns c = (
+  name-first _ _ _ c.requires.1 c.kind_number.ensures c.if-kind_number-lt-STRUCT.false c.member_total.ensures
+      c.if-member_total-eq0.false c.first_member.ensures c.name_hash.ensures.value,
+  c.name_hash.ensures.upper_bound,
+)

@@ -1,13 +1,11 @@
 -- `mix_parts` meets its contract. The invariant: `h` has the labels of the parts before `i`.
 use Rattle.std.proofs.Common.{rules}
-use mathlib.Core.Path.{◌≡◌, ap}
-use Prim.Native.Nat.{◌-◌, ◌<◌, ◌≤◌}
+use mathlib.Core.Path.{ap}
 use native.Mathlib.Omega.{arith}
 use Rattle.objects.specs.declared.TypeKey.{TypeKey}
-use Rattle.text.specs.Hash.{hashes}
 use Rattle.type_parts.proofs.ReadLaws.{place-small}
 use Rattle.type_parts.proofs.Rank.{part-inside}
-use Rattle.twins.proofs.ReadingLaws.{mixed_to, mixed-none, mixed-more, mixed-all}
+use Rattle.twins.proofs.ReadingLaws.{mixed-none, mixed-more, mixed-all}
 use Rattle.twins.proofs.buckets.mix_parts.Goals as goal
 
 pub loop-i-init : goal.loop-i-init

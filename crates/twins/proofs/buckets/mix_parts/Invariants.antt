@@ -1,12 +1,8 @@
 -- `mix_parts` meets its contract. The invariant: `h` has the labels of the parts before `i`.
-use mathlib.Core.Path.{◌≡◌, ap}
+use mathlib.Core.Path.{◌≡◌}
 use Prim.Native.Nat.{◌-◌, ◌<◌, ◌≤◌}
-use native.Mathlib.Omega.{arith}
-use Rattle.objects.specs.declared.TypeKey.{TypeKey}
 use Rattle.text.specs.Hash.{hashes}
-use Rattle.type_parts.proofs.ReadLaws.{place-small}
-use Rattle.type_parts.proofs.Rank.{part-inside}
-use Rattle.twins.proofs.ReadingLaws.{mixed_to, mixed-none, mixed-more, mixed-all}
+use Rattle.twins.proofs.ReadingLaws.{mixed_to}
 use Rattle.twins.proofs.buckets.mix_parts.Given as goal
 
 abbrev pub invariant-loop-i : goal.invariant-loop-i

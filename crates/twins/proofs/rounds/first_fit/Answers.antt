@@ -1,8 +1,7 @@
 -- `first_fit` meets its contract. The invariant: no type from the link's on, and before t, agrees with t, and the link leads to a type of its bucket.
 use mathlib.Core.Path.{refl}
 use native.Mathlib.Omega.{arith}
-use Rattle.objects.specs.Rows.{table_of}
-use Rattle.twins.proofs.LinkLaws.{Unfit, unfit-none, unfit-less, unfit-more, unfit-found, unfit-falls, unfit-end}
+use Rattle.twins.proofs.LinkLaws.{unfit-none, unfit-less, unfit-more, unfit-found, unfit-falls, unfit-end}
 use Rattle.twins.proofs.rounds.first_fit.Goals as goal
 
 pub loop-c-init : goal.loop-c-init

@@ -1,8 +1,6 @@
 -- `first_fit` meets its contract. The invariant: no type from the link's on, and before t, agrees with t, and the link leads to a type of its bucket.
-use mathlib.Core.Path.{refl}
-use native.Mathlib.Omega.{arith}
 use Rattle.objects.specs.Rows.{table_of}
-use Rattle.twins.proofs.LinkLaws.{Unfit, unfit-none, unfit-less, unfit-more, unfit-found, unfit-falls, unfit-end}
+use Rattle.twins.proofs.LinkLaws.{Unfit}
 use Rattle.twins.proofs.rounds.first_fit.Given as goal
 
 abbrev pub invariant-loop-c : goal.invariant-loop-c

@@ -1,13 +1,10 @@
 -- `split` meets its contract. The invariant: the types before `t` have their fresh labels and links, and the chains begin with the last of them.
-use mathlib.Core.Path.{◌≡◌, refl}
+use mathlib.Core.Path.{◌≡◌}
 use Prim.Native.Nat.{◌-◌, ◌≤◌}
-use native.Mathlib.Omega.{arith}
-use lib.ListN.{length, length-set}
+use lib.ListN.{length}
 use Rattle.objects.specs.Rows.{table_of}
 use Rattle.twins.specs.Labels.{Classed}
 use Rattle.twins.specs.Chains.{Linked, Headed}
-use Rattle.twins.proofs.RoundLaws.{classed-none, classed-all, classed-more}
-use Rattle.twins.proofs.LinkLaws.{linked-none, headed-none, head-covers, headed-more, linked-more}
 use Rattle.twins.proofs.rounds.split.Given as goal
 
 abbrev pub invariant-loop-t : goal.invariant-loop-t

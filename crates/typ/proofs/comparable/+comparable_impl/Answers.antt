@@ -2,15 +2,13 @@ use Rattle.std.proofs.Common.{ap, not}
 use Rattle.std.proofs.Common.{rules}
 use mathlib.Core.Path.{◌≡◌, sym}
 use mathlib.Core.Bool.{true}
-use Prim.Native.Nat.{ℕ, ◌+◌, ◌-◌, ◌<◌, ◌≤◌}
+use Prim.Native.Nat.{ℕ}
 use native.Mathlib.Omega.{arith}
-use lib.ListN.{length}
 use borrow.Author.Count.{below_more}
 use Rattle.objects.specs.Rows.{table_of}
 use Rattle.rules.specs.Comparable.{comparable}
-use Rattle.typ.specs.Contents.{content_at, MetComparable}
-use Rattle.typ.proofs.Lower.{lower}
-use Rattle.typ.proofs.ContentLaws.{Passed, held_place, was-met, may-not, content-inside, content-lower, content-not, content-is, all-passed, now-met}
+use Rattle.typ.specs.Contents.{content_at}
+use Rattle.typ.proofs.ContentLaws.{held_place, was-met, may-not, content-inside, content-lower, content-not, content-is, all-passed, now-met}
 use Rattle.typ.proofs.comparable.+comparable_impl.Goals as goal
 
 pub returns-then-met-at-ne0 : goal.returns-then-met-at-ne0
@@ -32,11 +30,16 @@ content_at-e-requires t c =
 pub comparable_impl-requires : goal.comparable_impl-requires
 comparable_impl-requires t c = (
   omega (arith, content-lower _ _ c.requires.library _ c.requires.t_bound.0 _ c.content_count-n.ensures _ c.loop-i-test.true _ c.content_at-e.ensures, c.decreases),
-  (c.requires.library, (
-    (content-inside _ _ c.requires.library _ c.requires.t_bound.0 _ c.content_count-n.ensures _ c.loop-i-test.true _ c.content_at-e.ensures,
-    omega (arith, c.loop-i.invariant.1, c.requires.t_bound.1)),
-    c.loop-i.invariant.2,
-  )),
+  (
+    c.requires.library,
+    (
+      (
+        content-inside _ _ c.requires.library _ c.requires.t_bound.0 _ c.content_count-n.ensures _ c.loop-i-test.true _ c.content_at-e.ensures,
+        omega (arith, c.loop-i.invariant.1, c.requires.t_bound.1),
+      ),
+      c.loop-i.invariant.2,
+    ),
+  ),
 )
 
 pub returns-then-not-comparable_impl : goal.returns-then-not-comparable_impl
@@ -50,4 +53,3 @@ loop-i-preserved t c =
 pub returns : goal.returns
 returns t c =
     let e = all-passed _ _ c.requires.library _ c.requires.t_bound.0 _ _ _ c.may_compare.ensures (ap not c.if-not-may_compare.false) c.content_count-n.ensures c.loop-i-test.false c.loop-i.invariant.3 in record { judged = sym e; sound = now-met _ _ c.requires.library _ c.requires.t_bound.0 _ c.loop-i.invariant.2 e }
-

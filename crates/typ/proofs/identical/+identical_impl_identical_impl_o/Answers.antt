@@ -1,20 +1,12 @@
 use Rattle.std.proofs.Common.{ap, not, rules}
-use mathlib.Core.Path.{◌≡◌, ◌∙◌}
-use mathlib.Core.Bool.{false}
-use Prim.Native.Nat.{ℕ, ◌+◌, ◌*◌, ◌-◌, ◌/◌, ◌<◌, ◌≤◌}
+use mathlib.Core.Path.{◌∙◌}
 use native.Mathlib.Omega.{arith}
 use lib.Dec.{eqb}
-use lib.ListN.{length}
-use borrow.Author.Tests.{eqb-true, eqb-false, not-false}
-use Rattle.objects.specs.Rows.{table_of}
+use borrow.Author.Tests.{eqb-true, eqb-false}
 use Rattle.objects.proofs.ListLaws.{cases}
-use Rattle.type_parts.specs.Parts.{Peers}
-use Rattle.type_parts.proofs.Rank.{rank, high, rank_span}
 use Rattle.type_parts.proofs.KinLaws.{peers-kin, peers-of, left-place, right-place, left-inside, right-inside}
-use Rattle.pair_marks.specs.Marks.{met, unmet}
-use Rattle.pair_marks.specs.Pairs.{pair}
 use Rattle.typ.proofs.Marked.{went-self, went-apart}
-use Rattle.typ.proofs.Passing.{Passed, passed_none, at-end, at-differ, at_same}
+use Rattle.typ.proofs.Passing.{passed_none, at-end, at-differ, at_same}
 use Rattle.typ.proofs.DepthLaws.{parts-within, next-within, part-within}
 use Rattle.typ.proofs.Cycle.{mismatch-apart, at-once-told, at-once-else, self-match, key-small, in-labels, in-marks, known-match, known-went, entered-not, entered-well, entered-went, entered-falls, part_falls}
 use Rattle.typ.proofs.identical.+identical_impl_identical_impl_o.Goals as goal
@@ -58,18 +50,20 @@ identical_impl-identical_impl_o-requires t c =
     let peers = peers-of _ _ _ _ c.requires.x_bound.0 c.requires.x_bound.1 c.mismatch-told_apart.ensures c.if-told_apart.false in
     let marked = in-marks _ _ c.requires.library _ _ c.requires.x_bound.0 c.requires.x_bound.1 c.if-x-y.false c.args.marks.now c.requires.x_bound.2 in
     let unmet-before = c.known.ensures.y_value c.if-known.false in
-    let kin = peers-kin _ _ _ peers in
-    (
+    let kin = peers-kin _ _ _ peers in (
       entered-falls _ _ c.requires.library _ _ peers c.if-x-y.false _ marked _ _ c.requires.well unmet-before _ _ c.enter_pair.ensures.entered (ap not c.if-not-enter_pair.false) _ c.decreases,
-      (c.requires.library, (
-        (peers, omega (arith, c.enter_pair.auto.marks, c.requires.x_bound.2)),
+      (
+        c.requires.library,
         (
-          entered-well _ _ c.requires.library _ _ peers c.if-x-y.false _ marked _ _ c.requires.well unmet-before _ _ c.enter_pair.ensures.entered (ap not c.if-not-enter_pair.false),
-          cases (eqb c.kind_number-k.result 9)
+          (peers, omega (arith, c.enter_pair.auto.marks, c.requires.x_bound.2)),
+          (
+            entered-well _ _ c.requires.library _ _ peers c.if-x-y.false _ marked _ _ c.requires.well unmet-before _ _ c.enter_pair.ensures.entered (ap not c.if-not-enter_pair.false),
+            cases (eqb c.kind_number-k.result 9)
                 (λ e. let shallow = c.enter_pair.ensures.level_lt_open_levels c.if-not-enter_pair.false (eqb-true _ 9 e) in parts-within _ _ c.requires.library _ (omega (arith, shallow)) _ _ kin)
                 (λ e. next-within _ _ c.requires.library _ _ kin c.if-x-y.false (λ q. eqb-false _ 9 e (c.kind_number-k.ensures ∙ q)) _ c.requires.level_lt_deepest.1),
+          ),
         ),
-      )),
+      ),
     )
 
 pub identical_impl-returns : goal.identical_impl-returns
@@ -91,20 +85,22 @@ identical_impl_o-part_in-q-requires t c =
 
 pub identical_impl_o-identical_impl-requires : goal.identical_impl_o-identical_impl-requires
 identical_impl_o-identical_impl-requires t c =
-    let kin = peers-kin _ _ _ c.requires.peers.0 in
-    (
+    let kin = peers-kin _ _ _ c.requires.peers.0 in (
       part_falls _ _ c.requires.library _ _ c.requires.peers.0 _ _ c.part_count-n.ensures c.loop-i-test.true _ _ _ _ _ _ c.part_in-p.ensures c.loop-i.invariant.3 c.decreases,
-      (c.requires.library, (
+      (
+        c.requires.library,
         (
-          left-inside _ _ c.requires.library _ _ kin _ _ c.part_count-n.ensures c.loop-i-test.true _ c.part_in-p.ensures,
-          right-inside _ _ c.requires.library _ _ kin _ _ c.part_count-n.ensures c.loop-i-test.true _ c.part_in-q.ensures,
-          omega (arith, c.loop-i.invariant.1, c.requires.peers.1),
+          (
+            left-inside _ _ c.requires.library _ _ kin _ _ c.part_count-n.ensures c.loop-i-test.true _ c.part_in-p.ensures,
+            right-inside _ _ c.requires.library _ _ kin _ _ c.part_count-n.ensures c.loop-i-test.true _ c.part_in-q.ensures,
+            omega (arith, c.loop-i.invariant.1, c.requires.peers.1),
+          ),
+          (
+            c.loop-i.invariant.3.well,
+            (c.requires.level_lt_deepest.0, part-within _ _ _ _ c.requires.level_lt_deepest.1 _ _ c.part_count-n.ensures c.loop-i-test.true _ _ c.part_in-p.ensures c.part_in-q.ensures),
+          ),
         ),
-        (
-          c.loop-i.invariant.3.well,
-          (c.requires.level_lt_deepest.0, part-within _ _ _ _ c.requires.level_lt_deepest.1 _ _ c.part_count-n.ensures c.loop-i-test.true _ _ c.part_in-p.ensures c.part_in-q.ensures),
-        ),
-      )),
+      ),
     )
 
 pub identical_impl_o-returns-then-not-identical_impl : goal.identical_impl_o-returns-then-not-identical_impl
@@ -122,4 +118,3 @@ identical_impl_o-loop-i-preserved t c =
 pub identical_impl_o-returns : goal.identical_impl_o-returns
 identical_impl_o-returns t c =
     at-end _ _ _ _ c.requires.peers.0 _ _ _ _ _ _ c.loop-i.invariant.3 c.part_count-n.ensures c.loop-i.invariant.0 c.loop-i-test.false
-

@@ -1,5 +1,4 @@
 use mathlib.Core.Path.{refl}
-use Prim.Native.Nat.{◌-◌, ◌≤◌}
 use Rattle.objects.proofs.ListLaws.{clash}
 use Rattle.type_parts.proofs.KinLaws.{peers-kin, left-place, right-place}
 use Rattle.typ.proofs.Early.{parts-differ}

@@ -1,15 +1,11 @@
 use Rattle.std.proofs.Common.{ap, not}
 use Rattle.std.proofs.Common.{rules}
-use mathlib.Core.Path.{◌≡◌}
 use native.Mathlib.Omega.{arith}
-use lib.ListN.{length}
-use borrow.Author.Tests.{not-true}
-use Rattle.objects.specs.Rows.{table_of}
 use Rattle.objects.proofs.RowLaws.{size-read}
 use Rattle.rules.proofs.Sounds.{library-sound}
 use Rattle.type_parts.proofs.KinLaws.{peers-kin}
 use Rattle.typ.proofs.DepthLaws.{parts-within}
-use Rattle.typ.proofs.Top.{well-none, begun, differed, Rounds, rounds-none, rounds-more, left, left-falls}
+use Rattle.typ.proofs.Top.{well-none, begun, differed, rounds-none, rounds-more, left-falls}
 use Rattle.typ.proofs.identical.decide_by.Goals as goal
 
 pub identical_impl_o-requires : goal.identical_impl_o-requires

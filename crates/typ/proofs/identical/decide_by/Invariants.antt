@@ -1,13 +1,7 @@
 use mathlib.Core.Path.{◌≡◌}
-use native.Mathlib.Omega.{arith}
 use lib.ListN.{length}
-use borrow.Author.Tests.{not-true}
 use Rattle.objects.specs.Rows.{table_of}
-use Rattle.objects.proofs.RowLaws.{size-read}
-use Rattle.rules.proofs.Sounds.{library-sound}
-use Rattle.type_parts.proofs.KinLaws.{peers-kin}
-use Rattle.typ.proofs.DepthLaws.{parts-within}
-use Rattle.typ.proofs.Top.{well-none, begun, differed, Rounds, rounds-none, rounds-more, left, left-falls}
+use Rattle.typ.proofs.Top.{Rounds, left}
 use Rattle.typ.proofs.identical.decide_by.Given as goal
 
 abbrev pub invariant-loop-r : goal.invariant-loop-r

@@ -1,7 +1,6 @@
 use mathlib.Core.Path.{refl, ap, ◌∙◌}
 use mathlib.Core.Logic.{inl, inr}
 use native.Mathlib.Omega.{arith}
-use lib.ListN.{length}
 use Rattle.objects.proofs.ListLaws.{clash}
 use Rattle.pair_marks.specs.Marks.{meet}
 use Rattle.typ.proofs.identical.enter_pair.Goals as goal
@@ -21,7 +20,10 @@ shape_of-labels c = c.if-k-eq-IFACE.auto.labels
 pub returns : goal.returns
 returns c =
     let marked = c.set_met.ensures ∙ ap (meet _) c.pair_number.ensures in
-    record { entered = record {
+    record {
+      entered = record {
         passed = λ q. clash refl q;
         entered = λ _. (marked, elim c.if-k-eq-IFACE.branch [ then-k-eq-IFACE+else-level-ge-DEEP w ↦ inr (rw w.labels-is w.join.ensures) | else-k-eq-IFACE w ↦ inl w.labels-is ]);
-      }; level_lt_open_levels = λ _ e. elim c.if-k-eq-IFACE.branch [ then-k-eq-IFACE+else-level-ge-DEEP w ↦ omega (arith, w.if-level-ge-DEEP.false) | else-k-eq-IFACE w ↦ absurd (w.if-k-eq-IFACE.false e) ] }
+      };
+      level_lt_open_levels = λ _ e. elim c.if-k-eq-IFACE.branch [ then-k-eq-IFACE+else-level-ge-DEEP w ↦ omega (arith, w.if-level-ge-DEEP.false) | else-k-eq-IFACE w ↦ absurd (w.if-k-eq-IFACE.false e) ];
+    }

@@ -1,13 +1,12 @@
-use mathlib.Core.Path.{◌≡◌, refl, sym}
+use mathlib.Core.Path.{refl, sym}
 use Prim.Native.Nat.{◌-◌, ◌≤◌}
 use native.Mathlib.Omega.{arith}
 use native.Mathlib.Nat.{le_trans}
 use lib.ListN.{length}
 use lib.Seq.{length-take-le}
-use Rattle.objects.specs.Bounds.{max_types, pair_words}
-use Rattle.objects.specs.Rows.{type_count, table_of}
+use Rattle.objects.specs.Bounds.{max_types}
+use Rattle.objects.specs.Rows.{type_count}
 use Rattle.rules.proofs.Sounds.{library-sound}
-use Rattle.type_parts.specs.Parts.{Peers}
 use Rattle.type_parts.proofs.KinLaws.{peers-of}
 use Rattle.pair_marks.proofs.Zero.{zero-front, front-back}
 use Rattle.pair_marks.proofs.PairLaws.{words_more, words_of}
@@ -42,7 +41,7 @@ settle-requires c =
     let n = c.pair_words-words.result - 0 in
     let words_are = words_of (type_count c.args.rows.now) c.pair_words-words.ensures (omega (arith, c.type_count.ensures)) in
     let within : c.pair_words-words.result ≤ length c.args.marks.now = rw words_are (le_trans (words_more _ max_types c.requires.library.laid.types) c.requires.x_bound.2) in
-        let long = length-take-le n c.args.marks.now (omega (arith, within)) in
+    let long = length-take-le n c.args.marks.now (omega (arith, within)) in
     record { library = c.requires.library; peers = (peers-of _ _ _ _ c.requires.x_bound.0 c.requires.x_bound.1 c.mismatch.ensures c.if-mismatch.false, omega (arith, long, words_are)); marks_value = zero-front n _ c.requires.marks_value }
 
 pub returns : goal.returns

@@ -1,8 +1,7 @@
 use mathlib.Core.Path.{sym, ◌∙◌}
 use mathlib.Core.Logic.{◌≢◌}
-use Prim.Native.Nat.{◌/◌, ◌<◌}
 use native.Mathlib.Omega.{arith}
-use lib.ListN.{length, get_or}
+use lib.ListN.{get_or}
 use Rattle.objects.specs.Table.{type_key}
 use Rattle.type_parts.proofs.KinLaws.{peers-kin}
 use Rattle.typ.proofs.DepthLaws.{parts-within}

@@ -1,12 +1,8 @@
 use Rattle.std.proofs.Common.{rules}
-use mathlib.Core.Path.{◌≡◌}
-use mathlib.Core.Logic.{inl, inr, ⊎_elim}
-use Prim.Native.Nat.{◌-◌, ◌≤◌}
+use mathlib.Core.Logic.{inl, inr}
 use native.Mathlib.Omega.{arith}
-use lib.ListN.{length}
-use Rattle.objects.specs.Rows.{table_of}
 use Rattle.objects.proofs.RowLaws.{size-read}
-use Rattle.typ.proofs.Top.{turn-differ, Turns, turns-none, turns_more, turns-all}
+use Rattle.typ.proofs.Top.{turn-differ, turns-none, turns_more, turns-all}
 use Rattle.typ.proofs.opening.open_round.Goals as goal
 use Rattle.typ.proofs.opening.open_round.Goals.{then-r-eq2, else-r-eq2}
 
@@ -21,13 +17,12 @@ pub returns-then-r-eq0 : goal.returns-then-r-eq0
 returns-then-r-eq0 c = turn-differ _ _ _ _ _ _ _ _ (c.open_at-r.ensures.if-0 c.if-r-eq0.true)
 
 pub loop-i-preserved : goal.loop-i-preserved
-loop-i-preserved c =
-    (
-      search rules,
-      search rules,
-      search rules,
-      turns_more _ _ _ _ _ _ _ _ _ c.loop-i.invariant.3 _ _ _ _ c.open_at-r.ensures c.if-r-eq0.false (elim c.if-r-eq2.branch [ then-r-eq2 w ↦ inl (w.if-r-eq2.true, w.found-is) | else-r-eq2 w ↦ inr (w.if-r-eq2.false, w.found-is) ]),
-    )
+loop-i-preserved c = (
+  search rules,
+  search rules,
+  search rules,
+  turns_more _ _ _ _ _ _ _ _ _ c.loop-i.invariant.3 _ _ _ _ c.open_at-r.ensures c.if-r-eq0.false (elim c.if-r-eq2.branch [ then-r-eq2 w ↦ inl (w.if-r-eq2.true, w.found-is) | else-r-eq2 w ↦ inr (w.if-r-eq2.false, w.found-is) ]),
+)
 
 pub returns : goal.returns
 returns c =

@@ -1,11 +1,8 @@
 use mathlib.Core.Path.{◌≡◌}
-use mathlib.Core.Logic.{inl, inr, ⊎_elim}
 use Prim.Native.Nat.{◌-◌, ◌≤◌}
-use native.Mathlib.Omega.{arith}
 use lib.ListN.{length}
 use Rattle.objects.specs.Rows.{table_of}
-use Rattle.objects.proofs.RowLaws.{size-read}
-use Rattle.typ.proofs.Top.{turn-differ, Turns, turns-none, turns_more, turns-all}
+use Rattle.typ.proofs.Top.{Turns}
 use Rattle.typ.proofs.opening.open_round.Given as goal
 
 abbrev pub invariant-loop-i : goal.invariant-loop-i

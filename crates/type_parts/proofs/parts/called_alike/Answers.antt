@@ -1,11 +1,10 @@
 -- the members before those that are left are called alike
 use mathlib.Core.Path.{◌≡◌, sym, ◌∙◌}
 use mathlib.Core.Bool.{true}
-use Prim.Native.Nat.{ℕ, ◌+◌, ◌-◌, ◌<◌, ◌≤◌}
+use Prim.Native.Nat.{ℕ, ◌+◌, ◌-◌, ◌<◌}
 use native.Mathlib.Omega.{arith}
 use borrow.Author.Count.{below_more}
 use Rattle.rules.proofs.Sounds.{library-sound}
-use borrow.Author.Tests.{not-true, not-false}
 use Rattle.type_parts.proofs.StepAt.{numbers}
 use Rattle.type_parts.proofs.MemberRead.{member-packaged}
 use Rattle.type_parts.proofs.KinLaws.{left_in, right-in, left-place, right-place, right-part}

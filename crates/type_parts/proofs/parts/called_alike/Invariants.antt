@@ -1,15 +1,8 @@
 -- the members before those that are left are called alike
-use mathlib.Core.Path.{◌≡◌, sym, ◌∙◌}
+use mathlib.Core.Path.{◌≡◌}
 use mathlib.Core.Bool.{true}
-use Prim.Native.Nat.{ℕ, ◌+◌, ◌-◌, ◌<◌, ◌≤◌}
-use native.Mathlib.Omega.{arith}
-use borrow.Author.Count.{below_more}
-use Rattle.rules.proofs.Sounds.{library-sound}
-use borrow.Author.Tests.{not-true, not-false}
-use Rattle.type_parts.proofs.StepAt.{numbers}
-use Rattle.type_parts.proofs.MemberRead.{member-packaged}
-use Rattle.type_parts.proofs.KinLaws.{left_in, right-in, left-place, right-place, right-part}
-use Rattle.type_parts.proofs.MatchLaws.{alike_at, none-called, all-called, not-called}
+use Prim.Native.Nat.{ℕ, ◌-◌, ◌<◌, ◌≤◌}
+use Rattle.type_parts.proofs.MatchLaws.{alike_at}
 use Rattle.type_parts.proofs.parts.called_alike.Given as goal
 
 abbrev pub invariant-loop-left : goal.invariant-loop-left

@@ -1,11 +1,8 @@
 -- `embed_field`.
 use Rattle.std.proofs.Common.{rules}
 use mathlib.Core.Path.{◌≡◌, sym, ap, ◌∙◌}
-use mathlib.Core.Logic.{⊎_elim}
 use lib.Dec.{eqb}
 use Rattle.objects.specs.Rows.{word_at}
-use Rattle.objects.proofs.ListLaws.{un_not}
-use Rattle.objects.proofs.BoolLaws.{not_yes}
 use Rattle.walk_rows.proofs.LowerLaws.{enters_none, enters-row, enters-as, field_plain, field_record, field_fits, field-target, field_row}
 use Rattle.walk_rows.proofs.lower.embed_field.Goals as goal
 use Rattle.walk_rows.proofs.lower.embed_field.Goals.{then-or, else-or}

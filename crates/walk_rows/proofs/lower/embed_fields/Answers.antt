@@ -1,12 +1,8 @@
 -- `embed_fields`: the rows for the first j fields are entered.
 use Rattle.std.proofs.Common.{rules}
-use mathlib.Core.Path.{◌≡◌, refl}
-use Prim.Native.Nat.{◌-◌, ◌≤◌}
+use mathlib.Core.Path.{refl}
 use native.Mathlib.Omega.{arith}
-use lib.ListN.{length}
-use Rattle.objects.specs.Rows.{type_count}
-use Rattle.walk_rows.specs.State.{Enters}
-use Rattle.walk_rows.proofs.LowerLaws.{below_on, field_rows, fields-start, fields-on, fields-end}
+use Rattle.walk_rows.proofs.LowerLaws.{below_on, fields-start, fields-on, fields-end}
 use Rattle.walk_rows.proofs.lower.embed_fields.Goals as goal
 
 pub loop-j-init : goal.loop-j-init

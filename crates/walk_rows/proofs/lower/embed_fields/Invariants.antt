@@ -1,11 +1,10 @@
 -- `embed_fields`: the rows for the first j fields are entered.
-use mathlib.Core.Path.{◌≡◌, refl}
+use mathlib.Core.Path.{◌≡◌}
 use Prim.Native.Nat.{◌-◌, ◌≤◌}
-use native.Mathlib.Omega.{arith}
 use lib.ListN.{length}
 use Rattle.objects.specs.Rows.{type_count}
 use Rattle.walk_rows.specs.State.{Enters}
-use Rattle.walk_rows.proofs.LowerLaws.{below_on, field_rows, fields-start, fields-on, fields-end}
+use Rattle.walk_rows.proofs.LowerLaws.{field_rows}
 use Rattle.walk_rows.proofs.lower.embed_fields.Given as goal
 
 abbrev pub invariant-loop-j : goal.invariant-loop-j

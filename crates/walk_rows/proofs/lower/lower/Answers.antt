@@ -1,13 +1,9 @@
 -- `lower`: what the rows from lo up to i embed is entered.
 use Rattle.std.proofs.Common.{rules}
-use mathlib.Core.Path.{◌≡◌, refl}
-use Prim.Native.Nat.{◌-◌, ◌≤◌}
+use mathlib.Core.Path.{refl}
 use native.Mathlib.Omega.{arith}
-use lib.ListN.{length}
-use Rattle.objects.specs.Rows.{type_count}
-use Rattle.walk_rows.specs.State.{Enters}
 use Rattle.walk_rows.proofs.StateLaws.{rows-most}
-use Rattle.walk_rows.proofs.LowerLaws.{enters-more, last_on, level_rows, level-start, level-on, level-end}
+use Rattle.walk_rows.proofs.LowerLaws.{enters-more, last_on, level-start, level-on, level-end}
 use Rattle.walk_rows.proofs.lower.lower.Goals as goal
 
 pub loop-i-init : goal.loop-i-init

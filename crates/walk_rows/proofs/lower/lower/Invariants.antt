@@ -1,12 +1,10 @@
 -- `lower`: what the rows from lo up to i embed is entered.
-use mathlib.Core.Path.{◌≡◌, refl}
+use mathlib.Core.Path.{◌≡◌}
 use Prim.Native.Nat.{◌-◌, ◌≤◌}
-use native.Mathlib.Omega.{arith}
 use lib.ListN.{length}
 use Rattle.objects.specs.Rows.{type_count}
 use Rattle.walk_rows.specs.State.{Enters}
-use Rattle.walk_rows.proofs.StateLaws.{rows-most}
-use Rattle.walk_rows.proofs.LowerLaws.{enters-more, last_on, level_rows, level-start, level-on, level-end}
+use Rattle.walk_rows.proofs.LowerLaws.{level_rows}
 use Rattle.walk_rows.proofs.lower.lower.Given as goal
 
 abbrev pub invariant-loop-i : goal.invariant-loop-i

@@ -1,15 +1,13 @@
 -- `write_places`: the places behind `left` are written.
 use Rattle.std.proofs.Common.{rules}
-use mathlib.Core.Path.{◌≡◌, ◌∙◌}
+use mathlib.Core.Path.{◌∙◌}
 use Prim.Native.Nat.{◌<◌}
 use native.Mathlib.Omega.{arith}
 use lib.ListN.{length, length-set}
-use mir.Syntax.{w32}
-use mir.Val.{Fits}
 use Rattle.objects.specs.Rows.{word_at}
 use Rattle.multiples.specs.Records.{level_column}
 use Rattle.walk_rows.proofs.RecordLaws.{level-read}
-use Rattle.walk_rows.proofs.PlaceLaws.{Climbs, climb-start, climb-more, climb-end}
+use Rattle.walk_rows.proofs.PlaceLaws.{climb-start, climb-more, climb-end}
 use Rattle.walk_rows.proofs.places.write_places.Goals as goal
 
 pub overflow_cast-d : goal.overflow_cast-d

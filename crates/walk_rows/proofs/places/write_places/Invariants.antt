@@ -1,14 +1,10 @@
 -- `write_places`: the places behind `left` are written.
-use mathlib.Core.Path.{◌≡◌, ◌∙◌}
+use mathlib.Core.Path.{◌≡◌}
 use Prim.Native.Nat.{◌<◌}
-use native.Mathlib.Omega.{arith}
-use lib.ListN.{length, length-set}
+use lib.ListN.{length}
 use mir.Syntax.{w32}
 use mir.Val.{Fits}
-use Rattle.objects.specs.Rows.{word_at}
-use Rattle.multiples.specs.Records.{level_column}
-use Rattle.walk_rows.proofs.RecordLaws.{level-read}
-use Rattle.walk_rows.proofs.PlaceLaws.{Climbs, climb-start, climb-more, climb-end}
+use Rattle.walk_rows.proofs.PlaceLaws.{Climbs}
 use Rattle.walk_rows.proofs.places.write_places.Given as goal
 
 abbrev pub invariant-loop-left : goal.invariant-loop-left

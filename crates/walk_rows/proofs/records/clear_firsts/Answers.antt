@@ -1,12 +1,11 @@
 -- `clear_firsts`: the first i types have no row.
-use mathlib.Core.Path.{◌≡◌, refl}
-use Prim.Native.Nat.{◌*◌, ◌-◌, ◌≤◌, ◌<◌}
+use mathlib.Core.Path.{refl}
+use Prim.Native.Nat.{◌<◌}
 use native.Mathlib.Omega.{arith}
 use lib.ListN.{length, length-set}
 use Rattle.multiples.specs.Records.{first_column}
-use Rattle.walk_rows.specs.State.{Wide}
 use Rattle.walk_rows.proofs.RecordLaws.{stored-wide}
-use Rattle.walk_rows.proofs.StartLaws.{Cleared, cleared_more}
+use Rattle.walk_rows.proofs.StartLaws.{cleared_more}
 use Rattle.walk_rows.proofs.records.clear_firsts.Goals as goal
 
 pub loop-i-init : goal.loop-i-init

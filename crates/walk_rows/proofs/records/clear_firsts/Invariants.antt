@@ -1,12 +1,9 @@
 -- `clear_firsts`: the first i types have no row.
-use mathlib.Core.Path.{◌≡◌, refl}
-use Prim.Native.Nat.{◌*◌, ◌-◌, ◌≤◌, ◌<◌}
-use native.Mathlib.Omega.{arith}
-use lib.ListN.{length, length-set}
-use Rattle.multiples.specs.Records.{first_column}
+use mathlib.Core.Path.{◌≡◌}
+use Prim.Native.Nat.{◌*◌, ◌-◌, ◌≤◌}
+use lib.ListN.{length}
 use Rattle.walk_rows.specs.State.{Wide}
-use Rattle.walk_rows.proofs.RecordLaws.{stored-wide}
-use Rattle.walk_rows.proofs.StartLaws.{Cleared, cleared_more}
+use Rattle.walk_rows.proofs.StartLaws.{Cleared}
 use Rattle.walk_rows.proofs.records.clear_firsts.Given as goal
 
 abbrev pub invariant-loop-i : goal.invariant-loop-i
