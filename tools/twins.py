@@ -20,6 +20,8 @@ ROOT = os.path.dirname(os.path.dirname(os.path.abspath(__file__)))
 CRATES = os.path.join(ROOT, 'crates')
 TARGET = os.path.join(ROOT, 'target')
 PARTS = ('src/', 'specs/', 'proofs/')
+# where a crate has its edits and their twins
+FOLDERS = {'.edit': 'must-fail', '.twin': 'twins'}
 
 
 class Bad(Exception):
@@ -27,11 +29,11 @@ class Bad(Exception):
 
 
 def path_of(name, label, ending):
-    return os.path.join(CRATES, name, 'must-fail', label + ending)
+    return os.path.join(CRATES, name, FOLDERS[ending], label + ending)
 
 
 def labels_of(name, ending):
-    folder = os.path.join(CRATES, name, 'must-fail')
+    folder = os.path.join(CRATES, name, FOLDERS[ending])
     files = sorted(os.listdir(folder)) if os.path.isdir(folder) else []
     return [f[:-len(ending)] for f in files if f.endswith(ending)]
 
