@@ -3,7 +3,7 @@
 
     load_bench.py PROGRAM [VECTORS]
 
-PROGRAM is target/bin/load_run. Each table is put COPIES times; the time to read that much text is taken off by a run on texts of the same length whose header
+PROGRAM is crates/load_run/out/load_run. Each table is put COPIES times; the time to read that much text is taken off by a run on texts of the same length whose header
 is wrong, so that they are refused at once. The fastest of RUNS runs counts. With VECTORS the longest table of `mixed` that loads is timed too.
 With `callgrind` as the last argument it counts instructions instead of time (valgrind). Those that clear the rows fall out with the reading.
 """
