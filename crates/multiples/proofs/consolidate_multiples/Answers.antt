@@ -14,15 +14,9 @@ pub offset_bounds-level-i : goal.offset_bounds-level-i
 offset_bounds-level-i c =
     let l = c.loop-i-test.true in let m = c.requires in let e = ap length c.loop-i.invariant.1 in omega arith
 
--- LEFT bounds-1-if1
--- c.loop-i-test.true
-
 pub offset_bounds-level-i-then-level-i : goal.offset_bounds-level-i-then-level-i
 offset_bounds-level-i-then-level-i c =
     let l = c.loop-i-test.true in let m = c.requires in let e = ap length c.loop-i.invariant.1 in omega arith
-
--- LEFT bounds-1-level
--- c.loop-i-test.true
 
 pub shape_of-level-then-level-i : goal.shape_of-level-then-level-i
 shape_of-level-then-level-i c =

@@ -9,9 +9,6 @@ pub loop-i-init : goal.loop-i-init
 unfolding decimal
 loop-i-init c = (refl, omega arith, refl, refl)
 
--- LEFT slice-bounds-put-word-end
--- simp length-set (omega arith)
-
 pub put_word-requires : goal.put_word-requires
 put_word-requires c =
     room_as c.args.at (c.loop-i.invariant.0 ∙ digits-part _ _ c.loop-i.text c.loop-i-test.true c.loop-i.invariant.1 c.loop-i.invariant.2 c.if-rest-lt10.true c.glyph.ensures) c.loop-i.invariant.3 (omega arith)

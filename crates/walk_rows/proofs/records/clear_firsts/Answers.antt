@@ -20,9 +20,6 @@ overflow_add-i c = omega arith
 pub offset_bounds-walk-i : goal.offset_bounds-walk-i
 offset_bounds-walk-i c = omega arith
 
--- LEFT bounds-1-walk
--- omega arith
-
 pub overflow_add-i-in-loop-i : goal.overflow_add-i-in-loop-i
 overflow_add-i-in-loop-i c = omega arith
 
