@@ -1,6 +1,5 @@
 -- Ranks while they are given: 0 is none yet, and each type that gets one gets the next, once all that it contains by value have theirs.
-use Rattle.std.specs.Prelude.{◌≡◌, Bool, true, false, ℕ, suc, ◌≤◌, ◌<◌, ltb}
-use Rattle.std.specs.Prelude.{Some, None}
+use Rattle.std.specs.Prelude.{◌≡◌, Bool, true, false, ℕ, suc, ◌≤◌, ◌<◌, ltb, Some, None}
 use Rattle.std.specs.declared.option.Option as code
 use Rattle.objects.specs.declared.TypeKey.{TypeKey}
 use Rattle.objects.specs.Lists.{In}
