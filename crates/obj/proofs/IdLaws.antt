@@ -17,7 +17,6 @@ use Rattle.objects.specs.Table.{Table, has_package, path_of}
 use Rattle.objects.specs.Rows.{Words, package_word, member_word, bytes_at, package_meant, member_at, path_read, table_of}
 use Rattle.objects.specs.Types.{package_read}
 use Rattle.objects.proofs.ListLaws.{cases}
-use Rattle.std.specs.declared.cmp.Ordering.{Ordering}
 use Rattle.std.specs.declared.cmp.Ordering.TheVariants.{Less, Equal, Greater}
 use Rattle.text.specs.Bytes.{exported}
 use Rattle.text.specs.Compare.{order_of}

@@ -11,6 +11,8 @@ use Rattle.objects.specs.Lists.{Bytes}
 use Rattle.objects.specs.declared.ObjKey.{ObjKey}
 use Rattle.objects.specs.declared.PackageKey.{PackageKey}
 use Rattle.std.specs.declared.option.Option as code
+use Rattle.std.specs.Option.{option_eq}
+use Rattle.objects.specs.contracts.PackageKeyPartialEq.TheImpl as key
 use Rattle.std.specs.Prelude.{Some, None}
 use Rattle.objects.specs.Table.{Table, has_package, path_of}
 use Rattle.objects.specs.Rows.{Words, package_count, member_word, bytes_at, package_meant, member_at, path_read, table_of}
@@ -41,23 +43,13 @@ module _ (text : Bytes) (rows : Words) (k : PackageKey) (h : has_package (table_
   pub path-of : path_of (table_of text rows) (some k) ≡ some (path_read text rows k)
   path-of = path-read text rows k package-in
 
--- the ways through `same_package`
-module _ {p q : code.Option PackageKey} where
-  pub package-none : p ≡ None → q ≡ None → true ≡ same_package p q
-  unfolding same_package
-  package-none e f = rw (e, f)
-
-  pub package-right : {l : PackageKey} → p ≡ None → q ≡ Some l → false ≡ same_package p q
-  unfolding same_package
-  package-right e f = rw (e, f)
-
-  pub package-left : {k : PackageKey} → p ≡ Some k → q ≡ None → false ≡ same_package p q
-  unfolding same_package
-  package-left e f = rw (e, f)
-
-  pub package-both : {k l : PackageKey} → p ≡ Some k → q ≡ Some l → eqb k.0 l.0 ≡ same_package p q
-  unfolding same_package
-  package-both e f = rw (e, f)
+-- the derived equality of packages
+pub equal-package : (p q : code.Option PackageKey) → option_eq key.eq-value.it p q ≡ same_package p q
+unfolding same_package
+equal-package None None = refl
+equal-package None (Some l) = refl
+equal-package (Some k) None = refl
+equal-package (Some k) (Some l) = refl
 
 -- where paths ascend, equal numbers are equal paths
 numbers-tell : (T : Table) → Ordered T → (k l : PackageKey) → has_package T (some k) ≡ true → has_package T (some l) ≡ true → eqb k.0 l.0 ≡ same_path (path_of T (some k)) (path_of T (some l))

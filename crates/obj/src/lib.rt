@@ -186,7 +186,11 @@ fn order_parts(f: u64, p: &[u8], a: &[u8], g: u64, q: &[u8], b: &[u8]) -> Orderi
             return Ordering::Greater;
         }
     }
-    if n < m { Ordering::Less } else { Ordering::Equal }
+    if n < m {
+        Ordering::Less
+    } else {
+        Ordering::Equal
+    }
 }
 
 // Whether the same places stand before the names.

@@ -12,6 +12,7 @@ use borrow.Author.Tests.{eq-eqb, ne_eqb, lt-ltb, le-ltb, eqb-true, eqb-false, lt
 use Rattle.objects.specs.Lists.{Bytes}
 use Rattle.objects.proofs.ListLaws.{cases, clash, either}
 use Rattle.std.specs.declared.cmp.Ordering.{Ordering}
+use Rattle.std.specs.Ordering.{is_lt}
 use Rattle.std.specs.declared.cmp.Ordering.TheVariants.{Less, Equal, Greater}
 use Rattle.text.specs.Bytes.{same_bytes, below_bytes}
 use Rattle.text.specs.Compare.{order_of, four_of, DifferFour}
@@ -260,3 +261,11 @@ module _ (a b : Bytes) {o : Ordering} (e : o ≡ order_of a b) where
   pub below-greater : o ≡ Greater → false ≡ below_bytes a b
   unfolding order_of
   below-greater h = not-less (below_bytes a b) (same_bytes a b) (λ l. let z : ◌≡◌ {A = Bool} true false = cc in clash refl z)
+
+-- whether the first is less, as the library tests it
+pub less-below : (a b : Bytes) {o : Ordering} → o ≡ order_of a b → is_lt o ≡ below_bytes a b
+unfolding order_of
+less-below a b p =
+    cases (below_bytes a b)
+    (λ e. rw (p, e))
+    (λ e. cases (same_bytes a b) (λ f. rw (p, e, f)) (λ f. rw (p, e, f)))
