@@ -12,7 +12,8 @@ use borrow.Author.Tests.{eq-eqb, ne_eqb, lt-ltb, le-ltb, eqb-true, eqb-false, lt
 use Rattle.objects.specs.Lists.{Bytes}
 use Rattle.objects.proofs.ListLaws.{cases, clash, either}
 use Rattle.std.specs.declared.cmp.Ordering.{Ordering}
-use Rattle.std.specs.Ordering.{is_lt}
+use Rattle.std.specs.Cmp.Lexicographic.{slice_cmp}
+use Rattle.std.specs.Ordering.{is_lt, nat_cmp}
 use Rattle.std.specs.declared.cmp.Ordering.TheVariants.{Less, Equal, Greater}
 use Rattle.text.specs.Bytes.{same_bytes, below_bytes}
 use Rattle.text.specs.Compare.{order_of, four_of, DifferFour}
@@ -269,3 +270,11 @@ less-below a b p =
     cases (below_bytes a b)
     (λ e. rw (p, e))
     (λ e. cases (same_bytes a b) (λ f. rw (p, e, f)) (λ f. rw (p, e, f)))
+
+-- the library's order of two slices
+pub slice-order : (a b : Bytes) → slice_cmp nat_cmp a b ≡ order_of a b
+unfolding order_of
+slice-order [] [] = refl
+slice-order [] (y ∷ b) = refl
+slice-order (x ∷ a) [] = refl
+slice-order (x ∷ a) (y ∷ b) = cases (ltb x y) (λ e. rw e) (λ e. cases (eqb x y) (λ f. rw (e, f) (slice-order a b)) (λ f. rw (e, f)))

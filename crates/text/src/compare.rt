@@ -71,30 +71,6 @@ pub fn same(a: &[u8], b: &[u8]) -> bool
     n == b.len() && (n == 0 || (a[n - 1] == b[n - 1] && same_bytes(a, b)))
 }
 
-// The order of what stands from a place on, byte by byte.
-fn order_each(a: &[u8], b: &[u8], at: usize) -> Ordering
-    ensures { result ≡ order_of (drop at a.now) (drop at b.now) }
-{
-    let mut i = at;
-    while i < a.len() {
-        if b.len() <= i {
-            return Ordering::Greater;
-        }
-        if a[i] < b[i] {
-            return Ordering::Less;
-        }
-        if b[i] < a[i] {
-            return Ordering::Greater;
-        }
-        i += 1;
-    }
-    if i < b.len() {
-        Ordering::Less
-    } else {
-        Ordering::Equal
-    }
-}
-
 // Four bytes a turn, whose numbers are in the order of the bytes, while both have four.
 pub fn order(a: &[u8], b: &[u8]) -> Ordering
     ensures { result ≡ order_of a.now b.now }
@@ -112,7 +88,7 @@ pub fn order(a: &[u8], b: &[u8]) -> Ordering
         }
         i += 4;
     }
-    order_each(a, b, i)
+    a[i..].cmp(&b[i..])
 }
 
 // ---- parts
