@@ -53,12 +53,10 @@ fn same_bytes(a: &[u8], b: &[u8]) -> bool
     if differ_four(a, b, last) {
         return false;
     }
-    let mut i: usize = 0;
-    while i < last {
+    for i in (0..last).step_by(4) {
         if differ_four(a, b, i) {
             return false;
         }
-        i += 4;
     }
     true
 }
@@ -71,7 +69,7 @@ pub fn same(a: &[u8], b: &[u8]) -> bool
     n == b.len() && (n == 0 || (a[n - 1] == b[n - 1] && same_bytes(a, b)))
 }
 
-// Four bytes a turn, whose numbers are in the order of the bytes, while both have four.
+// Four bytes a turn, whose numbers are in the order of the bytes, while both have four. By a while, since what is left begins where it ends.
 pub fn order(a: &[u8], b: &[u8]) -> Ordering
     ensures { result ≡ order_of a.now b.now }
 {
@@ -97,15 +95,9 @@ pub fn order(a: &[u8], b: &[u8]) -> Ordering
 pub fn span(s: &[u8], at: usize, n: usize) -> &[u8]
     ensures { result.now ≡ take n (drop at s.now) }
 {
-    if s.len() <= at {
-        return &s[..0];
-    }
-    if n < s.len() - at {
-        let end = at + n;
-        &s[at..end]
-    } else {
-        &s[at..]
-    }
+    let from = at.min(s.len());
+    let end = from + n.min(s.len() - from);
+    &s[from..end]
 }
 
 // The lengths come first, so that parts of different lengths are told apart without a call.

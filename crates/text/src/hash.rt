@@ -23,6 +23,7 @@ fn hash_rest(name: &[u8], at: usize, before: u64) -> u64
     h
 }
 
+// By a while, since what is left begins where it ends.
 pub fn hash(name: &[u8]) -> u64
     ensures value { result ≡ hash_from 0 name.now }
     ensures upper_bound { result < hashes }
