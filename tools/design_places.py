@@ -22,6 +22,7 @@ LINES = {
     '4 fields named twice': r'^\s*(\w+): \1,$|\{ (\w+): \2, ',
     '4 a bool as a number by hand': r'\bif .*\{ 1 \} else \{ 0 \}|flag_number\(',
     '4 keys compared by their numbers': r'\w\.0 [!=]= \w+\.0\b',
+    '6 columns of records by numbers': r'\[(TYP|PARENT|PLACE|INDIRECT|MULTIPLES|KEY|LEVEL|FIRST|ROW|HIDDEN)\]',
     '7 a switch on which step to run': r'\btest: Test\b|\ball: bool\b|if all \{',
 }
 
@@ -67,9 +68,32 @@ def together(root, pair):
 def measured(root):
     for path, text, m in by_text(root, FN):
         params = m.group(2)
-        if re.search(r'\[\w+\]\b', params) and re.search(r'\b(n|count|end|top): usize', params):
+        if re.search(r'&(mut )?\[', params) and re.search(r'\b(n|count|end|top): usize', params):
             number = text.count('\n', 0, m.start()) + 1
             yield f'{os.path.relpath(path, root)}:{number} {m.group(1)}'
+
+
+def twins(root, shape):
+    """Functions alike but for numbers, constants and their own names or, with shape, for all names."""
+    groups = {}
+    for path in sources(root):
+        lines = open(path, encoding='utf-8').read().split('\n')
+        for number, line in enumerate(lines):
+            m = re.match(r'( *)(?:pub )?fn (\w+)', line)
+            if not m:
+                continue
+            end = next((i for i in range(number, len(lines)) if lines[i] == m.group(1) + '}'), number)
+            begin = next((i for i in range(number, end) if re.match(r'.*\{$', lines[i]) and '{ ' not in lines[i]), end)
+            body = [re.sub(r'//.*', '', text).strip() for text in lines[begin + 1:end]]
+            body = [text for text in body if re.search(r'\w', text)]
+            if len(body) < (4 if shape else 2):
+                continue
+            text = ' '.join(body)
+            text = re.sub(r'[A-Za-z_]\w*', 'x', re.sub(r'\d[\d_]*', '0', text)) if shape else re.sub(r'\b(?:\d[\d_]*|[A-Z][A-Z_]+)\b', '0', text)
+            groups.setdefault(text, []).append(f'{os.path.relpath(path, root)}:{number + 1} {m.group(2)}')
+    for group in groups.values():
+        if len(group) > 1:
+            yield from group
 
 
 def answers(root):
@@ -88,6 +112,8 @@ def main(args):
     found['3 loops by while'] = list(loops(root))
     for pair in PAIRS:
         found[f'5 functions with {pair[0]} and {pair[1]}'] = list(together(root, pair))
+    found['2 functions alike but for constants'] = list(twins(root, False))
+    found['2 functions of one shape'] = list(twins(root, True))
     found['6 a buffer with a length beside it'] = list(measured(root))
     found['8 answers'] = list(answers(root))
     for name in sorted(found):

@@ -13,7 +13,7 @@ use crate::bytes::{name_byte, within};
 pub fn stop(s: &[u8], end: usize) -> usize
     ensures { result ≡ stop_at s.now end }
 {
-    if end <= s.len() { end } else { s.len() }
+    end.min(s.len())
 }
 
 // The byte at a place, and 256 where none is left.
@@ -27,7 +27,7 @@ pub fn byte(s: &[u8], at: usize, end: usize) -> u64
     }
 }
 
-// Where the bytes that pass a test end, from a place up to an end.
+// Where the bytes that pass a test end, from a place up to an end. By a while, since the answer is where it ends, also behind the end.
 fn run<F: Fn(u64) -> bool>(s: &[u8], at: usize, end: usize, passes: F) -> usize
     requires { F.IsAlwaysCallable passes }
     ensures { (p : ℕ → Bool) → Tells (F.post passes) p → result ≡ run_end p s.now at end }
@@ -43,7 +43,7 @@ fn run<F: Fn(u64) -> bool>(s: &[u8], at: usize, end: usize, passes: F) -> usize
     i
 }
 
-// The same, if a byte that fails the test is met before some end: no end is then looked for.
+// The same, if a byte that fails the test is met before some end: no end is then looked for, so that there is no range to go over.
 fn run_met<F: Fn(u64) -> bool>(s: &[u8], at: usize, passes: F) -> usize
     requires callable { F.IsAlwaysCallable passes }
     requires ended { (p : ℕ → Bool) × Tells (F.post passes) p × Ended p s.now at }
@@ -68,7 +68,7 @@ fn met_in_eight(s: &[u8], i: usize, sep: u64) -> bool
     met
 }
 
-// Where the separator stands first, or the end. Eight bytes a turn, as this is done for each byte of the text.
+// Where the separator stands first, or the end. Eight bytes a turn, as this is done for each byte of the text; by a while, since what is left begins where it ends.
 pub fn until(s: &[u8], at: usize, end: usize, sep: u64) -> usize
     ensures { result ≡ run_end (other sep) s.now at end }
 {
