@@ -1,47 +1,31 @@
+use Rattle.objects.proofs.ListLaws.{either}
 use Rattle.type_parts.specs.Parts.{count_in}
-use Rattle.type_parts.proofs.ReadLaws.{count-as}
+use Rattle.type_parts.proofs.ReadLaws.{count-as, counted-parts}
 use Rattle.type_parts.proofs.parts.part_count.Goals as goal
 
 pub returns-in-Basic : goal.returns-in-Basic
 unfolding count_in
-returns-in-Basic c = count-as _ _ c.type_of-ty.ensures c.in-Basic.is
+returns-in-Basic c =
+    let row = c.type_of-ty.ensures in either c.in-Basic.is (λ e. count-as _ _ row e.1) (λ e. count-as _ _ row e.3)
 
 pub returns-in-Array : goal.returns-in-Array
 unfolding count_in
-returns-in-Array c = count-as _ _ c.type_of-ty.ensures c.in-Array.is
-
-pub returns-in-Slice : goal.returns-in-Slice
-unfolding count_in
-returns-in-Slice c = count-as _ _ c.type_of-ty.ensures c.in-Slice.is
-
-pub returns-in-Pointer : goal.returns-in-Pointer
-unfolding count_in
-returns-in-Pointer c = count-as _ _ c.type_of-ty.ensures c.in-Pointer.is
+returns-in-Array c =
+    let row = c.type_of-ty.ensures in
+    either c.in-Array.is (λ e. count-as _ _ row e.2)
+    (λ r. either r (λ e. count-as _ _ row e.1) (λ s. either s (λ e. count-as _ _ row e.1) (λ e. count-as _ _ row e.2)))
 
 pub returns-in-Map : goal.returns-in-Map
 unfolding count_in
-returns-in-Map c = count-as _ _ c.type_of-ty.ensures c.in-Map.is
+returns-in-Map c =
+    let row = c.type_of-ty.ensures in either c.in-Map.is (λ e. count-as _ _ row e.2) (λ e. count-as _ _ row e.3)
 
-pub returns-in-Chan : goal.returns-in-Chan
-unfolding count_in
-returns-in-Chan c = count-as _ _ c.type_of-ty.ensures c.in-Chan.is
-
+-- one return for each kind of the arm
 pub returns-in-Tuple : goal.returns-in-Tuple
-unfolding count_in
-returns-in-Tuple c = count-as _ _ c.type_of-ty.ensures c.in-Tuple.is
+returns-in-Tuple c = counted-parts _ _ c.type_of-ty.ensures c.in-Tuple.is
 
-pub returns-in-Func : goal.returns-in-Func
-unfolding count_in
-returns-in-Func c = count-as _ _ c.type_of-ty.ensures c.in-Func.is
+pub returns-in-Tuple-2 : goal.returns-in-Tuple-2
+returns-in-Tuple-2 c = counted-parts _ _ c.type_of-ty.ensures c.in-Tuple.is
 
-pub returns-in-Struct : goal.returns-in-Struct
-unfolding count_in
-returns-in-Struct c = count-as _ _ c.type_of-ty.ensures c.in-Struct.is
-
-pub returns-in-Iface : goal.returns-in-Iface
-unfolding count_in
-returns-in-Iface c = count-as _ _ c.type_of-ty.ensures c.in-Iface.is
-
-pub returns-in-Named : goal.returns-in-Named
-unfolding count_in
-returns-in-Named c = count-as _ _ c.type_of-ty.ensures c.in-Named.is
+pub returns-in-Tuple-3 : goal.returns-in-Tuple-3
+returns-in-Tuple-3 c = counted-parts _ _ c.type_of-ty.ensures c.in-Tuple.is
