@@ -73,7 +73,7 @@ identical_impl-returns t c =
 
 pub identical_impl_o-loop-i-init : goal.identical_impl_o-loop-i-init
 identical_impl_o-loop-i-init t c =
-    (search rules, search rules, search rules, passed_none _ _ _ _ _ _ c.requires.well)
+    (search rules, search rules, passed_none _ _ _ _ _ _ c.requires.well)
 
 pub identical_impl_o-part_in-p-requires : goal.identical_impl_o-part_in-p-requires
 identical_impl_o-part_in-p-requires t c =
@@ -86,17 +86,17 @@ identical_impl_o-part_in-q-requires t c =
 pub identical_impl_o-identical_impl-requires : goal.identical_impl_o-identical_impl-requires
 identical_impl_o-identical_impl-requires t c =
     let kin = peers-kin _ _ _ c.requires.peers.0 in (
-      part_falls _ _ c.requires.library _ _ c.requires.peers.0 _ _ c.part_count-n.ensures c.loop-i-test.true _ _ _ _ _ _ c.part_in-p.ensures c.loop-i.invariant.3 c.decreases,
+      part_falls _ _ c.requires.library _ _ c.requires.peers.0 _ _ c.part_count-n.ensures c.loop-i-test.true _ _ _ _ _ _ c.part_in-p.ensures c.loop-i.invariant.2 c.decreases,
       (
         c.requires.library,
         (
           (
             left-inside _ _ c.requires.library _ _ kin _ _ c.part_count-n.ensures c.loop-i-test.true _ c.part_in-p.ensures,
             right-inside _ _ c.requires.library _ _ kin _ _ c.part_count-n.ensures c.loop-i-test.true _ c.part_in-q.ensures,
-            omega (arith, c.loop-i.invariant.1, c.requires.peers.1),
+            omega (arith, c.loop-i.invariant.0, c.requires.peers.1),
           ),
           (
-            c.loop-i.invariant.3.well,
+            c.loop-i.invariant.2.well,
             (c.requires.level_lt_deepest.0, part-within _ _ _ _ c.requires.level_lt_deepest.1 _ _ c.part_count-n.ensures c.loop-i-test.true _ _ c.part_in-p.ensures c.part_in-q.ensures),
           ),
         ),
@@ -105,16 +105,12 @@ identical_impl_o-identical_impl-requires t c =
 
 pub identical_impl_o-returns-then-not-identical_impl : goal.identical_impl_o-returns-then-not-identical_impl
 identical_impl_o-returns-then-not-identical_impl t c =
-    at-differ _ _ _ _ c.requires.peers.0 _ _ c.part_count-n.ensures c.loop-i-test.true _ _ _ _ _ _ _ _ _ c.loop-i.invariant.3 c.part_in-p.ensures c.part_in-q.ensures c.identical_impl.ensures.compared (ap not c.if-not-identical_impl.true)
-
-pub identical_impl_o-overflow_add-i : goal.identical_impl_o-overflow_add-i
-identical_impl_o-overflow_add-i t c =
-    omega (arith, c.part_count-n.type_inv, c.loop-i-test.true)
+    at-differ _ _ _ _ c.requires.peers.0 _ _ c.part_count-n.ensures c.loop-i-test.true _ _ _ _ _ _ _ _ _ c.loop-i.invariant.2 c.part_in-p.ensures c.part_in-q.ensures c.identical_impl.ensures.compared (ap not c.if-not-identical_impl.true)
 
 pub identical_impl_o-loop-i-preserved : goal.identical_impl_o-loop-i-preserved
 identical_impl_o-loop-i-preserved t c =
-    (search rules, search rules, search rules, at_same _ _ _ _ c.requires.peers.0 _ _ c.part_count-n.ensures c.loop-i-test.true _ _ _ _ _ _ _ _ _ c.loop-i.invariant.3 c.part_in-p.ensures c.part_in-q.ensures c.identical_impl.ensures.compared (ap not c.if-not-identical_impl.false))
+    (search rules, search rules, at_same _ _ _ _ c.requires.peers.0 _ _ c.part_count-n.ensures c.loop-i-test.true _ _ _ _ _ _ _ _ _ c.loop-i.invariant.2 c.part_in-p.ensures c.part_in-q.ensures c.identical_impl.ensures.compared (ap not c.if-not-identical_impl.false))
 
 pub identical_impl_o-returns : goal.identical_impl_o-returns
 identical_impl_o-returns t c =
-    at-end _ _ _ _ c.requires.peers.0 _ _ _ _ _ _ c.loop-i.invariant.3 c.part_count-n.ensures c.loop-i.invariant.0 c.loop-i-test.false
+    at-end _ _ _ _ c.requires.peers.0 _ _ _ _ _ _ c.loop-i.invariant.2 c.part_count-n.ensures (omega arith) c.loop-i-test.false
