@@ -9,14 +9,13 @@ use lib.Dec.{eqb}
 use borrow.Author.Tests.{ne_eqb, eq-eqb}
 use Rattle.objects.specs.Bounds.{word_values}
 use Rattle.objects.specs.declared.TypeKey.{TypeKey}
-use Rattle.objects.specs.declared.Dir.{Dir}
 use Rattle.objects.specs.declared.«Type».{«Type»}
 use Rattle.objects.specs.Lists.{Bytes, up_to}
 use Rattle.objects.specs.Table.{Member, type_key, obj_key, kind_at}
 use Rattle.objects.specs.Rows.{Words, type_count, type_word, from, element_at, member_at, elements_from, members_from, table_of}
 use Rattle.objects.specs.Types.{kind_meant, type_read, number_read, first_read, total_read, member_type_read}
 use Rattle.objects.specs.Laid.{Laid}
-use Rattle.objects.proofs.ListLaws.{either, map-map}
+use Rattle.objects.proofs.ListLaws.{map-map}
 use Rattle.objects.proofs.Reading.{is-tuple, is-func, is-struct, is-iface}
 use Rattle.objects.proofs.RowLaws.{type-meant, kind-read, members-length, elements-length}
 use Rattle.rules.specs.Identity.{real_type, own_number, parts}
@@ -94,10 +93,6 @@ module _ (rows : Words) (t : TypeKey) {ty con : «Type»} (e : ty ≡ type_read 
   unfolding own_read
   own-as = ap (own_in t) (sym f ∙ e)
 
-  pub count-as : count_in con ≡ part_count rows t
-  unfolding part_count
-  count-as = ap count_in (sym f ∙ e)
-
   pub part-as : (i : ℕ) → part_in rows con i ≡ part_at rows t i
   unfolding part_at
   part-as i = ap (λ k. part_in rows k i) (sym f ∙ e)
@@ -111,27 +106,6 @@ module _ (rows : Words) (t : TypeKey) {ty con : «Type»} (e : ty ≡ type_read 
 
   pub span-as : SpanIs (first_read rows t) (total_read rows t) con
   span-as = rw (sym f ∙ e) (span-is rows t)
-
--- a tuple, a struct or an interface, which says a first element or member and that there are n
-abbrev pub Counted : «Type» → ℕ → Type 0
-Counted ty n = ((first : ℕ) × (ty ≡ «Type».Tuple first n)) ⊎ (((first : ℕ) × (ty ≡ «Type».Struct first n)) ⊎ ((first : ℕ) × (ty ≡ «Type».Iface first n)))
-
-module _ (rows : Words) (t : TypeKey) {ty : «Type»} {n : ℕ} (e : ty ≡ type_read rows t) where
-  pub counted-own : Counted ty n → n ≡ own_read rows t
-  unfolding own_in
-  counted-own h = either h (λ k. own-as rows t e k.1) (λ r. either r (λ k. own-as rows t e k.1) (λ k. own-as rows t e k.1))
-
-  pub counted-parts : Counted ty n → n ≡ part_count rows t
-  unfolding count_in
-  counted-parts h = either h (λ k. count-as rows t e k.1) (λ r. either r (λ k. count-as rows t e k.1) (λ k. count-as rows t e k.1))
-
--- an array, a slice, a pointer or a channel has one part
-module _ (rows : Words) (t : TypeKey) {ty : «Type»} {p : TypeKey} (e : ty ≡ type_read rows t) where
-  pub lone-part : ((n : ℕ) × (ty ≡ «Type».Array n p)) ⊎ ((ty ≡ «Type».Slice p) ⊎ ((ty ≡ «Type».Pointer p) ⊎ ((d : Dir) × (ty ≡ «Type».Chan d p)))) → (i : ℕ) → p ≡ part_at rows t i
-  unfolding part_in
-  lone-part h i =
-      either h (λ k. part-as rows t e k.1 i)
-      (λ r. either r (λ k. part-as rows t e k i) (λ s. either s (λ k. part-as rows t e k i) (λ k. part-as rows t e k.1 i)))
 
 -- what a reader gives of a row whose kind it has read
 module _ (rows : Words) (t : TypeKey) {k : ℕ} (k-is : k ≡ type_word rows t 0) where

@@ -38,6 +38,7 @@ fn has_members(kind: u32) -> bool
 }
 
 // The number that belongs to a type beside its kind, its parts and its members, whatever the kind is.
+#[tactic(auto, unfolding(crate::specs::Parts::own_read, crate::specs::Parts::own_in))]
 fn own_of(rows: &[u32], t: TypeKey) -> u32
     ensures { result ≡ own_read rows.now t }
 {
@@ -65,6 +66,7 @@ pub fn own_number(rows: &[u32], t: TypeKey) -> u32
 }
 
 // How many types it is made of.
+#[tactic(auto, unfolding(crate::specs::Parts::part_count, crate::specs::Parts::count_in))]
 pub fn part_count(rows: &[u32], t: TypeKey) -> u32
     ensures { result ≡ part_count rows.now t }
 {
@@ -78,6 +80,7 @@ pub fn part_count(rows: &[u32], t: TypeKey) -> u32
 }
 
 // The i-th of them, whatever the kind is.
+#[tactic(auto, unfolding(crate::specs::Parts::part_at, crate::specs::Parts::part_in))]
 fn part_of(rows: &[u32], t: TypeKey, i: u32) -> TypeKey
     requires { first_read rows.now t + i < word_values }
     ensures { result ≡ part_at rows.now t i }
