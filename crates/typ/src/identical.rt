@@ -81,7 +81,7 @@ pub fn identical_impl(
     ensures compared { Compared (table_of text.now rows.now) marks.old marks.new labels.old labels.new x y result }
     ensures at_once { AtOnce (table_of text.now rows.now) marks.old marks.new labels.old labels.new x y result }
 {
-    if x.0 == y.0 {
+    if x == y {
         return true;
     }
     if known(marks, labels, x, y) {
@@ -134,7 +134,7 @@ pub fn identical_impl_o(
 fn unlike(rows: &[u32], p: TypeKey, q: TypeKey) -> bool
     ensures { result ≡ true → same_numbers rows.now p q ≡ false }
 {
-    p.0 != q.0 && !kin(rows, p, q)
+    p != q && !kin(rows, p, q)
 }
 
 // Types x and y, which nothing but their parts tells apart, have parts that are unlike. This looks one level deep and takes no marks, so that none need be
@@ -218,7 +218,7 @@ pub fn identical(text: &[u8], rows: &[u32], marks: &mut [u32], x: TypeKey, y: Ty
     ensures value { result ≡ identical (table_of text.now rows.now) x y }
     ensures marks_unchanged { marks.new ≡ marks.old }
 {
-    if x.0 == y.0 {
+    if x == y {
         return true;
     }
     if mismatch(text, rows, x, y) || apart(text, rows, x, y) {

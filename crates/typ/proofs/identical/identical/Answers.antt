@@ -10,14 +10,14 @@ use Rattle.rules.proofs.Sounds.{library-sound}
 use Rattle.type_parts.proofs.KinLaws.{peers-of}
 use Rattle.pair_marks.proofs.Zero.{zero-front, front-back}
 use Rattle.pair_marks.proofs.PairLaws.{words_more, words_of}
-use Rattle.typ.proofs.Cycle.{mismatch-apart}
+use Rattle.typ.proofs.Cycle.{one-key, mismatch-apart}
 use Rattle.typ.proofs.Top.{selfsame, differed}
 use Rattle.typ.proofs.identical.identical.Goals as goal
 use Rattle.typ.proofs.identical.identical.Goals.{then-mismatch-via-then-mismatch, then-mismatch-via-else-mismatch+then-apart}
 
-pub returns-then-x-y : goal.returns-then-x-y
-returns-then-x-y c =
-    record { value = selfsame _ _ _ (library-sound c.requires.library) c.if-x-y.true; marks_unchanged = refl }
+pub returns-then-eq : goal.returns-then-eq
+returns-then-eq c =
+    record { value = selfsame _ _ _ (library-sound c.requires.library) (one-key c.eq.ensures c.if-eq.true); marks_unchanged = refl }
 
 pub returns-then-mismatch : goal.returns-then-mismatch
 returns-then-mismatch c = record {
