@@ -45,12 +45,10 @@ pub fn consolidate_multiples(level: &mut [EmbeddedType], t: TypeKey)
     requires { length level.old ≤ max_records }
     ensures { level.new ≡ consolidated level.old t }
 {
-    let mut i: usize = 0;
-    while i < level.len() {
-        if level[i][TYP] == t.0 {
-            level[i][MULTIPLES] = 1;
+    for r in level.iter_mut() {
+        if r[TYP] == t.0 {
+            r[MULTIPLES] = 1;
             return;
         }
-        i += 1;
     }
 }
