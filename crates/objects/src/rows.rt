@@ -7,7 +7,7 @@ ghost use Rattle.objects.specs.Types.{type_read, number_read, pointer_read, name
 
 use crate::bounds::{PACKAGE_WORDS, PACKAGES_AT, ROW_WORDS, SIGNED_AT, TYPES_AT, TYPES_END};
 use crate::kinds::{IFACE, NAMED, POINTER};
-use crate::{Dir, ObjKey, Package, PackageKey, Type, TypeKey};
+use crate::{Dir, ObjKey, PackageKey, Type, TypeKey};
 
 // ---- words
 
@@ -195,11 +195,7 @@ pub fn iface_under(rows: &[u32], t: TypeKey) -> bool
 pub fn named_pointer(rows: &[u32], t: TypeKey) -> bool
     ensures { result ≡ named_pointer_read rows.now t }
 {
-    if named_at(rows, t) {
-        pointer_at(rows, under(rows, t))
-    } else {
-        false
-    }
+    named_at(rows, t) && pointer_at(rows, under(rows, t))
 }
 
 pub fn first_member(rows: &[u32], t: TypeKey) -> u32
@@ -222,14 +218,14 @@ pub fn member_type(rows: &[u32], m: ObjKey) -> TypeKey
     TypeKey(member_word(rows, m, 3))
 }
 
-pub fn member_package(rows: &[u32], m: ObjKey) -> Package
+pub fn member_package(rows: &[u32], m: ObjKey) -> Option<PackageKey>
     ensures { result ≡ package_read rows.now m }
 {
     let w = member_word(rows, m, 2);
     if w == 0 {
-        Package::Absent
+        None
     } else {
-        Package::Is(PackageKey(w - 1))
+        Some(PackageKey(w - 1))
     }
 }
 

@@ -3,7 +3,6 @@ ghost use Rattle.std.specs.Prelude.{◌≡◌, ◌<◌, drop};
 ghost use Rattle.objects.specs.Rows.{member_at};
 ghost use Rattle.text.specs.Hash.{hashes, hash_rest, hash_from};
 
-use crate::bytes::wide;
 use crate::compare::{four, span};
 use objects::ObjKey;
 use objects::rows::member_word;
@@ -20,7 +19,7 @@ fn hash_rest(name: &[u8], at: usize, before: u64) -> u64
     let mut h = before;
     let mut i = at;
     while i < name.len() {
-        h = (h + wide(name[i])) * 1_103_515 % HASHES;
+        h = (h + u64::from(name[i])) * 1_103_515 % HASHES;
         i += 1;
     }
     h

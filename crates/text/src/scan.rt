@@ -6,8 +6,8 @@ ghost use Rattle.text.specs.Lines.{fields};
 ghost use Rattle.text.specs.Cursors.{part, line_end, past_read, exactly};
 ghost use Rattle.text.specs.Runs.{other, run_end, Met, Ended, EndsAt, stop_at, byte_in, past_tab};
 
-use crate::bytes::{is, name_byte, or, wide, within};
-use crate::{Cursor, Past};
+use crate::Cursor;
+use crate::bytes::{name_byte, within};
 
 // An end that lies within the text.
 pub fn stop(s: &[u8], end: usize) -> usize
@@ -20,7 +20,11 @@ pub fn stop(s: &[u8], end: usize) -> usize
 pub fn byte(s: &[u8], at: usize, end: usize) -> u64
     ensures { result ≡ byte_in s.now at end }
 {
-    if at < stop(s, end) { wide(s[at]) } else { 256 }
+    if at < stop(s, end) {
+        u64::from(s[at])
+    } else {
+        256
+    }
 }
 
 // Where the separator stands first, or the end, byte by byte.
@@ -30,7 +34,7 @@ fn until_each(s: &[u8], at: usize, end: usize, sep: u64) -> usize
     let stop = stop(s, end);
     let mut i = at;
     while i < stop {
-        if is(wide(s[i]), sep) {
+        if u64::from(s[i]) == sep {
             return i;
         }
         i += 1;
@@ -44,10 +48,8 @@ fn met_in_eight(s: &[u8], i: usize, sep: u64) -> bool
     ensures { Met s.now i 8 sep result }
 {
     let mut met = false;
-    let mut k: usize = 0;
-    while k < 8 {
-        met = or(met, is(wide(s[i + k]), sep));
-        k += 1;
+    for k in 0..8 {
+        met |= u64::from(s[i + k]) == sep;
     }
     met
 }
@@ -58,7 +60,7 @@ fn until_met(s: &[u8], at: usize, sep: u64) -> usize
     ensures { EndsAt (other sep) s.now at result }
 {
     let mut i = at;
-    while !is(wide(s[i]), sep) {
+    while u64::from(s[i]) != sep {
         i += 1;
     }
     i
@@ -95,7 +97,7 @@ fn name_end_met(s: &[u8], at: usize) -> usize
     ensures { EndsAt is_name_byte s.now at result }
 {
     let mut i = at;
-    while name_byte(wide(s[i])) {
+    while name_byte(u64::from(s[i])) {
         i += 1;
     }
     i
@@ -106,14 +108,12 @@ pub fn name_end(s: &[u8], at: usize, end: usize) -> usize
     ensures { result ≡ run_end is_name_byte s.now at end }
 {
     let stop = stop(s, end);
-    if at < stop {
-        if is(byte(s, stop, s.len()), 10) {
-            return name_end_met(s, at);
-        }
+    if at < stop && byte(s, stop, s.len()) == 10 {
+        return name_end_met(s, at);
     }
     let mut i = at;
     while i < stop {
-        if name_byte(wide(s[i])) {
+        if name_byte(u64::from(s[i])) {
             i += 1;
         } else {
             return i;
@@ -129,7 +129,7 @@ pub fn plain_end(s: &[u8], at: usize, end: usize, low: u64) -> usize
     let stop = stop(s, end);
     let mut i = at;
     while i < stop {
-        if within(low, 126, wide(s[i])) {
+        if within(low, 126, u64::from(s[i])) {
             i += 1;
         } else {
             return i;
@@ -139,25 +139,16 @@ pub fn plain_end(s: &[u8], at: usize, end: usize, low: u64) -> usize
 }
 
 // The cursor behind a field that ends at `to`, if it does end there.
-pub fn behind(s: &[u8], to: usize, end: usize) -> Past
+pub fn behind(s: &[u8], to: usize, end: usize) -> Option<Cursor>
     ensures { result ≡ past_tab s.now to end }
 {
-    if to < stop(s, end) {
-        if is(wide(s[to]), 9) {
-            Past::To(Cursor {
-                at: to + 1,
-                end,
-                more: true,
-            })
-        } else {
-            Past::Wrong
-        }
+    if stop(s, end) <= to {
+        return Some(Cursor::ended(to, end));
+    }
+    if u64::from(s[to]) == 9 {
+        Some(Cursor::line(to + 1, end))
     } else {
-        Past::To(Cursor {
-            at: to,
-            end,
-            more: false,
-        })
+        None
     }
 }
 
@@ -166,34 +157,20 @@ pub fn blank(s: &[u8], from: usize, to: usize) -> bool
     ensures { result ≡ is_blank (part s.now from to) }
 {
     let stop = stop(s, to);
-    if from < stop {
-        if is(wide(s[from]), 95) {
-            stop == from + 1
-        } else {
-            false
-        }
-    } else {
-        false
-    }
+    from < stop && u64::from(s[from]) == 95 && stop == from + 1
 }
 
 // The field from a place on, which must be w. A tab in w matches none.
-pub fn word_at(s: &[u8], at: usize, end: usize, w: &[u8]) -> Past
+pub fn word_at(s: &[u8], at: usize, end: usize, w: &[u8]) -> Option<Cursor>
     ensures { past_read s.now result ≡ exactly w.now (fields (part s.now at end)) }
 {
     let mut i = at;
-    let mut j: usize = 0;
-    while j < w.len() {
+    for j in 0..w.len() {
         let b = byte(s, i, end);
-        if is(b, 9) {
-            return Past::Wrong;
+        if b == 9 || b != u64::from(w[j]) {
+            return None;
         }
-        if is(b, wide(w[j])) {
-            i += 1;
-            j += 1;
-        } else {
-            return Past::Wrong;
-        }
+        i += 1;
     }
     behind(s, i, end)
 }

@@ -17,7 +17,7 @@ pub loop-i-smaller : goal.loop-i-smaller
 loop-i-smaller c = omega (arith, on-within _ _ _ _ c.loop-i.invariant c.requires)
 
 pub loop-i-preserved : goal.loop-i-preserved
-loop-i-preserved c = on-next _ _ _ _ c.loop-i.invariant c.wide.ensures (sym c.name_byte.ensures ∙ c.loop-i-test.true)
+loop-i-preserved c = on-next _ _ _ _ c.loop-i.invariant c.from.ensures (sym c.name_byte.ensures ∙ c.loop-i-test.true)
 
 pub returns : goal.returns
-returns c = on-stop _ _ _ _ c.loop-i.invariant c.wide.ensures (sym c.name_byte.ensures ∙ c.loop-i-test.false)
+returns c = on-stop _ _ _ _ c.loop-i.invariant c.from.ensures (sym c.name_byte.ensures ∙ c.loop-i-test.false)

@@ -9,11 +9,11 @@ bounds-s-i c = (stop-in _ _ _ c.stop-stop.ensures c.loop-i-test.true).1
 
 pub loop-i-preserved : goal.loop-i-preserved
 loop-i-preserved c =
-    c.loop-i.invariant ∙ run-next _ _ _ _ c.stop-stop.ensures c.loop-i-test.true c.wide.ensures (sym c.within.ensures ∙ c.if-within.true)
+    c.loop-i.invariant ∙ run-next _ _ _ _ c.stop-stop.ensures c.loop-i-test.true c.from.ensures (sym c.within.ensures ∙ c.if-within.true)
 
 pub returns-else-within : goal.returns-else-within
 returns-else-within c =
-    sym (c.loop-i.invariant ∙ run-stop _ _ _ _ c.stop-stop.ensures c.loop-i-test.true c.wide.ensures (sym c.within.ensures ∙ c.if-within.false))
+    sym (c.loop-i.invariant ∙ run-stop _ _ _ _ c.stop-stop.ensures c.loop-i-test.true c.from.ensures (sym c.within.ensures ∙ c.if-within.false))
 
 pub returns : goal.returns
 returns c = sym (c.loop-i.invariant ∙ run-done _ _ _ _ c.stop-stop.ensures c.loop-i-test.false)

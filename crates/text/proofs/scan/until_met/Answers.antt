@@ -2,6 +2,7 @@
 use mathlib.Core.Path.{refl}
 use native.Mathlib.Omega.{arith}
 use Rattle.text.proofs.RunLaws.{on-within, on-next, on-stop, other-no, other-yes}
+use borrow.Author.Tests.{eq-eqb, ne_eqb}
 use Rattle.text.proofs.scan.until_met.Goals as goal
 
 pub loop-i-init : goal.loop-i-init
@@ -18,8 +19,8 @@ loop-i-smaller c = omega (arith, on-within _ _ _ _ c.loop-i.invariant c.requires
 
 pub loop-i-preserved : goal.loop-i-preserved
 loop-i-preserved c =
-    on-next _ _ _ _ c.loop-i.invariant c.wide.ensures (other-yes _ _ c.is.ensures c.loop-i-test.true)
+    on-next _ _ _ _ c.loop-i.invariant c.from.ensures (other-yes _ _ refl (ne_eqb _ _ c.loop-i-test.true))
 
 pub returns : goal.returns
 returns c =
-    on-stop _ _ _ _ c.loop-i.invariant c.wide.ensures (other-no _ _ c.is.ensures c.loop-i-test.false)
+    on-stop _ _ _ _ c.loop-i.invariant c.from.ensures (other-no _ _ refl (eq-eqb _ _ c.loop-i-test.false))
