@@ -14,7 +14,7 @@ ghost use Rattle.selection.specs.Finds.{first_from, first_plain, Searched, Signs
 use obj::same_id;
 use objects::kinds::{IFACE, STRUCT};
 use objects::rows::{first_member, kind_number, member_total, named_at, signed, signs_at, under};
-use objects::{ObjKey, Package, TypeKey};
+use objects::{ObjKey, PackageKey, TypeKey};
 use text::compare::span;
 use text::hash::hash;
 
@@ -23,7 +23,7 @@ use text::hash::hash;
 pub struct Name {
     pub at: u32,
     pub len: u32,
-    pub pkg: Package,
+    pub pkg: Option<PackageKey>,
 }
 
 // "the selection enum holds a method-or-field enum"
@@ -49,18 +49,26 @@ pub struct Selection {
     pub count: usize,
 }
 
-// A member of a type itself, at its place in the list that it stands in.
-#[derive(Clone, Copy)]
-pub enum Own {
-    Nothing,
-    Found(u32, ObjKey),
+impl Selection {
+    // No member has the name.
+    pub const NOT_FOUND: Selection = Selection {
+        result: LookupResult::NotFound,
+        count: 0,
+    };
 }
 
-// What N answers: the first method that is not met, and whether a method is there with another type.
+// A member of a type itself, at its place in the list that it stands in.
 #[derive(Clone, Copy)]
-pub enum Missing {
-    Satisfied,
-    Lacks(ObjKey, bool),
+pub struct Own {
+    pub place: u32,
+    pub member: ObjKey,
+}
+
+// Why a type lacks what N asks for: the first method that is not met, and whether a method is there with another type.
+#[derive(Clone, Copy)]
+pub struct Missing {
+    pub method: ObjKey,
+    pub other_type: bool,
 }
 
 // ---- the members that are a type's own
@@ -127,7 +135,7 @@ fn place(text: &[u8], rows: &[u32], from: u32, count: u32, names: &[u8], q: Name
 }
 
 // The first of the members under the T line of t, which may have some.
-fn listed(text: &[u8], rows: &[u32], t: TypeKey, names: &[u8], q: Name) -> Own
+fn listed(text: &[u8], rows: &[u32], t: TypeKey, names: &[u8], q: Name) -> Option<Own>
     requires library { Library text.now rows.now }
     requires t_bound { (t.0 < type_count rows.now) × (has_package (table_of text.now rows.now) (package_meant q.pkg) ≡ true) × (8 ≤ number_read rows.now t) }
     ensures { own_meant text.now rows.now result ≡ first_from (table_of text.now rows.now) (name_meant text.now rows.now names.now q) 0 (members_of (kind_at (table_of text.now rows.now) t)) }
@@ -136,14 +144,17 @@ fn listed(text: &[u8], rows: &[u32], t: TypeKey, names: &[u8], q: Name) -> Own
     let count = member_total(rows, t);
     let i = place(text, rows, from, count, names, q);
     if i < count {
-        Own::Found(i, ObjKey(from + i))
+        Some(Own {
+            place: i,
+            member: ObjKey(from + i),
+        })
     } else {
-        Own::Nothing
+        None
     }
 }
 
 // The first of the fields of a struct or of the methods of an interface.
-fn plain_member(text: &[u8], rows: &[u32], u: TypeKey, names: &[u8], q: Name) -> Own
+fn plain_member(text: &[u8], rows: &[u32], u: TypeKey, names: &[u8], q: Name) -> Option<Own>
     requires library { Library text.now rows.now }
     requires u_bound { (u.0 < type_count rows.now) × (has_package (table_of text.now rows.now) (package_meant q.pkg) ≡ true) }
     ensures { own_meant text.now rows.now result ≡ first_plain (table_of text.now rows.now) (name_meant text.now rows.now names.now q) u }
@@ -152,23 +163,22 @@ fn plain_member(text: &[u8], rows: &[u32], u: TypeKey, names: &[u8], q: Name) ->
     if kind == STRUCT || kind == IFACE {
         listed(text, rows, u, names, q)
     } else {
-        Own::Nothing
+        None
     }
 }
 
 // The member of t itself that has the name.
-pub fn own_member(text: &[u8], rows: &[u32], t: TypeKey, names: &[u8], q: Name) -> Own
+pub fn own_member(text: &[u8], rows: &[u32], t: TypeKey, names: &[u8], q: Name) -> Option<Own>
     requires library { Library text.now rows.now }
     requires t_bound { (t.0 < type_count rows.now) × (has_package (table_of text.now rows.now) (package_meant q.pkg) ≡ true) }
     ensures { own_meant text.now rows.now result ≡ first (matching (table_of text.now rows.now) (name_meant text.now rows.now names.now q) t) }
 {
-    let u = under(rows, t);
     if named_at(rows, t) {
-        match listed(text, rows, t, names, q) {
-            Own::Found(place, m) => Own::Found(place, m),
-            Own::Nothing => plain_member(text, rows, u, names, q),
+        let own = listed(text, rows, t, names, q);
+        if own.is_some() {
+            return own;
         }
-    } else {
-        plain_member(text, rows, u, names, q)
     }
+    let u = under(rows, t);
+    plain_member(text, rows, u, names, q)
 }
