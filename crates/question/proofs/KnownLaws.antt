@@ -62,6 +62,17 @@ module _ (text : Bytes) (rows : Words) (line : Bytes) where
   second_is Ask.Wrong q k h = none-some h
 
 module _ (rows : Words) where
+  -- only an N question has a second type that must be an interface
+  pub second_none : (a : Ask) → ((t i : TypeKey) (s : Bool) → a ≡ Ask.N t i s → ⊥) → false ≡ second_read rows a
+  unfolding second_read
+  second_none (Ask.S t b pkg at len) h = refl
+  second_none (Ask.M t) h = refl
+  second_none (Ask.N t i s) h = absurd (h t i s refl)
+  second_none (Ask.I x y) h = refl
+  second_none (Ask.C t) h = refl
+  second_none Ask.V h = refl
+  second_none Ask.Wrong h = refl
+
   both : (t u : TypeKey) → ltb t.0 (type_count rows) && ltb u.0 (type_count rows) ≡ true → (t.0 < type_count rows) × (u.0 < type_count rows)
   both t u h = (ltb-true _ _ (and_l (ltb t.0 (type_count rows)) (ltb u.0 (type_count rows)) h), ltb-true _ _ (and_r (ltb t.0 (type_count rows)) (ltb u.0 (type_count rows)) h))
 

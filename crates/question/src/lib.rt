@@ -19,7 +19,6 @@ use objects::bounds::{MAX_QUESTION, MAX_REFERENCE};
 use objects::kinds::IFACE;
 use objects::rows::{kind_number, package_count, type_count};
 use objects::{Package, TypeKey};
-use text::bytes::both;
 use text::{Cursor, Part, Past};
 
 // The question of a line. S has the type, whether it is addressable, the package, and place and length of the name in the line.
@@ -146,6 +145,7 @@ fn has_type(rows: &[u32], t: TypeKey) -> bool
     t.0 < type_count(rows)
 }
 
+#[tactic(auto, unfolding(crate::specs::Asks::package_known))]
 fn has_package(rows: &[u32], p: Package) -> bool
     ensures { result ≡ package_known rows.now p }
 {
@@ -155,15 +155,15 @@ fn has_package(rows: &[u32], p: Package) -> bool
     }
 }
 
+#[tactic(auto, unfolding(crate::specs::Asks::known_read))]
 fn known_words(rows: &[u32], a: Ask) -> bool
     ensures { result ≡ known_read rows.now a }
 {
     match a {
-        Ask::S(t, _, pkg, _, _) => both(has_type(rows, t), has_package(rows, pkg)),
-        Ask::M(t) => has_type(rows, t),
-        Ask::N(t, i, _) => both(has_type(rows, t), has_type(rows, i)),
-        Ask::I(x, y) => both(has_type(rows, x), has_type(rows, y)),
-        Ask::C(t) => has_type(rows, t),
+        Ask::S(t, _, pkg, _, _) => has_type(rows, t) && has_package(rows, pkg),
+        Ask::M(t) | Ask::C(t) => has_type(rows, t),
+        Ask::N(t, i, _) => has_type(rows, t) && has_type(rows, i),
+        Ask::I(x, y) => has_type(rows, x) && has_type(rows, y),
         Ask::V => true,
         Ask::Wrong => false,
     }
@@ -193,11 +193,6 @@ pub fn wrong_second(rows: &[u32], a: Ask) -> bool
 {
     match a {
         Ask::N(_, i, _) => kind_number(rows, i) != IFACE,
-        Ask::S(_, _, _, _, _) => false,
-        Ask::M(_) => false,
-        Ask::I(_, _) => false,
-        Ask::C(_) => false,
-        Ask::V => false,
-        Ask::Wrong => false,
+        _ => false,
     }
 }

@@ -1,11 +1,12 @@
 -- What S and N say: the line or the two lines of a selection, and the line of a missing method.
-use mathlib.Core.Path.{◌≡◌, sym, ap, ap₂, ◌∙◌}
-use mathlib.Core.Bool.{Bool}
+use mathlib.Core.Path.{◌≡◌, refl, sym, ap, ap₂, ◌∙◌}
+use mathlib.Core.Bool.{Bool, true, false}
 use mathlib.Core.List.{List, [], ◌∷◌, ◌++◌}
 use Prim.Native.Nat.{ℕ, suc, ◌+◌, ◌-◌, ◌≤◌, ◌<◌}
 use native.Mathlib.Omega.{arith}
 use lib.ListN.{length, take, drop, set, length-append, length-drop}
 use lib.Seq.{take_all, drop-drop}
+use Rattle.std.specs.Int.{from_bool}
 use Rattle.objects.specs.Bounds.{max_places}
 use Rattle.objects.specs.Lists.{Bytes}
 use Rattle.objects.specs.declared.ObjKey.{ObjKey}
@@ -52,6 +53,11 @@ second-part ns count = ap (take count) (drop-drop max_places 2 ns)
 
 key-line : (text : Bytes) (rows : Words) (k : ObjKey) → (member_at text rows k).key.0 ≡ k.0
 key-line text rows k = ap (λ (o : ObjKey). o.0) (member-key text rows k)
+
+-- std's number of a flag
+pub flag-bit : (b : Bool) → from_bool b ≡ bit b
+flag-bit false = refl
+flag-bit true = refl
 
 -- ---- the ways through the code
 

@@ -2,7 +2,6 @@
 ghost use Rattle.std.specs.Prelude.{◌≡◌, [], ◌≤◌, length, take};
 ghost use Rattle.objects.specs.Lists.{Bytes};
 ghost use Rattle.objects.specs.Rows.{Words, package_count, type_count, member_count_of};
-ghost use Rattle.objects.specs.Table.{bit};
 ghost use Rattle.print.specs.Written.{max_word, max_fields, number_line};
 ghost use Rattle.rules.specs.Answer.{lack_answer, says, counts, answer_bytes};
 ghost use Rattle.rules.specs.Asked.{say};
@@ -33,16 +32,14 @@ pub fn say_word(answer: &mut [u8], word: &[u8]) -> Done
     requires { length word.now ≤ max_word }
     ensures { Does (say (number_line word.now [])) result answer.old answer.new }
 {
-    let none = [0u32; 1];
-    say(answer, word, &none, 0)
+    say(answer, word, &[], 0)
 }
 
 // A question that is refused, as one of many.
 pub fn say_refused(answer: &mut [u8], n: u32, line: u32) -> Done
     ensures { Does (say (refused_bytes n line)) result answer.old answer.new }
 {
-    let numbers = [n, line];
-    say(answer, b"refused", &numbers, 2)
+    say(answer, b"refused", &[n, line], 2)
 }
 
 // I and C.
@@ -50,26 +47,18 @@ pub fn say_truth(answer: &mut [u8], b: bool) -> Done
     ensures { Does (say (answer_bytes (says b))) result answer.old answer.new }
 {
     if b {
-        return say_word(answer, b"yes");
+        say_word(answer, b"yes")
+    } else {
+        say_word(answer, b"no")
     }
-    say_word(answer, b"no")
 }
 
 // V.
 pub fn say_counts(answer: &mut [u8], rows: &[u32]) -> Done
     ensures { Does (say (answer_bytes (counts (package_count rows.now) (type_count rows.now) (member_count_of rows.now)))) result answer.old answer.new }
 {
-    let mut numbers = [0u32; 3];
-    numbers[0] = package_count(rows);
-    numbers[1] = type_count(rows);
-    numbers[2] = member_count(rows);
+    let numbers = [package_count(rows), type_count(rows), member_count(rows)];
     say(answer, b"ok", &numbers, 3)
-}
-
-pub fn flag_number(b: bool) -> u32
-    ensures { result ≡ bit b }
-{
-    if b { 1 } else { 0 }
 }
 
 // N.
@@ -79,9 +68,7 @@ pub fn say_missing(answer: &mut [u8], m: Missing) -> Done
     match m {
         Missing::Satisfied => say_word(answer, b"satisfied"),
         Missing::Lacks(k, w) => {
-            let mut numbers = [0u32; 2];
-            numbers[0] = k.0;
-            numbers[1] = flag_number(w);
+            let numbers = [k.0, u32::from(w)];
             say(answer, b"missing", &numbers, 2)
         }
     }

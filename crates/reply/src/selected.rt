@@ -11,18 +11,18 @@ ghost use Rattle.selection.specs.Results.{key_of, result_meant, second_of};
 ghost use Rattle.reply.specs.Done.{Does};
 
 use crate::Done;
-use crate::one_line::{flag_number, say, say_word};
+use crate::one_line::{say, say_word};
 use objects::bounds::MAX_PLACES;
 use print::{line_length, put_line};
 use selection::{Entity, LookupResult, Selection};
 
 // The number of a member, whatever it is.
+#[tactic(auto, unfolding(selection::specs::Results::key_of))]
 fn number_of(e: Entity) -> u32
     ensures { result ≡ (key_of e).0 }
 {
     match e {
-        Entity::Method(m) => m.0,
-        Entity::Field(m) => m.0,
+        Entity::Method(m) | Entity::Field(m) => m.0,
     }
 }
 
@@ -52,7 +52,7 @@ pub fn say_selected(answer: &mut [u8], s: Selection, numbers: &mut [u32]) -> Don
     match result {
         LookupResult::Entry(e, flag) => {
             numbers[0] = number_of(e);
-            numbers[1] = flag_number(flag);
+            numbers[1] = u32::from(flag);
             say(answer, b"entry", numbers, count + 2)
         }
         LookupResult::Ambiguous => {
