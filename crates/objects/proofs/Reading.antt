@@ -1,10 +1,11 @@
 -- Why the readers (src/rows.rt) give what specs/Types.antt reads off the words: one law for each way out. And why the word of a package says it.
 use mathlib.Core.Path.{◌≡◌}
 use mathlib.Core.Bool.{Bool, true, false}
-use Prim.Native.Nat.{ℕ, ◌+◌, ◌-◌, ◌<◌, ◌≤◌}
+use Prim.Native.Nat.{ℕ, min, ◌+◌, ◌-◌, ◌≤◌}
 use native.Mathlib.Omega.{arith}
-use lib.Dec.{eqb}
-use borrow.Author.Tests.{lt-ltb, le-ltb, ne_eqb}
+use lib.Dec.{eqb, ltb}
+use borrow.Author.Tests.{ltb-true, ltb-false, ne_eqb}
+use Rattle.objects.proofs.ListLaws.{cases}
 use Rattle.objects.specs.declared.TypeKey.{TypeKey}
 use Rattle.objects.specs.declared.ObjKey.{ObjKey}
 use Rattle.objects.specs.declared.PackageKey.{PackageKey}
@@ -101,13 +102,12 @@ module _ (rows : Words) (t : TypeKey) {k a b first count : ℕ}
 -- ---- its parts
 
 module _ (rows : Words) (t : TypeKey) where
-  pub number-low : {k : ℕ} → k ≡ type_word rows t 0 → k < 10 → k ≡ number_read rows t
+  pub number-least : {k : ℕ} → k ≡ type_word rows t 0 → min k 10 ≡ number_read rows t
   unfolding number_read number_of
-  number-low {k} p h = rw (← p, lt-ltb k 10 h)
-
-  pub number-high : {k : ℕ} → k ≡ type_word rows t 0 → 10 ≤ k → 10 ≡ number_read rows t
-  unfolding number_read number_of
-  number-high {k} p h = rw (← p, le-ltb k 10 h)
+  number-least {k} p =
+      cases (ltb k 10)
+      (λ e. let h = ltb-true k 10 e in rw (← p, e) (omega arith))
+      (λ e. let h = ltb-false k 10 e in rw (← p, e) (omega arith))
 
   pub bare-yes : {b : Bool} {e : ℕ} → b ≡ pointer_read rows t → b ≡ true → e ≡ type_word rows t 1 → type_key e ≡ bare_read rows t
   unfolding bare_read

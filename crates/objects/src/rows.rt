@@ -47,7 +47,7 @@ pub fn members_at(rows: &[u32]) -> usize
     ensures upper_bound { result ≤ types_end }
 {
     let half = (rows.len() + TYPES_AT) / 2;
-    if half < TYPES_END { half } else { TYPES_END }
+    half.min(TYPES_END)
 }
 
 // Word j of a row.
@@ -146,8 +146,7 @@ pub fn type_of(rows: &[u32], t: TypeKey) -> Type
 pub fn kind_number(rows: &[u32], t: TypeKey) -> u32
     ensures { result ≡ number_read rows.now t }
 {
-    let k = type_word(rows, t, 0);
-    if k < NAMED { k } else { NAMED }
+    type_word(rows, t, 0).min(NAMED)
 }
 
 pub fn pointer_at(rows: &[u32], t: TypeKey) -> bool

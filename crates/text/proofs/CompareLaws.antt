@@ -3,16 +3,17 @@ use mathlib.Core.Path.{◌≡◌, refl, sym, ap, ◌∙◌}
 use mathlib.Core.Bool.{Bool, true, false, cond, not, ◌||◌}
 use mathlib.Core.List.{[], ◌∷◌}
 use mathlib.Core.Logic.{◌⊎◌, inl, inr}
-use Prim.Native.Nat.{ℕ, suc, ◌+◌, ◌-◌, ◌*◌, ◌/◌, ◌≤◌, ◌<◌}
+use Prim.Native.Nat.{ℕ, min, suc, ◌+◌, ◌-◌, ◌*◌, ◌/◌, ◌≤◌, ◌<◌}
 use native.Mathlib.Omega.{arith}
-use lib.Dec.{eqb, ltb}
+use lib.Dec.{eqb, ltb, leb}
 use lib.ListN.{length, get_or, take, drop, drop_of_length-le, length-drop}
 use lib.Seq.{take_all, take-nil}
-use borrow.Author.Tests.{eq-eqb, ne_eqb, lt-ltb, le-ltb, eqb-true, eqb-false, ltb-true, ltb-false}
+use borrow.Author.Tests.{leb-true, leb-false, eq-eqb, ne_eqb, lt-ltb, le-ltb, eqb-true, eqb-false, ltb-true, ltb-false}
 use Rattle.objects.specs.Lists.{Bytes}
 use Rattle.objects.proofs.ListLaws.{cases, clash, either}
 use Rattle.std.specs.declared.cmp.Ordering.{Ordering}
-use Rattle.std.specs.Ordering.{is_lt}
+use Rattle.std.specs.Cmp.Lexicographic.{slice_cmp}
+use Rattle.std.specs.Ordering.{is_lt, nat_cmp}
 use Rattle.std.specs.declared.cmp.Ordering.TheVariants.{Less, Equal, Greater}
 use Rattle.text.specs.Bytes.{same_bytes, below_bytes}
 use Rattle.text.specs.Compare.{order_of, four_of, DifferFour}
@@ -129,16 +130,22 @@ alike-more a b n p q k h = cases (ltb k n) (λ s. p k (ltb-true k n s)) (λ s. q
 -- ---- n bytes from a place
 
 module _ (s : Bytes) (at n : ℕ) where
-  pub span_none : length s ≤ at → [] ≡ take n (drop at s)
-  span_none h = rw (drop_of_length-le s h) (sym (take-nil n))
-
-  pub span-front : take (at + n - at) (drop at s) ≡ take n (drop at s)
-  span-front = let z : at + n - at ≡ n = omega arith in rw z
-
-  pub span_rest : length s - at ≤ n → take (length s - at) (drop at s) ≡ take n (drop at s)
-  span_rest h =
-      let k : length (drop at s) ≤ length s - at = rw length-drop (omega arith) in
-      take_all (length s - at) (drop at s) k ∙ sym (take_all n (drop at s) (omega arith))
+  -- the bytes from a place within the text, as many as are there
+  pub span-is : {from m : ℕ} → from ≡ min at (length s) → m ≡ min n (length s - from) → take (from + m - from) (drop from s) ≡ take n (drop at s)
+  span-is {from} {m} pf pm =
+      let z : from + m - from ≡ m = omega arith in
+      rw z (cases (leb (length s) at)
+      (λ e. let h = leb-true (length s) at e in
+      let q : from ≡ length s = omega (arith, pf) in
+      let k : length s ≤ from = omega arith in
+      rw (drop_of_length-le s k, drop_of_length-le s h) (take-nil m ∙ sym (take-nil n)))
+      (λ e. let h = leb-false (length s) at e in
+      let q : from ≡ at = omega (arith, pf) in
+      let l = length-drop at s in
+      rw q (cases (leb n (length s - at))
+      (λ f. let k : m ≡ n = let h2 = leb-true n (length s - at) f in omega (arith, pm) in rw k)
+      (λ f. let h2 = leb-false n (length s - at) f in
+      take_all m (drop at s) (omega (arith, pm)) ∙ sym (take_all n (drop at s) (omega arith))))))
 
 -- ---- the loops: both texts from i on
 
@@ -269,3 +276,11 @@ less-below a b p =
     cases (below_bytes a b)
     (λ e. rw (p, e))
     (λ e. cases (same_bytes a b) (λ f. rw (p, e, f)) (λ f. rw (p, e, f)))
+
+-- the library's order of two slices
+pub slice-order : (a b : Bytes) → slice_cmp nat_cmp a b ≡ order_of a b
+unfolding order_of
+slice-order [] [] = refl
+slice-order [] (y ∷ b) = refl
+slice-order (x ∷ a) [] = refl
+slice-order (x ∷ a) (y ∷ b) = cases (ltb x y) (λ e. rw e) (λ e. cases (eqb x y) (λ f. rw (e, f) (slice-order a b)) (λ f. rw (e, f)))

@@ -34,6 +34,10 @@ pub record Met (s : Bytes) (i n sep : ℕ) (r : Bool) : Type 0 where
   pub yes : (end : ℕ) → i + n ≤ stop_at s end → r ≡ true → run_end (other sep) s i end < i + n
   pub no : (end : ℕ) → i + n ≤ stop_at s end → r ≡ false → run_end (other sep) s i end ≡ run_end (other sep) s (i + n) end
 
+-- what a test answers, by what is known of its calls, is p of the byte
+abbrev pub Tells : (ℕ → Bool → Type 0) → (ℕ → Bool) → Type 0
+Tells post p = (b : ℕ) (r : Bool) → b < 256 → post b r → r ≡ p b
+
 -- a byte ends the run before some end
 abbrev pub Ended : (ℕ → Bool) → Bytes → ℕ → Type 0
 Ended p s at = (end : ℕ) × (run_end p s at end < stop_at s end)

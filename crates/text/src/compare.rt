@@ -53,12 +53,10 @@ fn same_bytes(a: &[u8], b: &[u8]) -> bool
     if differ_four(a, b, last) {
         return false;
     }
-    let mut i: usize = 0;
-    while i < last {
+    for i in (0..last).step_by(4) {
         if differ_four(a, b, i) {
             return false;
         }
-        i += 4;
     }
     true
 }
@@ -71,31 +69,7 @@ pub fn same(a: &[u8], b: &[u8]) -> bool
     n == b.len() && (n == 0 || (a[n - 1] == b[n - 1] && same_bytes(a, b)))
 }
 
-// The order of what stands from a place on, byte by byte.
-fn order_each(a: &[u8], b: &[u8], at: usize) -> Ordering
-    ensures { result ≡ order_of (drop at a.now) (drop at b.now) }
-{
-    let mut i = at;
-    while i < a.len() {
-        if b.len() <= i {
-            return Ordering::Greater;
-        }
-        if a[i] < b[i] {
-            return Ordering::Less;
-        }
-        if b[i] < a[i] {
-            return Ordering::Greater;
-        }
-        i += 1;
-    }
-    if i < b.len() {
-        Ordering::Less
-    } else {
-        Ordering::Equal
-    }
-}
-
-// Four bytes a turn, whose numbers are in the order of the bytes, while both have four.
+// Four bytes a turn, whose numbers are in the order of the bytes, while both have four. By a while, since what is left begins where it ends.
 pub fn order(a: &[u8], b: &[u8]) -> Ordering
     ensures { result ≡ order_of a.now b.now }
 {
@@ -112,7 +86,7 @@ pub fn order(a: &[u8], b: &[u8]) -> Ordering
         }
         i += 4;
     }
-    order_each(a, b, i)
+    a[i..].cmp(&b[i..])
 }
 
 // ---- parts
@@ -121,15 +95,9 @@ pub fn order(a: &[u8], b: &[u8]) -> Ordering
 pub fn span(s: &[u8], at: usize, n: usize) -> &[u8]
     ensures { result.now ≡ take n (drop at s.now) }
 {
-    if s.len() <= at {
-        return &s[..0];
-    }
-    if n < s.len() - at {
-        let end = at + n;
-        &s[at..end]
-    } else {
-        &s[at..]
-    }
+    let from = at.min(s.len());
+    let end = from + n.min(s.len() - from);
+    &s[from..end]
 }
 
 // The lengths come first, so that parts of different lengths are told apart without a call.

@@ -22,7 +22,7 @@ pub fn push(v: u64, b: u64, max: u64) -> Option<u64>
     if max - t < d { None } else { Some(t + d) }
 }
 
-// The number of the digits from a place up to the field's end.
+// The number of the digits from a place up to the field's end. By a while, since the cursor goes on where it ends.
 pub fn digits(s: &[u8], at: usize, end: usize, max: u64) -> Option<(u64, Cursor)>
     ensures { num_read s.now result ≡ digits_left max 0 (part s.now at end) }
 {
