@@ -11,12 +11,13 @@ use borrow.Author.Tests.{eq-eqb, ne_eqb, le-ltb}
 use Rattle.objects.specs.Lists.{Bytes}
 use Rattle.objects.specs.declared.ObjKey.{ObjKey}
 use Rattle.objects.specs.declared.PackageKey.{PackageKey}
-use Rattle.objects.specs.declared.«Package».{«Package»}
+use Rattle.std.specs.declared.option.Option as code
+use Rattle.std.specs.Prelude.{Some, None}
 use Rattle.objects.specs.Table.{Table, has_package, path_of}
 use Rattle.objects.specs.Rows.{Words, package_word, member_word, bytes_at, package_meant, member_at, path_read, table_of}
 use Rattle.objects.specs.Types.{package_read}
 use Rattle.objects.proofs.ListLaws.{cases}
-use Rattle.text.specs.declared.Order.{Order}
+use Rattle.std.specs.declared.cmp.Ordering.TheVariants.{Less, Equal, Greater}
 use Rattle.text.specs.Bytes.{exported}
 use Rattle.text.specs.Compare.{order_of}
 use Rattle.text.proofs.CompareLaws.{order-end, order-part, order-whole, order-less, order-greater, order-next}
@@ -99,14 +100,14 @@ module _ (text : Bytes) (rows : Words) (m : ObjKey) {a n : ℕ} (ea : a ≡ memb
   unfolding id_meant joined
   id-name h = rw (member-identity text rows m, ← ea, ← en) (sym (id-whole (table_of text rows) (bytes_at text a n) (package_meant (package_read rows m)) (sym ex ∙ h)))
 
-  module _ (h : x ≡ false) {p : «Package»} (ep : p ≡ package_read rows m) where
-    pub id-none : p ≡ «Package».Absent → id_meant text (record { form = 1; path = 0; path_len = 0; name = a; len = n }) ≡ id_bytes (identity_of (table_of text rows) (member_at text rows m))
+  module _ (h : x ≡ false) {p : code.Option PackageKey} (ep : p ≡ package_read rows m) where
+    pub id-none : p ≡ None → id_meant text (record { form = 1; path = 0; path_len = 0; name = a; len = n }) ≡ id_bytes (identity_of (table_of text rows) (member_at text rows m))
     unfolding id_meant joined package_meant
     id-none e =
         rw (member-identity text rows m, ← ea, ← en, ← ep)
         (sym (id-blank (table_of text rows) (bytes_at text a n) (sym ex ∙ h) (ap package_meant e)))
 
-    pub id-path : has_package (table_of text rows) (member_at text rows m).pkg ≡ true → {k : PackageKey} → p ≡ «Package».Is k
+    pub id-path : has_package (table_of text rows) (member_at text rows m).pkg ≡ true → {k : PackageKey} → p ≡ Some k
         → {b l : ℕ} → b ≡ package_word rows k 0 → l ≡ package_word rows k 1
         → id_meant text (record { form = 2; path = b; path_len = l; name = a; len = n }) ≡ id_bytes (identity_of (table_of text rows) (member_at text rows m))
     unfolding id_meant joined path_read package_meant
@@ -118,20 +119,20 @@ module _ (text : Bytes) (rows : Words) (m : ObjKey) {a n : ℕ} (ea : a ≡ memb
 -- ---- the order of two ids, byte by byte
 
 module _ (A B : Bytes) (i : ℕ) {n m : ℕ} (en : n ≡ length A) (em : m ≡ length B) where
-  pub ids-end : n ≤ i → m ≤ i → order_of (drop i A) (drop i B) ≡ Order.Equal
+  pub ids-end : n ≤ i → m ≤ i → order_of (drop i A) (drop i B) ≡ Equal
   ids-end h k = order-end A B i (omega arith) (omega arith)
 
-  pub ids-part : n ≤ i → i < m → order_of (drop i A) (drop i B) ≡ Order.Less
+  pub ids-part : n ≤ i → i < m → order_of (drop i A) (drop i B) ≡ Less
   ids-part h k = order-part A B i (omega arith) (omega arith)
 
-  pub ids_whole : i < n → m ≤ i → order_of (drop i A) (drop i B) ≡ Order.Greater
+  pub ids_whole : i < n → m ≤ i → order_of (drop i A) (drop i B) ≡ Greater
   ids_whole h k = order-whole A B i (omega arith) (omega arith)
 
   module _ (h : i < n) (k : i < m) {x y : ℕ} (ex : x ≡ get_or A i 0) (ey : y ≡ get_or B i 0) where
-    pub ids-less : x < y → order_of (drop i A) (drop i B) ≡ Order.Less
+    pub ids-less : x < y → order_of (drop i A) (drop i B) ≡ Less
     ids-less l = order-less A B i (omega arith) (omega arith) (omega arith)
 
-    pub ids-greater : y < x → order_of (drop i A) (drop i B) ≡ Order.Greater
+    pub ids-greater : y < x → order_of (drop i A) (drop i B) ≡ Greater
     ids-greater l = order-greater A B i (omega arith) (omega arith) (omega arith)
 
     pub ids_next : y ≤ x → x ≤ y → order_of (drop i A) (drop i B) ≡ order_of (drop (i + 1) A) (drop (i + 1) B)

@@ -10,7 +10,10 @@ use borrow.Author.Tests.{ltb-true, eqb-true, eqb-false, eq-eqb}
 use Rattle.objects.specs.Lists.{Bytes}
 use Rattle.objects.specs.declared.ObjKey.{ObjKey}
 use Rattle.objects.specs.declared.PackageKey.{PackageKey}
-use Rattle.objects.specs.declared.«Package».{«Package»}
+use Rattle.std.specs.declared.option.Option as code
+use Rattle.std.specs.Option.{option_eq}
+use Rattle.objects.specs.contracts.PackageKeyPartialEq.TheImpl as key
+use Rattle.std.specs.Prelude.{Some, None}
 use Rattle.objects.specs.Table.{Table, has_package, path_of}
 use Rattle.objects.specs.Rows.{Words, package_count, member_word, bytes_at, package_meant, member_at, path_read, table_of}
 use Rattle.objects.specs.Types.{package_read}
@@ -40,23 +43,13 @@ module _ (text : Bytes) (rows : Words) (k : PackageKey) (h : has_package (table_
   pub path-of : path_of (table_of text rows) (some k) ≡ some (path_read text rows k)
   path-of = path-read text rows k package-in
 
--- the ways through `same_package`
-module _ {p q : «Package»} where
-  pub package-none : p ≡ «Package».Absent → q ≡ «Package».Absent → true ≡ same_package p q
-  unfolding same_package
-  package-none e f = rw (e, f)
-
-  pub package-right : {l : PackageKey} → p ≡ «Package».Absent → q ≡ «Package».Is l → false ≡ same_package p q
-  unfolding same_package
-  package-right e f = rw (e, f)
-
-  pub package-left : {k : PackageKey} → p ≡ «Package».Is k → q ≡ «Package».Absent → false ≡ same_package p q
-  unfolding same_package
-  package-left e f = rw (e, f)
-
-  pub package-both : {k l : PackageKey} → p ≡ «Package».Is k → q ≡ «Package».Is l → eqb k.0 l.0 ≡ same_package p q
-  unfolding same_package
-  package-both e f = rw (e, f)
+-- the derived equality of packages
+pub equal-package : (p q : code.Option PackageKey) → option_eq key.eq-value.it p q ≡ same_package p q
+unfolding same_package
+equal-package None None = refl
+equal-package None (Some l) = refl
+equal-package (Some k) None = refl
+equal-package (Some k) (Some l) = refl
 
 -- where paths ascend, equal numbers are equal paths
 numbers-tell : (T : Table) → Ordered T → (k l : PackageKey) → has_package T (some k) ≡ true → has_package T (some l) ≡ true → eqb k.0 l.0 ≡ same_path (path_of T (some k)) (path_of T (some l))
@@ -71,13 +64,13 @@ numbers-tell T ordered k l h i =
     (λ f. absurd (eqb-false k.0 l.0 e (path-once T.packages ordered k.0 l.0 (ltb-true k.0 n h) (ltb-true l.0 n i) (same_true path other f))))
     (λ f. rw (e, f)))
 
-pub same-package : (T : Table) → Ordered T → (p q : «Package») → has_package T (package_meant p) ≡ true → has_package T (package_meant q) ≡ true
+pub same-package : (T : Table) → Ordered T → (p q : code.Option PackageKey) → has_package T (package_meant p) ≡ true → has_package T (package_meant q) ≡ true
     → same_package p q ≡ same_path (path_of T (package_meant p)) (path_of T (package_meant q))
 unfolding same_package package_meant path_of
-same-package T ordered «Package».Absent «Package».Absent h i = refl
-same-package T ordered «Package».Absent («Package».Is l) h i = refl
-same-package T ordered («Package».Is k) «Package».Absent h i = refl
-same-package T ordered («Package».Is k) («Package».Is l) h i = numbers-tell T ordered k l h i
+same-package T ordered None None h i = refl
+same-package T ordered None (Some l) h i = refl
+same-package T ordered (Some k) None h i = refl
+same-package T ordered (Some k) (Some l) h i = numbers-tell T ordered k l h i
 
 -- ---- names, and paths only where the name is not exported
 
@@ -97,7 +90,7 @@ module _ (T : Table) (p q : Option PackageKey) (a b : Bytes) where
 -- ---- a member's row
 
 module _ (text : Bytes) (rows : Words) (m : ObjKey) where
-  pub member-has : has_package (table_of text rows) (member_at text rows m).pkg ≡ true → {p : «Package»} → p ≡ package_read rows m → has_package (table_of text rows) (package_meant p) ≡ true
+  pub member-has : has_package (table_of text rows) (member_at text rows m).pkg ≡ true → {p : code.Option PackageKey} → p ≡ package_read rows m → has_package (table_of text rows) (package_meant p) ≡ true
   member-has h e = rw (member-package-meant text rows m, ← e) at h
 
   pub member-identity : identity_of (table_of text rows) (member_at text rows m)
@@ -105,7 +98,7 @@ module _ (text : Bytes) (rows : Words) (m : ObjKey) where
   unfolding identity_of member_at
   member-identity = ap (λ p. identity_from (table_of text rows) p (member_at text rows m).name) (member-package-meant text rows m)
 
-  pub member-asked : {a n : ℕ} {p : «Package»} → a ≡ member_word rows m 0 → n ≡ member_word rows m 1 → p ≡ package_read rows m
+  pub member-asked : {a n : ℕ} {p : code.Option PackageKey} → a ≡ member_word rows m 0 → n ≡ member_word rows m 1 → p ≡ package_read rows m
       → asked_id text rows text a n p ≡ identity_of (table_of text rows) (member_at text rows m)
   unfolding asked_id
   member-asked ea en ep = rw (ea, en, ep) (sym member-identity)
@@ -116,7 +109,7 @@ module _ (text : Bytes) (rows : Words) (m : ObjKey) where
   blank-read ea en es = rw (es, ea, en)
 
   -- the ways through `same-id`
-  module _ (names : Bytes) (at len : ℕ) (pkg : «Package») {a n : ℕ} (ea : a ≡ member_word rows m 0) (en : n ≡ member_word rows m 1)
+  module _ (names : Bytes) (at len : ℕ) (pkg : code.Option PackageKey) {a n : ℕ} (ea : a ≡ member_word rows m 0) (en : n ≡ member_word rows m 1)
       {s : Bool} (es : s ≡ same_bytes (take n (drop a text)) (take len (drop at names))) where
     pub same-differ : s ≡ false → same_id (identity_of (table_of text rows) (member_at text rows m)) (asked_id text rows names at len pkg) ≡ false
     unfolding asked_id bytes_at
@@ -127,7 +120,7 @@ module _ (text : Bytes) (rows : Words) (m : ObjKey) where
       unfolding asked_id bytes_at
       same-exported k = rw (member-identity) (id-exported _ _ _ _ _ (rw (← ea, ← en) (sym es ∙ h)) (rw (← ea, ← en) (sym ex ∙ k)))
 
-      pub same-paths : x ≡ false → {p : «Package»} → p ≡ package_read rows m
+      pub same-paths : x ≡ false → {p : code.Option PackageKey} → p ≡ package_read rows m
           → same_id (identity_of (table_of text rows) (member_at text rows m)) (asked_id text rows names at len pkg)
           ≡ same_path (path_of (table_of text rows) (package_meant p)) (path_of (table_of text rows) (package_meant pkg))
       unfolding asked_id bytes_at

@@ -9,12 +9,12 @@ ghost use Rattle.text.specs.Bytes.{exported, is_blank, below_bytes};
 ghost use Rattle.text.specs.Compare.{order_of};
 ghost use Rattle.rules.specs.Members.{same_id, identity_of, id_bytes};
 ghost use Rattle.rules.specs.Sound.{Ordered};
-ghost use Rattle.obj.specs.Ids.{same_package, asked_id, joined, id_meant};
+ghost use Rattle.obj.specs.Ids.{asked_id, joined, id_meant};
 
 use objects::rows::{member_package, member_word, package_word};
-use objects::{ObjKey, Package};
-use text::Order;
-use text::bytes::{wide, within};
+use objects::{ObjKey, PackageKey};
+use std::cmp::Ordering;
+use text::bytes::within;
 use text::compare::{order, same, same_across, span};
 
 // The id of a member as places in the text: its form, its package's path and its name (specs/Ids.antt).
@@ -32,7 +32,7 @@ pub struct Id {
 fn byte_at(s: &[u8], i: usize) -> u64
     ensures { result ≡ get_or s.now i 0 }
 {
-    if i < s.len() { wide(s[i]) } else { 0 }
+    if i < s.len() { u64::from(s[i]) } else { 0 }
 }
 
 // "first byte A to Z"
@@ -55,23 +55,8 @@ pub fn is_blank(text: &[u8], rows: &[u32], m: ObjKey) -> bool
 
 // ---- identity
 
-// "equal package paths or no package on both sides": where paths ascend, packages of one path have one number.
-fn same_package(p: Package, q: Package) -> bool
-    ensures { result ≡ same_package p q }
-{
-    match p {
-        Package::Absent => match q {
-            Package::Absent => true,
-            Package::Is(_) => false,
-        },
-        Package::Is(a) => match q {
-            Package::Absent => false,
-            Package::Is(b) => a.0 == b.0,
-        },
-    }
-}
-
-// Whether a member is of the name that is asked for from a package.
+// Whether a member is of the name that is asked for from a package: "equal package paths or no package on both sides", and where paths ascend, packages of one
+// path have one number.
 pub fn same_id(
     text: &[u8],
     rows: &[u32],
@@ -79,29 +64,21 @@ pub fn same_id(
     names: &[u8],
     at: u32,
     len: u32,
-    pkg: Package,
+    pkg: Option<PackageKey>,
 ) -> bool
     requires { (has_package (table_of text.now rows.now) (member_at text.now rows.now m).pkg ≡ true) × (has_package (table_of text.now rows.now) (package_meant pkg) ≡ true) × Ordered (table_of text.now rows.now) }
     ensures { result ≡ same_id (identity_of (table_of text.now rows.now) (member_at text.now rows.now m)) (asked_id text.now rows.now names.now at len pkg) }
 {
     let a = member_word(rows, m, 0);
     let n = member_word(rows, m, 1);
-    if same_across(
+    same_across(
         text,
         a as usize,
         n as usize,
         names,
         at as usize,
         len as usize,
-    ) {
-        if exported(text, a, n) {
-            true
-        } else {
-            same_package(member_package(rows, m), pkg)
-        }
-    } else {
-        false
-    }
+    ) && (exported(text, a, n) || member_package(rows, m) == pkg)
 }
 
 pub fn same_member(text: &[u8], rows: &[u32], m: ObjKey, n: ObjKey) -> bool
@@ -132,29 +109,25 @@ pub fn id_of(text: &[u8], rows: &[u32], m: ObjKey) -> Id
             form: 0,
             path: 0,
             path_len: 0,
-            name: name,
-            len: len,
+            name,
+            len,
         };
     }
     match member_package(rows, m) {
-        Package::Absent => Id {
+        None => Id {
             form: 1,
             path: 0,
             path_len: 0,
-            name: name,
-            len: len,
+            name,
+            len,
         },
-        Package::Is(p) => {
-            let path = package_word(rows, p, 0);
-            let path_len = package_word(rows, p, 1);
-            Id {
-                form: 2,
-                path: path,
-                path_len: path_len,
-                name: name,
-                len: len,
-            }
-        }
+        Some(p) => Id {
+            form: 2,
+            path: package_word(rows, p, 0),
+            path_len: package_word(rows, p, 1),
+            name,
+            len,
+        },
     }
 }
 
@@ -194,45 +167,41 @@ fn id_byte(form: u64, path: &[u8], name: &[u8], i: usize) -> u64
 }
 
 // The order of two ids by their parts.
-fn order_parts(f: u64, p: &[u8], a: &[u8], g: u64, q: &[u8], b: &[u8]) -> Order
+fn order_parts(f: u64, p: &[u8], a: &[u8], g: u64, q: &[u8], b: &[u8]) -> Ordering
     requires { (length p.now ≤ 4294967295) × (length a.now ≤ 4294967295) × (length q.now ≤ 4294967295) × (length b.now ≤ 4294967295) }
     ensures { result ≡ order_of (joined f p.now a.now) (joined g q.now b.now) }
 {
     let n = id_length(f, p, a);
     let m = id_length(g, q, b);
-    let mut i: usize = 0;
-    while i < n {
+    for i in 0..n {
         if m <= i {
-            return Order::Greater;
+            return Ordering::Greater;
         }
         let x = id_byte(f, p, a, i);
         let y = id_byte(g, q, b, i);
         if x < y {
-            return Order::Less;
+            return Ordering::Less;
         }
         if y < x {
-            return Order::Greater;
+            return Ordering::Greater;
         }
-        i += 1;
     }
-    if i < m { Order::Less } else { Order::Equal }
+    if n < m {
+        Ordering::Less
+    } else {
+        Ordering::Equal
+    }
 }
 
 // Whether the same places stand before the names.
 fn same_before(a: Id, b: Id) -> bool
     ensures { result ≡ true → (a.form ≡ b.form) × (a.path ≡ b.path) × (a.path_len ≡ b.path_len) }
 {
-    if a.form != b.form {
-        return false;
-    }
-    if a.path != b.path {
-        return false;
-    }
-    a.path_len == b.path_len
+    a.form == b.form && a.path == b.path && a.path_len == b.path_len
 }
 
 // Ids with the same before their names compare as their names do.
-pub fn order_ids(text: &[u8], a: Id, b: Id) -> Order
+pub fn order_ids(text: &[u8], a: Id, b: Id) -> Ordering
     ensures { result ≡ order_of (id_meant text.now a) (id_meant text.now b) }
 {
     let m = span(text, a.name as usize, a.len as usize);
@@ -245,7 +214,7 @@ pub fn order_ids(text: &[u8], a: Id, b: Id) -> Order
     order_parts(a.form, p, m, b.form, q, n)
 }
 
-pub fn order_id(text: &[u8], rows: &[u32], m: ObjKey, n: ObjKey) -> Order
+pub fn order_id(text: &[u8], rows: &[u32], m: ObjKey, n: ObjKey) -> Ordering
     requires { (has_package (table_of text.now rows.now) (member_at text.now rows.now m).pkg ≡ true) × (has_package (table_of text.now rows.now) (member_at text.now rows.now n).pkg ≡ true) }
     ensures { result ≡ order_of (id_bytes (identity_of (table_of text.now rows.now) (member_at text.now rows.now m))) (id_bytes (identity_of (table_of text.now rows.now) (member_at text.now rows.now n))) }
 {
@@ -256,10 +225,5 @@ pub fn below_id(text: &[u8], rows: &[u32], m: ObjKey, n: ObjKey) -> bool
     requires { (has_package (table_of text.now rows.now) (member_at text.now rows.now m).pkg ≡ true) × (has_package (table_of text.now rows.now) (member_at text.now rows.now n).pkg ≡ true) }
     ensures { result ≡ below_bytes (id_bytes (identity_of (table_of text.now rows.now) (member_at text.now rows.now m))) (id_bytes (identity_of (table_of text.now rows.now) (member_at text.now rows.now n))) }
 {
-    let o = order_id(text, rows, m, n);
-    match o {
-        Order::Less => true,
-        Order::Equal => false,
-        Order::Greater => false,
-    }
+    order_id(text, rows, m, n).is_lt()
 }

@@ -1,14 +1,16 @@
 -- Why the readers (src/rows.rt) give what specs/Types.antt reads off the words: one law for each way out. And why the word of a package says it.
 use mathlib.Core.Path.{◌≡◌}
 use mathlib.Core.Bool.{Bool, true, false}
-use Prim.Native.Nat.{ℕ, ◌+◌, ◌-◌, ◌<◌, ◌≤◌}
+use Prim.Native.Nat.{ℕ, min, ◌+◌, ◌-◌, ◌≤◌}
 use native.Mathlib.Omega.{arith}
-use lib.Dec.{eqb}
-use borrow.Author.Tests.{lt-ltb, le-ltb, ne_eqb}
+use lib.Dec.{eqb, ltb}
+use borrow.Author.Tests.{ltb-true, ltb-false, ne_eqb}
+use Rattle.objects.proofs.ListLaws.{cases}
 use Rattle.objects.specs.declared.TypeKey.{TypeKey}
 use Rattle.objects.specs.declared.ObjKey.{ObjKey}
 use Rattle.objects.specs.declared.PackageKey.{PackageKey}
-use Rattle.objects.specs.declared.«Package».{«Package»}
+use Rattle.std.specs.declared.option.Option as code
+use Rattle.std.specs.Prelude.{Some, None}
 use Rattle.objects.specs.declared.Dir.{Dir}
 use Rattle.objects.specs.declared.«Type».{«Type»}
 use Rattle.objects.specs.Bounds.{max_reference}
@@ -100,13 +102,12 @@ module _ (rows : Words) (t : TypeKey) {k a b first count : ℕ}
 -- ---- its parts
 
 module _ (rows : Words) (t : TypeKey) where
-  pub number-low : {k : ℕ} → k ≡ type_word rows t 0 → k < 10 → k ≡ number_read rows t
+  pub number-least : {k : ℕ} → k ≡ type_word rows t 0 → min k 10 ≡ number_read rows t
   unfolding number_read number_of
-  number-low {k} p h = rw (← p, lt-ltb k 10 h)
-
-  pub number-high : {k : ℕ} → k ≡ type_word rows t 0 → 10 ≤ k → 10 ≡ number_read rows t
-  unfolding number_read number_of
-  number-high {k} p h = rw (← p, le-ltb k 10 h)
+  number-least {k} p =
+      cases (ltb k 10)
+      (λ e. let h = ltb-true k 10 e in rw (← p, e) (omega arith))
+      (λ e. let h = ltb-false k 10 e in rw (← p, e) (omega arith))
 
   pub bare-yes : {b : Bool} {e : ℕ} → b ≡ pointer_read rows t → b ≡ true → e ≡ type_word rows t 1 → type_key e ≡ bare_read rows t
   unfolding bare_read
@@ -139,24 +140,24 @@ module _ (rows : Words) (t : TypeKey) where
 -- ---- a member's package
 
 module _ (rows : Words) (m : ObjKey) {w : ℕ} (w-is : w ≡ member_word rows m 2) where
-  pub package-absent : w ≡ 0 → «Package».Absent ≡ package_read rows m
+  pub package-absent : w ≡ 0 → None ≡ package_read rows m
   unfolding package_read package_from
   package-absent e = rw (← w-is, e)
 
-  pub package-is : (w ≡ 0 → ⊥) → «Package».Is (package_key (w - 1)) ≡ package_read rows m
+  pub package-is : (w ≡ 0 → ⊥) → Some (package_key (w - 1)) ≡ package_read rows m
   unfolding package_read package_from
   package-is n = rw (← w-is, ne_eqb w 0 n)
 
 -- the word that says it
-module _ {p : «Package»} where
-  pub absent-said : p ≡ «Package».Absent → package_from 0 ≡ p
+module _ {p : code.Option PackageKey} where
+  pub absent-said : p ≡ None → package_from 0 ≡ p
   unfolding package_from
   absent-said e = rw e
 
-  pub is_said : {k : PackageKey} → p ≡ «Package».Is k → package_from (k.0 + 1) ≡ p
+  pub is_said : {k : PackageKey} → p ≡ Some k → package_from (k.0 + 1) ≡ p
   unfolding package_from
   is_said {k} e = let z : k.0 + 1 - 1 ≡ k.0 = omega arith in rw (e, ne_eqb (k.0 + 1) 0 (λ f. omega arith), z)
 
-  pub is-numbered : {k : PackageKey} → Numbered (package_meant p) → p ≡ «Package».Is k → k.0 ≤ max_reference
+  pub is-numbered : {k : PackageKey} → Numbered (package_meant p) → p ≡ Some k → k.0 ≤ max_reference
   unfolding package_meant
   is-numbered n e = rw e at n

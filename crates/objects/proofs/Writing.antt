@@ -9,7 +9,8 @@ use lib.Dec.{eqb}
 use lib.ListN.{length, get_or, set, length-set, replicate, length-replicate, get_or-replicate}
 use lib.Seq.{sets, length-sets}
 use Rattle.objects.specs.declared.TypeKey.{TypeKey}
-use Rattle.objects.specs.declared.«Package».{«Package»}
+use Rattle.objects.specs.declared.PackageKey.{PackageKey}
+use Rattle.std.specs.declared.option.Option as code
 use Rattle.objects.specs.Bounds.{max_types, max_packages, max_members, max_elements, row_words, types_at, members_at, packages_at}
 use Rattle.objects.specs.Table.{no_table, type_key, plus_package, plus_type, plus_member}
 use Rattle.objects.specs.Rows.{Words, word_at, package_count, type_count, member_count_of, element_count, type_word, member_word, package_word, element_at, bytes_at, package_meant, package_from, pkg_of, kind_of, table_of}
@@ -192,7 +193,7 @@ module _ (rows : Words) (laid : Laid rows) (name len pkg type form tag width lin
       (kept 3 (omega arith) (omega arith))
       (λ j h. rw others.long (under-new rows laid some at vs 2 v l s (omega arith) j h))
 
-pub member-holds : (rows : Words) (name len pkg type form tag width line : ℕ) {p : «Package»} {m start : ℕ} {r r' : Words} → package_from pkg ≡ p → Laid rows → member_count_of rows < max_members → 0 < type_count rows
+pub member-holds : (rows : Words) (name len pkg type form tag width line : ℕ) {p : code.Option PackageKey} {m start : ℕ} {r r' : Words} → package_from pkg ≡ p → Laid rows → member_count_of rows < max_members → 0 < type_count rows
     → type_word rows (last_type rows) 0 ≢ 6 → used rows + row_words ≤ length rows → m ≡ member_count_of rows → start ≡ members_at (length rows) → r ≡ raised rows
     → r' ≡ sets r (start + row_words * m) (member_row name len pkg type form tag width line)
     → Holds (set r' 2 (m + 1)) (λ text. plus_member (table_of text rows) line (member_of text (member_count_of rows) name len (package_meant p) type form tag width))

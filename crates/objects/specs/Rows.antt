@@ -5,7 +5,8 @@ use Rattle.std.proofs.Math.Option.{Option, none, some}
 use Rattle.objects.specs.declared.TypeKey.{TypeKey}
 use Rattle.objects.specs.declared.ObjKey.{ObjKey}
 use Rattle.objects.specs.declared.PackageKey.{PackageKey}
-use Rattle.objects.specs.declared.«Package».{«Package»}
+use Rattle.std.specs.declared.option.Option as code
+use Rattle.std.specs.Prelude.{Some, None}
 use Rattle.objects.specs.declared.Dir.{Dir}
 use Rattle.objects.specs.Bounds.{signed_at, row_words, types_at, members_at, packages_at}
 use Rattle.objects.specs.Lists.{Bytes, up_to}
@@ -72,13 +73,13 @@ unfoldable pub entity_of : ℕ → Bytes → Entity
 entity_of form tag = cond (eqb form 0) (Field false tag) (cond (eqb form 1) (Field true tag) (cond (eqb form 2) (Method false) (Method true)))
 
 -- "pkg is a number or `-` for none"
-unfoldable pub package_meant : «Package» → Option PackageKey
-package_meant «Package».Absent = none
-package_meant («Package».Is p) = some p
+unfoldable pub package_meant : code.Option PackageKey → Option PackageKey
+package_meant None = none
+package_meant (Some p) = some p
 
 -- the package that a word says: its number and one, 0 for none
-unfoldable pub package_from : ℕ → «Package»
-package_from n = cond (eqb n 0) «Package».Absent («Package».Is (package_key (n - 1)))
+unfoldable pub package_from : ℕ → code.Option PackageKey
+package_from n = cond (eqb n 0) None (Some (package_key (n - 1)))
 
 unfoldable pub pkg_of : ℕ → Option PackageKey
 pkg_of n = package_meant (package_from n)

@@ -4,9 +4,10 @@ use Rattle.std.specs.Prelude.{Bool, cond, ◌&&◌, ℕ, eqb, ltb}
 use Rattle.std.proofs.Math.Option.{Option, none, some}
 use Rattle.objects.specs.declared.TypeKey.{TypeKey}
 use Rattle.objects.specs.declared.ObjKey.{ObjKey}
-use Rattle.objects.specs.declared.«Package».{«Package»}
+use Rattle.objects.specs.declared.PackageKey.{PackageKey}
+use Rattle.std.specs.declared.option.Option as code
+use Rattle.std.specs.Prelude.{Some, None}
 use Rattle.objects.specs.declared.«Type».{«Type»}
-use Rattle.objects.specs.declared.Stage.{Stage}
 use Rattle.objects.specs.Lists.{Bytes}
 use Rattle.objects.specs.Table.{Kind, Basic, Array, Slice, Pointer, Map, Chan, Tuple, Func, Struct, Iface, Named, type_key}
 use Rattle.objects.specs.Rows.{Words, type_word, member_word, package_from, dir_at, members_from, elements_from}
@@ -86,7 +87,7 @@ module _ (rows : Words) where
   unfoldable pub member_type_read : ObjKey → TypeKey
   member_type_read m = type_key (member_word rows m 3)
 
-  unfoldable pub package_read : ObjKey → «Package»
+  unfoldable pub package_read : ObjKey → code.Option PackageKey
   package_read m = package_from (member_word rows m 2)
 
   unfoldable pub embedded_read : ObjKey → Bool
@@ -101,6 +102,6 @@ module _ (rows : Words) where
 -- ---- a stage of loading
 
 -- the line that was found, if there is one
-unfoldable pub found : Stage → Option ℕ
-found Stage.Passed = none
-found (Stage.Bad line) = some line
+unfoldable pub found : code.Option ℕ → Option ℕ
+found None = none
+found (Some line) = some line

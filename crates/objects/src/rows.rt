@@ -7,7 +7,7 @@ ghost use Rattle.objects.specs.Types.{type_read, number_read, pointer_read, name
 
 use crate::bounds::{PACKAGE_WORDS, PACKAGES_AT, ROW_WORDS, SIGNED_AT, TYPES_AT, TYPES_END};
 use crate::kinds::{IFACE, NAMED, POINTER};
-use crate::{Dir, ObjKey, Package, PackageKey, Type, TypeKey};
+use crate::{Dir, ObjKey, PackageKey, Type, TypeKey};
 
 // ---- words
 
@@ -47,7 +47,7 @@ pub fn members_at(rows: &[u32]) -> usize
     ensures upper_bound { result ≤ types_end }
 {
     let half = (rows.len() + TYPES_AT) / 2;
-    if half < TYPES_END { half } else { TYPES_END }
+    half.min(TYPES_END)
 }
 
 // Word j of a row.
@@ -146,8 +146,7 @@ pub fn type_of(rows: &[u32], t: TypeKey) -> Type
 pub fn kind_number(rows: &[u32], t: TypeKey) -> u32
     ensures { result ≡ number_read rows.now t }
 {
-    let k = type_word(rows, t, 0);
-    if k < NAMED { k } else { NAMED }
+    type_word(rows, t, 0).min(NAMED)
 }
 
 pub fn pointer_at(rows: &[u32], t: TypeKey) -> bool
@@ -195,11 +194,7 @@ pub fn iface_under(rows: &[u32], t: TypeKey) -> bool
 pub fn named_pointer(rows: &[u32], t: TypeKey) -> bool
     ensures { result ≡ named_pointer_read rows.now t }
 {
-    if named_at(rows, t) {
-        pointer_at(rows, under(rows, t))
-    } else {
-        false
-    }
+    named_at(rows, t) && pointer_at(rows, under(rows, t))
 }
 
 pub fn first_member(rows: &[u32], t: TypeKey) -> u32
@@ -222,14 +217,14 @@ pub fn member_type(rows: &[u32], m: ObjKey) -> TypeKey
     TypeKey(member_word(rows, m, 3))
 }
 
-pub fn member_package(rows: &[u32], m: ObjKey) -> Package
+pub fn member_package(rows: &[u32], m: ObjKey) -> Option<PackageKey>
     ensures { result ≡ package_read rows.now m }
 {
     let w = member_word(rows, m, 2);
     if w == 0 {
-        Package::Absent
+        None
     } else {
-        Package::Is(PackageKey(w - 1))
+        Some(PackageKey(w - 1))
     }
 }
 

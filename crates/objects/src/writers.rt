@@ -11,52 +11,26 @@ use crate::kinds::TUPLE;
 use crate::rows::{
     element_count, member_count, members_at, package_count, signs_at, type_count, word,
 };
-use crate::{ObjKey, Package, TypeKey};
+use crate::{ObjKey, PackageKey, TypeKey};
 
 // ---- words
 
-fn put_pair(rows: &mut [u32], at: usize, a: u32, b: u32)
-    requires { at + 2 ≤ length rows.old }
-    ensures { rows.new ≡ sets rows.old at (a ∷ b ∷ []) }
+// The words of a row: of a package, a type or a member.
+fn put_row<const WORDS: usize>(rows: &mut [u32], at: usize, row: [u32; WORDS])
+    requires { at + WORDS ≤ length rows.old }
+    ensures { rows.new ≡ sets rows.old at row.entry }
 {
-    rows[at] = a;
-    rows[at + 1] = b;
-}
-
-// The eight words of a type's row, or of a member's.
-fn put_row(
-    rows: &mut [u32],
-    at: usize,
-    a: u32,
-    b: u32,
-    c: u32,
-    d: u32,
-    e: u32,
-    f: u32,
-    g: u32,
-    h: u32,
-)
-    requires { at + 8 ≤ length rows.old }
-    ensures { rows.new ≡ sets rows.old at (a ∷ b ∷ c ∷ d ∷ e ∷ f ∷ g ∷ h ∷ []) }
-{
-    rows[at] = a;
-    rows[at + 1] = b;
-    rows[at + 2] = c;
-    rows[at + 3] = d;
-    rows[at + 4] = e;
-    rows[at + 5] = f;
-    rows[at + 6] = g;
-    rows[at + 7] = h;
+    rows[at..at + WORDS].copy_from_slice(&row);
 }
 
 // The word of a member's row that says its package.
-fn package_said(p: Package) -> u32
+fn package_said(p: Option<PackageKey>) -> u32
     requires { Numbered (package_meant p) }
     ensures { package_from result ≡ p }
 {
     match p {
-        Package::Absent => 0,
-        Package::Is(k) => k.0 + 1,
+        None => 0,
+        Some(k) => k.0 + 1,
     }
 }
 
@@ -91,7 +65,11 @@ pub fn put_package(rows: &mut [u32], place: u32, len: u32)
     ensures rows_unchanged { element_count rows.new ≡ element_count rows.old }
 {
     let p = package_count(rows);
-    put_pair(rows, PACKAGES_AT + PACKAGE_WORDS * (p as usize), place, len);
+    put_row(
+        rows,
+        PACKAGES_AT + PACKAGE_WORDS * (p as usize),
+        [place, len],
+    );
     rows[0] = p + 1;
 }
 
@@ -106,14 +84,7 @@ pub fn put_type(rows: &mut [u32], kind: u32, a: u32, b: u32, c: u32, line: u32)
     put_row(
         rows,
         TYPES_AT + ROW_WORDS * (n as usize),
-        kind,
-        a,
-        b,
-        c,
-        first,
-        0,
-        line,
-        0,
+        [kind, a, b, c, first, 0, line, 0],
     );
     rows[1] = n + 1;
 }
@@ -123,7 +94,7 @@ pub fn put_member(
     rows: &mut [u32],
     name: u32,
     len: u32,
-    pkg: Package,
+    pkg: Option<PackageKey>,
     t: TypeKey,
     form: u32,
     tag: u32,
@@ -141,14 +112,7 @@ pub fn put_member(
     put_row(
         rows,
         at + ROW_WORDS * (m as usize),
-        name,
-        len,
-        said,
-        t.0,
-        form,
-        tag,
-        width,
-        line,
+        [name, len, said, t.0, form, tag, width, line],
     );
     rows[2] = m + 1;
 }

@@ -9,9 +9,9 @@ use lib.ListN.{length, take, drop, length-take, length-drop}
 use Rattle.objects.specs.Lists.{Bytes, when, mapped}
 use Rattle.objects.proofs.ListLaws.{cases, clash}
 use Rattle.text.specs.declared.Cursor.{Cursor}
+use Rattle.std.specs.declared.option.Option as code
+use Rattle.std.specs.Prelude.{Some, None}
 use Rattle.text.specs.declared.Part.{Part}
-use Rattle.text.specs.declared.Num.{Num}
-use Rattle.text.specs.declared.Past.{Past}
 use Rattle.text.specs.Bytes.{same_bytes, number}
 use Rattle.text.specs.Readers.{field}
 use Rattle.text.specs.Cursors.{part, fields_left, exactly, part_read, num_read, past_read}
@@ -19,30 +19,30 @@ use Rattle.text.specs.Runs.{Exact}
 use Rattle.text.proofs.ByteLaws.{same_true}
 use Rattle.text.proofs.Gives.{holds-some, number-max}
 
-module _ (s : Bytes) {y : Option (Bytes × List Bytes)} (r : Part) (p : part_read s r ≡ y) where
-  pub part-on : {from to : ℕ} {c : Cursor} → r ≡ Part.Is from to c → y ≡ some (part s from to, fields_left s c)
+module _ (s : Bytes) {y : Option (Bytes × List Bytes)} (r : code.Option Part) (p : part_read s r ≡ y) where
+  pub part-on : {p : Part} → r ≡ Some p → y ≡ some (part s p.from p.to, fields_left s p.rest)
   unfolding part_read
   part-on q = sym p ∙ ap (part_read s) q
 
-  pub part_out : r ≡ Part.Wrong → y ≡ none
+  pub part_out : r ≡ None → y ≡ none
   unfolding part_read
   part_out q = sym p ∙ ap (part_read s) q
 
-module _ (s : Bytes) {y : Option (ℕ × List Bytes)} (r : Num) (p : num_read s r ≡ y) where
-  pub num-on : {v : ℕ} {c : Cursor} → r ≡ Num.Value v c → y ≡ some (v, fields_left s c)
+module _ (s : Bytes) {y : Option (ℕ × List Bytes)} (r : code.Option (ℕ × Cursor)) (p : num_read s r ≡ y) where
+  pub num-on : {v : ℕ} {c : Cursor} → r ≡ Some (v, c) → y ≡ some (v, fields_left s c)
   unfolding num_read
   num-on q = sym p ∙ ap (num_read s) q
 
-  pub num-out : r ≡ Num.Wrong → y ≡ none
+  pub num-out : r ≡ None → y ≡ none
   unfolding num_read
   num-out q = sym p ∙ ap (num_read s) q
 
-module _ (s : Bytes) {y : Option (List Bytes)} (r : Past) (p : past_read s r ≡ y) where
-  pub past-on : {c : Cursor} → r ≡ Past.To c → y ≡ some (fields_left s c)
+module _ (s : Bytes) {y : Option (List Bytes)} (r : code.Option Cursor) (p : past_read s r ≡ y) where
+  pub past-on : {c : Cursor} → r ≡ Some c → y ≡ some (fields_left s c)
   unfolding past_read
   past-on q = sym p ∙ ap (past_read s) q
 
-  pub past-out : r ≡ Past.Wrong → y ≡ none
+  pub past-out : r ≡ None → y ≡ none
   unfolding past_read
   past-out q = sym p ∙ ap (past_read s) q
 
@@ -89,20 +89,20 @@ number-below max fs {v} h = let r = field-some (number max) fs h in holds-some (
 
 -- ---- the places of a part
 
-module _ (s : Bytes) (from to : ℕ) (c : Cursor) (e : Exact s (Part.Is from to c)) where
-  pub exact-order : from ≤ to
+module _ (s : Bytes) (q : Part) (e : Exact s (Some q)) where
+  pub exact-order : q.from ≤ q.to
   unfolding Exact
   exact-order = e.0
 
-  pub exact-size : length (part s from to) ≡ to - from
+  pub exact-size : length (part s q.from q.to) ≡ q.to - q.from
   unfolding Exact
   exact-size = e.1
 
   -- a part that is not empty lies within the text
-  pub exact-within : from < to → to ≤ length s
+  pub exact-within : q.from < q.to → q.to ≤ length s
   unfolding part
   exact-within h =
-      let a : length (take (to - from) (drop from s)) ≡ to - from = exact-size in
-      let b = length-take (to - from) (drop from s) in
-      let d = length-drop from s in
+      let a : length (take (q.to - q.from) (drop q.from s)) ≡ q.to - q.from = exact-size in
+      let b = length-take (q.to - q.from) (drop q.from s) in
+      let d = length-drop q.from s in
       omega arith

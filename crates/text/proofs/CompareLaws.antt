@@ -3,15 +3,18 @@ use mathlib.Core.Path.{◌≡◌, refl, sym, ap, ◌∙◌}
 use mathlib.Core.Bool.{Bool, true, false, cond, not, ◌||◌}
 use mathlib.Core.List.{[], ◌∷◌}
 use mathlib.Core.Logic.{◌⊎◌, inl, inr}
-use Prim.Native.Nat.{ℕ, suc, ◌+◌, ◌-◌, ◌*◌, ◌/◌, ◌≤◌, ◌<◌}
+use Prim.Native.Nat.{ℕ, min, suc, ◌+◌, ◌-◌, ◌*◌, ◌/◌, ◌≤◌, ◌<◌}
 use native.Mathlib.Omega.{arith}
-use lib.Dec.{eqb, ltb}
+use lib.Dec.{eqb, ltb, leb}
 use lib.ListN.{length, get_or, take, drop, drop_of_length-le, length-drop}
 use lib.Seq.{take_all, take-nil}
-use borrow.Author.Tests.{eq-eqb, ne_eqb, lt-ltb, le-ltb, eqb-true, eqb-false, ltb-true, ltb-false}
+use borrow.Author.Tests.{leb-true, leb-false, eq-eqb, ne_eqb, lt-ltb, le-ltb, eqb-true, eqb-false, ltb-true, ltb-false}
 use Rattle.objects.specs.Lists.{Bytes}
 use Rattle.objects.proofs.ListLaws.{cases, clash, either}
-use Rattle.text.specs.declared.Order.{Order}
+use Rattle.std.specs.declared.cmp.Ordering.{Ordering}
+use Rattle.std.specs.Cmp.Lexicographic.{slice_cmp}
+use Rattle.std.specs.Ordering.{is_lt, nat_cmp}
+use Rattle.std.specs.declared.cmp.Ordering.TheVariants.{Less, Equal, Greater}
 use Rattle.text.specs.Bytes.{same_bytes, below_bytes}
 use Rattle.text.specs.Compare.{order_of, four_of, DifferFour}
 use Rattle.text.proofs.ByteLaws.{same_true}
@@ -127,38 +130,44 @@ alike-more a b n p q k h = cases (ltb k n) (λ s. p k (ltb-true k n s)) (λ s. q
 -- ---- n bytes from a place
 
 module _ (s : Bytes) (at n : ℕ) where
-  pub span_none : length s ≤ at → [] ≡ take n (drop at s)
-  span_none h = rw (drop_of_length-le s h) (sym (take-nil n))
-
-  pub span-front : take (at + n - at) (drop at s) ≡ take n (drop at s)
-  span-front = let z : at + n - at ≡ n = omega arith in rw z
-
-  pub span_rest : length s - at ≤ n → take (length s - at) (drop at s) ≡ take n (drop at s)
-  span_rest h =
-      let k : length (drop at s) ≤ length s - at = rw length-drop (omega arith) in
-      take_all (length s - at) (drop at s) k ∙ sym (take_all n (drop at s) (omega arith))
+  -- the bytes from a place within the text, as many as are there
+  pub span-is : {from m : ℕ} → from ≡ min at (length s) → m ≡ min n (length s - from) → take (from + m - from) (drop from s) ≡ take n (drop at s)
+  span-is {from} {m} pf pm =
+      let z : from + m - from ≡ m = omega arith in
+      rw z (cases (leb (length s) at)
+      (λ e. let h = leb-true (length s) at e in
+      let q : from ≡ length s = omega (arith, pf) in
+      let k : length s ≤ from = omega arith in
+      rw (drop_of_length-le s k, drop_of_length-le s h) (take-nil m ∙ sym (take-nil n)))
+      (λ e. let h = leb-false (length s) at e in
+      let q : from ≡ at = omega (arith, pf) in
+      let l = length-drop at s in
+      rw q (cases (leb n (length s - at))
+      (λ f. let k : m ≡ n = let h2 = leb-true n (length s - at) f in omega (arith, pm) in rw k)
+      (λ f. let h2 = leb-false n (length s - at) f in
+      take_all m (drop at s) (omega (arith, pm)) ∙ sym (take_all n (drop at s) (omega arith))))))
 
 -- ---- the loops: both texts from i on
 
 module _ (a b : Bytes) (i : ℕ) where
-  pub order-end : length a ≤ i → length b ≤ i → order_of (drop i a) (drop i b) ≡ Order.Equal
+  pub order-end : length a ≤ i → length b ≤ i → order_of (drop i a) (drop i b) ≡ Equal
   unfolding order_of
   order-end h k = rw (drop_of_length-le a h, drop_of_length-le b k)
 
-  pub order-part : length a ≤ i → i < length b → order_of (drop i a) (drop i b) ≡ Order.Less
+  pub order-part : length a ≤ i → i < length b → order_of (drop i a) (drop i b) ≡ Less
   unfolding order_of
   order-part h k = rw (drop_of_length-le a h, drop_at b i k)
 
-  pub order-whole : i < length a → length b ≤ i → order_of (drop i a) (drop i b) ≡ Order.Greater
+  pub order-whole : i < length a → length b ≤ i → order_of (drop i a) (drop i b) ≡ Greater
   unfolding order_of
   order-whole h k = rw (drop_at a i h, drop_of_length-le b k)
 
   module _ (h : i < length a) (k : i < length b) where
-    pub order-less : get_or a i 0 < get_or b i 0 → order_of (drop i a) (drop i b) ≡ Order.Less
+    pub order-less : get_or a i 0 < get_or b i 0 → order_of (drop i a) (drop i b) ≡ Less
     unfolding order_of
     order-less l = rw (drop_at a i h, drop_at b i k, lt-ltb (get_or a i 0) (get_or b i 0) l)
 
-    pub order-greater : get_or b i 0 < get_or a i 0 → order_of (drop i a) (drop i b) ≡ Order.Greater
+    pub order-greater : get_or b i 0 < get_or a i 0 → order_of (drop i a) (drop i b) ≡ Greater
     unfolding order_of
     order-greater l =
         let n : get_or b i 0 ≤ get_or a i 0 = omega arith in
@@ -186,13 +195,13 @@ module _ (a b : Bytes) (i : ℕ) (h : i + 4 ≤ length a) (k : i + 4 ≤ length 
       let w : i + n + 1 ≡ i + o = omega arith in
       f ∙ (rw w at (order-next a b (i + n) (omega arith) (omega arith) (omega arith) (omega arith)))
 
-  past-less : (n : ℕ) → n < 4 → Past n → get_or a (i + n) 0 < get_or b (i + n) 0 → order_of (drop i a) (drop i b) ≡ Order.Less
+  past-less : (n : ℕ) → n < 4 → Past n → get_or a (i + n) 0 < get_or b (i + n) 0 → order_of (drop i a) (drop i b) ≡ Less
   past-less n l f z = f ∙ order-less a b (i + n) (omega arith) (omega arith) z
 
-  past-greater : (n : ℕ) → n < 4 → Past n → get_or b (i + n) 0 < get_or a (i + n) 0 → order_of (drop i a) (drop i b) ≡ Order.Greater
+  past-greater : (n : ℕ) → n < 4 → Past n → get_or b (i + n) 0 < get_or a (i + n) 0 → order_of (drop i a) (drop i b) ≡ Greater
   past-greater n l f z = f ∙ order-greater a b (i + n) (omega arith) (omega arith) z
 
-  pub four-less : x < y → order_of (drop i a) (drop i b) ≡ Order.Less
+  pub four-less : x < y → order_of (drop i a) (drop i b) ≡ Less
   four-less l =
       either (four-first (la i) (la (i + 1)) (la (i + 2)) (la (i + 3)) (lb i) (lb (i + 1)) (lb (i + 2)) (lb (i + 3)) (rw (ex, ey) at l))
       (λ p. order-less a b i (omega arith) (omega arith) p)
@@ -202,7 +211,7 @@ module _ (a b : Bytes) (i : ℕ) (h : i + 4 ≤ length a) (k : i + 4 ≤ length 
       either q.1 (λ r. past-less 2 (omega arith) g r)
       (λ r. past-less 3 (omega arith) (past_more 2 3 refl (omega arith) r.0 g) r.1)))
 
-  pub four-greater : y < x → order_of (drop i a) (drop i b) ≡ Order.Greater
+  pub four-greater : y < x → order_of (drop i a) (drop i b) ≡ Greater
   four-greater l =
       either (four-first (lb i) (lb (i + 1)) (lb (i + 2)) (lb (i + 3)) (la i) (la (i + 1)) (la (i + 2)) (la (i + 3)) (rw (ex, ey) at l))
       (λ p. order-greater a b i (omega arith) (omega arith) p)
@@ -219,14 +228,14 @@ module _ (a b : Bytes) (i : ℕ) (h : i + 4 ≤ length a) (k : i + 4 ≤ length 
       past_more 3 4 refl (omega arith) r.3 (past_more 2 3 refl (omega arith) r.2 (past_more 1 2 refl (omega arith) r.1 (past_first r.0)))
 
 -- the other way round
-pub order-above : (a b : Bytes) → order_of a b ≡ Order.Greater → below_bytes b a ≡ true
+pub order-above : (a b : Bytes) → order_of a b ≡ Greater → below_bytes b a ≡ true
 unfolding order_of
 order-above [] [] h = let z : ◌≡◌ {A = Bool} true false = cc in clash refl z
 order-above [] (y ∷ b) h = let z : ◌≡◌ {A = Bool} true false = cc in clash refl z
 order-above (x ∷ a) [] h = refl
 order-above (x ∷ a) (y ∷ b) h =
     cases (ltb x y)
-    (λ e. let q : ◌≡◌ {A = Order} Order.Less Order.Greater = rw e at h in let z : ◌≡◌ {A = Bool} true false = cc in clash refl z)
+    (λ e. let q : ◌≡◌ {A = Ordering} Less Greater = rw e at h in let z : ◌≡◌ {A = Bool} true false = cc in clash refl z)
     (λ e. cases (eqb x y)
     (λ f. let g = eqb-true x y f in
     rw (← g, eq-eqb x x refl) (or-right-true (ltb x x) (order-above a b (rw (e, f) at h))))
@@ -238,24 +247,40 @@ order-above (x ∷ a) (y ∷ b) h =
 
 -- ---- below, by the order
 
-less-is : (t u : Bool) → cond t Order.Less (cond u Order.Equal Order.Greater) ≡ Order.Less → true ≡ t
+less-is : (t u : Bool) → cond t Less (cond u Equal Greater) ≡ Less → true ≡ t
 less-is true u h = refl
 less-is false true h = let z : ◌≡◌ {A = Bool} true false = cc in z
 less-is false false h = let z : ◌≡◌ {A = Bool} true false = cc in z
 
-not-less : (t u : Bool) → (cond t Order.Less (cond u Order.Equal Order.Greater) ≡ Order.Less → ⊥) → false ≡ t
+not-less : (t u : Bool) → (cond t Less (cond u Equal Greater) ≡ Less → ⊥) → false ≡ t
 not-less true u h = absurd (h refl)
 not-less false u h = refl
 
-module _ (a b : Bytes) {o : Order} (e : o ≡ order_of a b) where
-  pub below_less : o ≡ Order.Less → true ≡ below_bytes a b
+module _ (a b : Bytes) {o : Ordering} (e : o ≡ order_of a b) where
+  pub below_less : o ≡ Less → true ≡ below_bytes a b
   unfolding order_of
   below_less h = less-is (below_bytes a b) (same_bytes a b) (sym e ∙ h)
 
-  pub below_equal : o ≡ Order.Equal → false ≡ below_bytes a b
+  pub below_equal : o ≡ Equal → false ≡ below_bytes a b
   unfolding order_of
   below_equal h = not-less (below_bytes a b) (same_bytes a b) (λ l. let z : ◌≡◌ {A = Bool} true false = cc in clash refl z)
 
-  pub below-greater : o ≡ Order.Greater → false ≡ below_bytes a b
+  pub below-greater : o ≡ Greater → false ≡ below_bytes a b
   unfolding order_of
   below-greater h = not-less (below_bytes a b) (same_bytes a b) (λ l. let z : ◌≡◌ {A = Bool} true false = cc in clash refl z)
+
+-- whether the first is less, as the library tests it
+pub less-below : (a b : Bytes) {o : Ordering} → o ≡ order_of a b → is_lt o ≡ below_bytes a b
+unfolding order_of
+less-below a b p =
+    cases (below_bytes a b)
+    (λ e. rw (p, e))
+    (λ e. cases (same_bytes a b) (λ f. rw (p, e, f)) (λ f. rw (p, e, f)))
+
+-- the library's order of two slices
+pub slice-order : (a b : Bytes) → slice_cmp nat_cmp a b ≡ order_of a b
+unfolding order_of
+slice-order [] [] = refl
+slice-order [] (y ∷ b) = refl
+slice-order (x ∷ a) [] = refl
+slice-order (x ∷ a) (y ∷ b) = cases (ltb x y) (λ e. rw e) (λ e. cases (eqb x y) (λ f. rw (e, f) (slice-order a b)) (λ f. rw (e, f)))

@@ -5,7 +5,7 @@ use mathlib.Core.List.{[], ◌∷◌}
 use mathlib.Core.Option.{none, some}
 use Rattle.objects.specs.Lists.{Bytes, when}
 use Rattle.text.specs.declared.Cursor.{Cursor}
-use Rattle.text.specs.declared.Order.{Order}
+use Rattle.std.specs.declared.cmp.Ordering.TheVariants.{Less, Greater}
 use Rattle.text.specs.Bytes.{ascii, is_name, is_blank, is_path, is_tag, is_numeral, value_from, number}
 use Rattle.text.specs.Lines.{split, fields}
 use Rattle.text.specs.Readers.{field}
@@ -79,10 +79,10 @@ no_sign : number 255 (ascii "+1") ≡ none
 unfolding number is_numeral value_from
 no_sign = refl
 
-part-before-whole : order_of (ascii "ab") (ascii "abc") ≡ Order.Less
+part-before-whole : order_of (ascii "ab") (ascii "abc") ≡ Less
 unfolding order_of
 part-before-whole = refl
 
-first-difference : order_of (ascii "b") (ascii "abc") ≡ Order.Greater
+first-difference : order_of (ascii "b") (ascii "abc") ≡ Greater
 unfolding order_of
 first-difference = refl

@@ -12,8 +12,9 @@ use borrow.Author.Tests.{eqb-true, not-false, le-leb, lt-leb}
 use Rattle.objects.specs.Lists.{Bytes, every, empty, mapped}
 use Rattle.objects.proofs.ListLaws.{cases, clash}
 use Rattle.text.specs.declared.Cursor.{Cursor}
+use Rattle.std.specs.declared.option.Option as code
+use Rattle.std.specs.Prelude.{Some, None}
 use Rattle.text.specs.declared.Part.{Part}
-use Rattle.text.specs.declared.Past.{Past}
 use Rattle.text.specs.Bytes.{between}
 use Rattle.text.specs.Lines.{split, fields}
 use Rattle.text.specs.Readers.{field}
@@ -46,28 +47,28 @@ module _ (s : Bytes) (to end : ℕ) where
   pub part-behind : {b : ℕ} {m : Bytes} → part s to end ≡ b ∷ m → part s (to + 1) end ≡ m
   part-behind q = sym (part-drop s to end 1) ∙ ap (drop 1) q
 
-  pub past_end : part s to end ≡ [] → past_tab s to end ≡ Past.To (record { at = to; end = end; more = false })
+  pub past_end : part s to end ≡ [] → past_tab s to end ≡ Some (record { at = to; end = end; more = false })
   unfolding past_tab past_of
   past_end q = rw q
 
-  pub past-tab : {b : ℕ} {m : Bytes} → part s to end ≡ b ∷ m → eqb b 9 ≡ true → past_tab s to end ≡ Past.To (record { at = to + 1; end = end; more = true })
+  pub past-tab : {b : ℕ} {m : Bytes} → part s to end ≡ b ∷ m → eqb b 9 ≡ true → past_tab s to end ≡ Some (record { at = to + 1; end = end; more = true })
   unfolding past_tab past_of
   past-tab q e = rw (q, e)
 
-  pub past-wrong : {b : ℕ} {m : Bytes} → part s to end ≡ b ∷ m → eqb b 9 ≡ false → past_tab s to end ≡ Past.Wrong
+  pub past-wrong : {b : ℕ} {m : Bytes} → part s to end ≡ b ∷ m → eqb b 9 ≡ false → past_tab s to end ≡ None
   unfolding past_tab past_of
   past-wrong q e = rw (q, e)
 
 -- the same with what the code has tested: stop is the end within the text, t whether the byte at `to` is a tab
 module _ (s : Bytes) (to end : ℕ) {stop : ℕ} (ps : stop ≡ stop_at s end) where
-  pub behind-end : stop ≤ to → past_tab s to end ≡ Past.To (record { at = to; end = end; more = false })
+  pub behind-end : stop ≤ to → past_tab s to end ≡ Some (record { at = to; end = end; more = false })
   behind-end h = past_end s to end (part_none s to end ps h)
 
   module _ (h : to < stop) {b : ℕ} {t : Bool} (pb : b ≡ get_or s to 0) (pt : t ≡ eqb b 9) where
-    pub behind-tab : t ≡ true → past_tab s to end ≡ Past.To (record { at = to + 1; end = end; more = true })
+    pub behind-tab : t ≡ true → past_tab s to end ≡ Some (record { at = to + 1; end = end; more = true })
     behind-tab e = past-tab s to end (part-next s to end ps h) (ap (λ x. eqb x 9) (sym pb) ∙ sym pt ∙ e)
 
-    pub behind-wrong : t ≡ false → past_tab s to end ≡ Past.Wrong
+    pub behind-wrong : t ≡ false → past_tab s to end ≡ None
     behind-wrong e = past-wrong s to end (part-next s to end ps h) (ap (λ x. eqb x 9) (sym pb) ∙ sym pt ∙ e)
 
 -- ---- the next field, byte by byte
@@ -97,7 +98,7 @@ module _ {A : Type 0} where
 
   -- the field that ends at a place is empty from there; one that goes on has a byte more
   module _ (f : Bytes → Option A) where
-    pub past-empty : (s : Bytes) (to end : ℕ) {c : Cursor} → past_tab s to end ≡ Past.To c → field f (fields (part s to end)) ≡ mapped (λ a. (a, fields_left s c)) (f [])
+    pub past-empty : (s : Bytes) (to end : ℕ) {c : Cursor} → past_tab s to end ≡ Some c → field f (fields (part s to end)) ≡ mapped (λ a. (a, fields_left s c)) (f [])
     past-empty s to end {c} h = go (part s to end) refl
       where
         go : (l : Bytes) → part s to end ≡ l → field f (fields (part s to end)) ≡ mapped (λ a. (a, fields_left s c)) (f [])
@@ -111,7 +112,7 @@ module _ {A : Type 0} where
             rw (q, fields-tab b l e, z, left-more s (record { at = to + 1; end = end; more = true }) refl, part-behind s to end q))
             (λ e. let z : ◌≡◌ {A = Bool} true false = cc (h, past-wrong s to end q e) in clash refl z)
 
-    pub past-byte : ((b : ℕ) (x : Bytes) → f (b ∷ x) ≡ none) → (s : Bytes) (to end : ℕ) → past_tab s to end ≡ Past.Wrong → field f (fields (part s to end)) ≡ none
+    pub past-byte : ((b : ℕ) (x : Bytes) → f (b ∷ x) ≡ none) → (s : Bytes) (to end : ℕ) → past_tab s to end ≡ None → field f (fields (part s to end)) ≡ none
     past-byte n s to end h = go (part s to end) refl
       where
         go : (l : Bytes) → part s to end ≡ l → field f (fields (part s to end)) ≡ none
@@ -147,7 +148,7 @@ module _ (p : ℕ → Bool) (n : p 9 ≡ false) (s : Bytes) (at end : ℕ) where
   unfolding run_end
   run-exact = (omega arith, run-size)
 
-  pub run-closes : {c : Cursor} → past_tab s (run_end p s at end) end ≡ Past.To c
+  pub run-closes : {c : Cursor} → past_tab s (run_end p s at end) end ≡ Some c
       → fields (part s at end) ≡ part s at (run_end p s at end) ∷ fields_left s c
   unfolding fields
   run-closes {c} h = go (part s (run_end p s at end) end) refl
@@ -168,7 +169,7 @@ module _ (p : ℕ → Bool) (n : p 9 ≡ false) (s : Bytes) (at end : ℕ) where
           (λ e. let z : ◌≡◌ {A = Bool} true false = cc (h, past-wrong s (run_end p s at end) end q e) in clash refl z)
 
   -- else a byte that fails the test stands in the field
-  pub run-fails : past_tab s (run_end p s at end) end ≡ Past.Wrong
+  pub run-fails : past_tab s (run_end p s at end) end ≡ None
       → (x : Bytes) × (rest : List Bytes) × (fields (part s at end) ≡ x ∷ rest) × (every p x ≡ false)
   unfolding fields
   run-fails h = go (part s (run_end p s at end) end) refl
@@ -182,7 +183,7 @@ module _ (p : ℕ → Bool) (n : p 9 ≡ false) (s : Bytes) (at end : ℕ) where
           (λ e. first-fails 9 p n (part s at end) (run-rest ∙ q) e)
 
 -- up to the first tab the field always ends
-pub tab-closes : (s : Bytes) (at end : ℕ) → past_tab s (run_end (other 9) s at end) end ≡ Past.Wrong → ⊥
+pub tab-closes : (s : Bytes) (at end : ℕ) → past_tab s (run_end (other 9) s at end) end ≡ None → ⊥
 unfolding other
 tab-closes s at end h = go (part s (run_end (other 9) s at end) end) refl
   where
@@ -199,50 +200,50 @@ tab-closes s at end h = go (part s (run_end (other 9) s at end) end) refl
 pub none_left : {A : Type 0} (s : Bytes) (c : Cursor) (f : Bytes → Option A) → c.more ≡ false → field f (fields_left s c) ≡ none
 none_left s c f h = rw (left-none s c h)
 
-module _ (s : Bytes) (c : Cursor) (m : c.more ≡ true) {to : ℕ} {past : Past} (pe : to ≡ run_end (other 9) s c.at c.end) (pp : past ≡ past_tab s to c.end) where
-  pub field_is : {d : Cursor} → past ≡ Past.To d → part_read s (Part.Is c.at to d) ≡ field some (fields_left s c)
+module _ (s : Bytes) (c : Cursor) (m : c.more ≡ true) {to : ℕ} {past : code.Option Cursor} (pe : to ≡ run_end (other 9) s c.at c.end) (pp : past ≡ past_tab s to c.end) where
+  pub field_is : {d : Cursor} → past ≡ Some d → part_read s (Some (record { from = c.at; to = to; rest = d })) ≡ field some (fields_left s c)
   unfolding part_read other
   field_is {d} q =
-      let h : past_tab s (run_end (other 9) s c.at c.end) c.end ≡ Past.To d = cc in
+      let h : past_tab s (run_end (other 9) s c.at c.end) c.end ≡ Some d = cc in
       rw (left-more s c m, run-closes (other 9) refl s c.at c.end h, pe)
 
-  pub field-never : past ≡ Past.Wrong → ⊥
+  pub field-never : past ≡ None → ⊥
   field-never q = tab-closes s c.at c.end (cc)
 
 -- a field's places are those of its bytes
-pub wrong-exact : (s : Bytes) → Exact s Part.Wrong
+pub wrong-exact : (s : Bytes) → Exact s None
 unfolding Exact
 wrong-exact s = tt
 
-pub field-exact : (s : Bytes) (c : Cursor) {to : ℕ} (d : Cursor) → to ≡ run_end (other 9) s c.at c.end → Exact s (Part.Is c.at to d)
+pub field-exact : (s : Bytes) (c : Cursor) {to : ℕ} (d : Cursor) → to ≡ run_end (other 9) s c.at c.end → Exact s (Some (record { from = c.at; to = to; rest = d }))
 unfolding Exact other
 field-exact s c d pe = rw pe (run-exact (other 9) refl s c.at c.end)
 
 -- `closed`, by what the code has tested
 module _ (s : Bytes) (c : Cursor) (to max : ℕ) where
-  pub closed_none : c.more ≡ false → closed_at s c to max ≡ Part.Wrong
+  pub closed_none : c.more ≡ false → closed_at s c to max ≡ None
   unfolding closed_at
   closed_none m = rw m
 
   module _ (m : c.more ≡ true) where
-    pub closed-short : to ≤ c.at → closed_at s c to max ≡ Part.Wrong
+    pub closed-short : to ≤ c.at → closed_at s c to max ≡ None
     unfolding closed_at
     closed-short h = let z : to - c.at < 1 = omega arith in rw (m, lt-leb 1 (to - c.at) z)
 
-    pub closed-long : max < to - c.at → closed_at s c to max ≡ Part.Wrong
+    pub closed-long : max < to - c.at → closed_at s c to max ≡ None
     unfolding closed_at
     closed-long h = rw (m, lt-leb (to - c.at) max h, and-false)
 
-    module _ (h : c.at < to) (k : to - c.at ≤ max) {past : Past} (pp : past ≡ past_tab s to c.end) where
+    module _ (h : c.at < to) (k : to - c.at ≤ max) {past : code.Option Cursor} (pp : past ≡ past_tab s to c.end) where
       closes : closed_at s c to max ≡ with_past c.at to past
       unfolding closed_at
       closes = let z : 1 ≤ to - c.at = omega arith in rw (m, le-leb 1 (to - c.at) z, le-leb (to - c.at) max k, pp)
 
-      pub closed_is : {d : Cursor} → past ≡ Past.To d → closed_at s c to max ≡ Part.Is c.at to d
+      pub closed_is : {d : Cursor} → past ≡ Some d → closed_at s c to max ≡ Some (record { from = c.at; to = to; rest = d })
       unfolding with_past
       closed_is q = closes ∙ rw q
 
-      pub closed_on : past ≡ Past.Wrong → closed_at s c to max ≡ Part.Wrong
+      pub closed_on : past ≡ None → closed_at s c to max ≡ None
       unfolding with_past
       closed_on q = closes ∙ rw q
 
@@ -255,19 +256,19 @@ module _ (p : ℕ → Bool) (n : p 9 ≡ false) (s : Bytes) (c : Cursor) (max : 
       (λ m. rw (left-more s c m, m) (go (past_tab s (run_end p s c.at c.end) c.end) refl))
       (λ m. rw (left-none s c m, m))
     where
-      go : (past : Past) → past_tab s (run_end p s c.at c.end) c.end ≡ past
-          → part_read s (cond (between 1 max (run_end p s c.at c.end - c.at)) (with_past c.at (run_end p s c.at c.end) (past_tab s (run_end p s c.at c.end) c.end)) Part.Wrong) ≡ field (run_read p max) (fields (part s c.at c.end))
-      go (Past.To d) h =
+      go : (past : code.Option Cursor) → past_tab s (run_end p s c.at c.end) c.end ≡ past
+          → part_read s (cond (between 1 max (run_end p s c.at c.end - c.at)) (with_past c.at (run_end p s c.at c.end) (past_tab s (run_end p s c.at c.end) c.end)) None) ≡ field (run_read p max) (fields (part s c.at c.end))
+      go (Some d) h =
           cases (between 1 max (run_end p s c.at c.end - c.at))
           (λ e. rw (h, run-closes p n s c.at c.end h, run-passes p n s c.at c.end, run-size p n s c.at c.end, e))
           (λ e. rw (run-closes p n s c.at c.end h, run-size p n s c.at c.end, e))
-      go Past.Wrong h =
+      go None h =
           let r = run-fails p n s c.at c.end h in
           cases (between 1 max (run_end p s c.at c.end - c.at))
           (λ e. rw (h, r.2, r.3, e, and-false))
           (λ e. rw (r.2, r.3, e, and-false))
 
-  pub closed-reads : {to : ℕ} {r : Part} → to ≡ run_end p s c.at c.end → r ≡ closed_at s c to max → part_read s r ≡ field (run_read p max) (fields_left s c)
+  pub closed-reads : {to : ℕ} {r : code.Option Part} → to ≡ run_end p s c.at c.end → r ≡ closed_at s c to max → part_read s r ≡ field (run_read p max) (fields_left s c)
   closed-reads pe pr = rw (pr, pe) run-closed
 
   run-closed-exact : Exact s (closed_at s c (run_end p s c.at c.end) max)
@@ -279,9 +280,9 @@ module _ (p : ℕ → Bool) (n : p 9 ≡ false) (s : Bytes) (c : Cursor) (max : 
       (λ e. rw (m, e) tt))
       (λ m. rw m tt)
     where
-      go : (past : Past) → Exact s (with_past c.at (run_end p s c.at c.end) past)
-      go (Past.To d) = run-exact p n s c.at c.end
-      go Past.Wrong = tt
+      go : (past : code.Option Cursor) → Exact s (with_past c.at (run_end p s c.at c.end) past)
+      go (Some d) = run-exact p n s c.at c.end
+      go None = tt
 
-  pub closed-exact : {to : ℕ} {r : Part} → to ≡ run_end p s c.at c.end → r ≡ closed_at s c to max → Exact s r
+  pub closed-exact : {to : ℕ} {r : code.Option Part} → to ≡ run_end p s c.at c.end → r ≡ closed_at s c to max → Exact s r
   closed-exact pe pr = rw (pr, pe) run-closed-exact

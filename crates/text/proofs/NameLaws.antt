@@ -12,6 +12,8 @@ use Rattle.objects.specs.Bounds.{max_name, max_path, max_tag}
 use Rattle.objects.specs.Lists.{Bytes, every, when}
 use Rattle.objects.proofs.ListLaws.{cases, and_l}
 use Rattle.text.specs.declared.Cursor.{Cursor}
+use Rattle.std.specs.declared.option.Option as code
+use Rattle.std.specs.Prelude.{Some, None}
 use Rattle.text.specs.declared.Part.{Part}
 use Rattle.text.specs.Bytes.{between, sized, first_is, is_digit, is_name_byte, is_name, is_blank, is_path, is_tag}
 use Rattle.text.specs.Readers.{field}
@@ -44,24 +46,24 @@ both-tests P R h fs = ap (λ f. field f fs) (fun_ext (λ b. ap (λ t. when t b) 
 
 -- R is both tests; r is what reading by the first gave, t whether the second fails
 module _ (p : ℕ → Bool) (max : ℕ) (Q R : Bytes → Bool) (both : (b : Bytes) → R b ≡ ((sized max b && every p b) && Q b))
-    (s : Bytes) (fs : List Bytes) {r : Part} (pr : part_read s r ≡ field (run_read p max) fs) where
-  one_more : {from to : ℕ} {c : Cursor} {t : Bool} → r ≡ Part.Is from to c → not t ≡ Q (part s from to) → t ≡ false
-      → part_read s (Part.Is from to c) ≡ field (λ b. when (R b) b) fs
+    (s : Bytes) (fs : List Bytes) {r : code.Option Part} (pr : part_read s r ≡ field (run_read p max) fs) where
+  one_more : {x : Part} {t : Bool} → r ≡ Some x → not t ≡ Q (part s x.from x.to) → t ≡ false
+      → part_read s (Some x) ≡ field (λ b. when (R b) b) fs
   unfolding part_read run_read
-  one_more {from} {to} {c} q pt e =
-      let k : field (λ b. when (sized max b && every p b) b) fs ≡ part_read s (Part.Is from to c) = sym pr ∙ ap (part_read s) q in
-      let v : Q (part s from to) ≡ true = sym pt ∙ ap not e in
-      sym (both-tests (λ b. (sized max b && every p b) && Q b) R both fs ∙ more-some (λ b. sized max b && every p b) Q fs (part s from to) _ k ∙ rw v)
+  one_more {x} q pt e =
+      let k : field (λ b. when (sized max b && every p b) b) fs ≡ part_read s (Some x) = sym pr ∙ ap (part_read s) q in
+      let v : Q (part s x.from x.to) ≡ true = sym pt ∙ ap not e in
+      sym (both-tests (λ b. (sized max b && every p b) && Q b) R both fs ∙ more-some (λ b. sized max b && every p b) Q fs (part s x.from x.to) _ k ∙ rw v)
 
-  one_less : {from to : ℕ} {c : Cursor} {t : Bool} → r ≡ Part.Is from to c → not t ≡ Q (part s from to) → t ≡ true
+  one_less : {x : Part} {t : Bool} → r ≡ Some x → not t ≡ Q (part s x.from x.to) → t ≡ true
       → none ≡ field (λ b. when (R b) b) fs
   unfolding part_read run_read
-  one_less {from} {to} {c} q pt e =
-      let k : field (λ b. when (sized max b && every p b) b) fs ≡ part_read s (Part.Is from to c) = sym pr ∙ ap (part_read s) q in
-      let v : Q (part s from to) ≡ false = sym pt ∙ ap not e in
-      sym (both-tests (λ b. (sized max b && every p b) && Q b) R both fs ∙ more-some (λ b. sized max b && every p b) Q fs (part s from to) _ k ∙ rw v)
+  one_less {x} q pt e =
+      let k : field (λ b. when (sized max b && every p b) b) fs ≡ part_read s (Some x) = sym pr ∙ ap (part_read s) q in
+      let v : Q (part s x.from x.to) ≡ false = sym pt ∙ ap not e in
+      sym (both-tests (λ b. (sized max b && every p b) && Q b) R both fs ∙ more-some (λ b. sized max b && every p b) Q fs (part s x.from x.to) _ k ∙ rw v)
 
-  none-less : r ≡ Part.Wrong → none ≡ field (λ b. when (R b) b) fs
+  none-less : r ≡ None → none ≡ field (λ b. when (R b) b) fs
   unfolding part_read run_read
   none-less q = sym (both-tests (λ b. (sized max b && every p b) && Q b) R both fs ∙ more-none (λ b. sized max b && every p b) Q fs (sym pr ∙ ap (part_read s) q))
 
@@ -100,67 +102,67 @@ module _ (s : Bytes) (at end : ℕ) {stop : ℕ} (ps : stop ≡ stop_at s end) (
   newline-end = fence-end is_name_byte s end ps newline-within newline-other at (omega arith)
 
 -- r is the closed run of a name's bytes; t whether the first of them is a digit
-module _ (s : Bytes) (c : Cursor) {to : ℕ} {r : Part} (pe : to ≡ run_end is_name_byte s c.at c.end) (pr : r ≡ closed_at s c to max_name) where
+module _ (s : Bytes) (c : Cursor) {to : ℕ} {r : code.Option Part} (pe : to ≡ run_end is_name_byte s c.at c.end) (pr : r ≡ closed_at s c to max_name) where
   run : part_read s r ≡ field (run_read is_name_byte max_name) (fields_left s c)
   run = closed-reads is_name_byte refl s c max_name pe pr
 
-  pub name-wrong : r ≡ Part.Wrong → part_read s Part.Wrong ≡ field (λ b. when (is_name b) b) (fields_left s c)
+  pub name-wrong : r ≡ None → part_read s None ≡ field (λ b. when (is_name b) b) (fields_left s c)
   unfolding part_read
   name-wrong = none-less is_name_byte max_name (λ b. not (first_is is_digit b)) is_name name-both s (fields_left s c) run
 
   -- a name has a first byte
-  name-begins : {from end : ℕ} {d : Cursor} → r ≡ Part.Is from end d → from < stop_at s end
+  name-begins : {x : Part} → r ≡ Some x → x.from < stop_at s x.to
   unfolding part_read run_read
-  name-begins {from} {end} {d} q =
+  name-begins {x} q =
       let z = (passed (λ b. sized max_name b && every is_name_byte b) (fields_left s c) (sym run ∙ ap (part_read s) q)).1 in
-      let l = leb-true 1 (length (part s from end)) (and_l _ _ (and_l _ _ z)) in
-      cases (ltb from (stop_at s end))
-      (λ e. ltb-true from (stop_at s end) e)
-      (λ e. let k : length (part s from end) ≡ 0 = ap length (part_none s from end refl (ltb-false from (stop_at s end) e)) in absurd (omega arith))
+      let l = leb-true 1 (length (part s x.from x.to)) (and_l _ _ (and_l _ _ z)) in
+      cases (ltb x.from (stop_at s x.to))
+      (λ e. ltb-true x.from (stop_at s x.to) e)
+      (λ e. let k : length (part s x.from x.to) ≡ 0 = ap length (part_none s x.from x.to refl (ltb-false x.from (stop_at s x.to) e)) in absurd (omega arith))
 
-  pub name-within : {from end : ℕ} {d : Cursor} → r ≡ Part.Is from end d → from < length s
-  name-within {from} {end} q = (stop-in s from end refl (name-begins q)).1
+  pub name-within : {x : Part} → r ≡ Some x → x.from < length s
+  name-within {x} q = (stop-in s x.from x.to refl (name-begins q)).1
 
-  module _ {from end : ℕ} {d : Cursor} {b : ℕ} {t : Bool} (q : r ≡ Part.Is from end d) (pb : b ≡ get_or s from 0) (pt : t ≡ is_digit b) where
-    digit-first : not t ≡ not (first_is is_digit (part s from end))
-    digit-first = ap not (pt ∙ ap is_digit pb ∙ sym (ap (first_is is_digit) (part-next s from end refl (name-begins q))))
+  module _ {x : Part} {b : ℕ} {t : Bool} (q : r ≡ Some x) (pb : b ≡ get_or s x.from 0) (pt : t ≡ is_digit b) where
+    digit-first : not t ≡ not (first_is is_digit (part s x.from x.to))
+    digit-first = ap not (pt ∙ ap is_digit pb ∙ sym (ap (first_is is_digit) (part-next s x.from x.to refl (name-begins q))))
 
-    pub name-digit : t ≡ true → part_read s Part.Wrong ≡ field (λ b. when (is_name b) b) (fields_left s c)
+    pub name-digit : t ≡ true → part_read s None ≡ field (λ b. when (is_name b) b) (fields_left s c)
     unfolding part_read
     name-digit = one_less is_name_byte max_name (λ b. not (first_is is_digit b)) is_name name-both s (fields_left s c) run q digit-first
 
-    pub name-exact : Exact s (Part.Is from end d)
-    name-exact = subst (λ x. Exact s x) q (closed-exact is_name_byte refl s c max_name pe pr)
+    pub name-exact : Exact s (Some x)
+    name-exact = subst (λ y. Exact s y) q (closed-exact is_name_byte refl s c max_name pe pr)
 
-    pub name-is : t ≡ false → part_read s (Part.Is from end d) ≡ field (λ b. when (is_name b) b) (fields_left s c)
+    pub name-is : t ≡ false → part_read s (Some x) ≡ field (λ b. when (is_name b) b) (fields_left s c)
     name-is = one_more is_name_byte max_name (λ b. not (first_is is_digit b)) is_name name-both s (fields_left s c) run q digit-first
 
 -- r is the closed run of a path's bytes; t whether it is `_` alone
-module _ (s : Bytes) (c : Cursor) {to : ℕ} {r : Part} (pe : to ≡ run_end (between 33 126) s c.at c.end) (pr : r ≡ closed_at s c to max_path) where
+module _ (s : Bytes) (c : Cursor) {to : ℕ} {r : code.Option Part} (pe : to ≡ run_end (between 33 126) s c.at c.end) (pr : r ≡ closed_at s c to max_path) where
   visible : part_read s r ≡ field (run_read (between 33 126) max_path) (fields_left s c)
   visible = closed-reads (between 33 126) refl s c max_path pe pr
 
-  pub path-wrong : r ≡ Part.Wrong → part_read s Part.Wrong ≡ field (λ b. when (is_path b) b) (fields_left s c)
+  pub path-wrong : r ≡ None → part_read s None ≡ field (λ b. when (is_path b) b) (fields_left s c)
   unfolding part_read
   path-wrong = none-less (between 33 126) max_path (λ b. not (is_blank b)) is_path path-both s (fields_left s c) visible
 
-  module _ {from end : ℕ} {d : Cursor} {t : Bool} (q : r ≡ Part.Is from end d) (pt : t ≡ is_blank (part s from end)) where
-    pub path-blank : t ≡ true → part_read s Part.Wrong ≡ field (λ b. when (is_path b) b) (fields_left s c)
+  module _ {x : Part} {t : Bool} (q : r ≡ Some x) (pt : t ≡ is_blank (part s x.from x.to)) where
+    pub path-blank : t ≡ true → part_read s None ≡ field (λ b. when (is_path b) b) (fields_left s c)
     unfolding part_read
     path-blank = one_less (between 33 126) max_path (λ b. not (is_blank b)) is_path path-both s (fields_left s c) visible q (ap not pt)
 
-    pub path-exact : Exact s (Part.Is from end d)
-    path-exact = subst (λ x. Exact s x) q (closed-exact (between 33 126) refl s c max_path pe pr)
+    pub path-exact : Exact s (Some x)
+    path-exact = subst (λ y. Exact s y) q (closed-exact (between 33 126) refl s c max_path pe pr)
 
-    pub path-is : t ≡ false → part_read s (Part.Is from end d) ≡ field (λ b. when (is_path b) b) (fields_left s c)
+    pub path-is : t ≡ false → part_read s (Some x) ≡ field (λ b. when (is_path b) b) (fields_left s c)
     path-is = one_more (between 33 126) max_path (λ b. not (is_blank b)) is_path path-both s (fields_left s c) visible q (ap not pt)
 
-pub tag_is : (s : Bytes) (c : Cursor) {to : ℕ} {r : Part} → to ≡ run_end (between 32 126) s c.at c.end → r ≡ closed_at s c to max_tag
+pub tag_is : (s : Bytes) (c : Cursor) {to : ℕ} {r : code.Option Part} → to ≡ run_end (between 32 126) s c.at c.end → r ≡ closed_at s c to max_tag
     → part_read s r ≡ field (λ b. when (is_tag b) b) (fields_left s c)
 unfolding is_tag run_read
 tag_is s c pe pr = closed-reads (between 32 126) refl s c max_tag pe pr
 
-pub tag-exact : (s : Bytes) (c : Cursor) {to : ℕ} {r : Part} → to ≡ run_end (between 32 126) s c.at c.end → r ≡ closed_at s c to max_tag → Exact s r
+pub tag-exact : (s : Bytes) (c : Cursor) {to : ℕ} {r : code.Option Part} → to ≡ run_end (between 32 126) s c.at c.end → r ≡ closed_at s c to max_tag → Exact s r
 tag-exact s c pe pr = closed-exact (between 32 126) refl s c max_tag pe pr
 
 -- ---- `_` alone

@@ -11,9 +11,8 @@ use borrow.Author.Tests.{ne_eqb, eqb-true, eqb-false, leb-true, leb-false, le-le
 use Rattle.objects.specs.Lists.{Bytes, every, head_or, when}
 use Rattle.objects.proofs.ListLaws.{cases, clash, or-true}
 use Rattle.text.specs.declared.Cursor.{Cursor}
-use Rattle.text.specs.declared.Num.{Num}
-use Rattle.text.specs.declared.Past.{Past}
-use Rattle.text.specs.declared.Digit.{Digit}
+use Rattle.std.specs.declared.option.Option as code
+use Rattle.std.specs.Prelude.{Some, None}
 use Rattle.text.specs.Bytes.{is_digit, value_from, is_numeral, number}
 use Rattle.text.specs.Lines.{fields}
 use Rattle.text.specs.Readers.{field}
@@ -32,30 +31,30 @@ unfolding value_from
 value_grows v [] = omega arith
 value_grows v (b ∷ l) = let h = value_grows (v * 10 + (b - 48)) l in omega arith
 
-digit_not : {w : ℕ} → ◌≡◌ {A = Digit} Digit.Wrong (Digit.Next w) → ◌≡◌ {A = Bool} true false
+digit_not : {w : ℕ} → ◌≡◌ {A = code.Option ℕ} None (Some w) → ◌≡◌ {A = Bool} true false
 digit_not x = cc
 
-module _ (v b max : ℕ) {d : Digit} (pd : d ≡ pushed v b max) where
+module _ (v b max : ℕ) {d : code.Option ℕ} (pd : d ≡ pushed v b max) where
   -- what was pushed was a digit
-  pub pushed-next : {w : ℕ} → d ≡ Digit.Next w → (is_digit b ≡ true) × (w ≡ v * 10 + (b - 48)) × (w ≤ max)
+  pub pushed-next : {w : ℕ} → d ≡ Some w → (is_digit b ≡ true) × (w ≡ v * 10 + (b - 48)) × (w ≤ max)
   unfolding pushed
   pushed-next {w} q =
       cases (is_digit b)
       (λ e. cases (leb (v * 10 + (b - 48)) max)
-      (λ f. let x : ◌≡◌ {A = Digit} (Digit.Next (v * 10 + (b - 48))) (Digit.Next w) = sym (pd ∙ rw (e, f)) ∙ q in
+      (λ f. let x : ◌≡◌ {A = code.Option ℕ} (Some (v * 10 + (b - 48))) (Some w) = sym (pd ∙ rw (e, f)) ∙ q in
       let y : w ≡ v * 10 + (b - 48) = cc in
       let l = leb-true (v * 10 + (b - 48)) max f in
       (e, y, omega arith))
-      (λ f. let x : ◌≡◌ {A = Digit} Digit.Wrong (Digit.Next w) = sym (pd ∙ rw (e, f)) ∙ q in clash refl (digit_not x)))
-      (λ e. let x : ◌≡◌ {A = Digit} Digit.Wrong (Digit.Next w) = sym (pd ∙ rw e) ∙ q in clash refl (digit_not x))
+      (λ f. let x : ◌≡◌ {A = code.Option ℕ} None (Some w) = sym (pd ∙ rw (e, f)) ∙ q in clash refl (digit_not x)))
+      (λ e. let x : ◌≡◌ {A = code.Option ℕ} None (Some w) = sym (pd ∙ rw e) ∙ q in clash refl (digit_not x))
 
   -- what was not pushed is no digit, or too much
-  pub pushed-wrong : d ≡ Digit.Wrong → (x : Bytes) → digits_read max v (b ∷ x) ≡ none
+  pub pushed-wrong : d ≡ None → (x : Bytes) → digits_read max v (b ∷ x) ≡ none
   unfolding pushed digits_read value_from
   pushed-wrong q x =
       cases (is_digit b)
       (λ e. cases (leb (v * 10 + (b - 48)) max)
-      (λ f. let y : ◌≡◌ {A = Digit} (Digit.Next (v * 10 + (b - 48))) Digit.Wrong = sym (pd ∙ rw (e, f)) ∙ q in clash refl (digit_not (sym y)))
+      (λ f. let y : ◌≡◌ {A = code.Option ℕ} (Some (v * 10 + (b - 48))) None = sym (pd ∙ rw (e, f)) ∙ q in clash refl (digit_not (sym y)))
       (λ f. let g = leb-false (v * 10 + (b - 48)) max f in
       let h = value_grows (v * 10 + (b - 48)) x in
       let k : max < value_from (v * 10 + (b - 48)) x = omega arith in
@@ -73,7 +72,7 @@ module _ (s : Bytes) (i end max v : ℕ) {stop : ℕ} (ps : stop ≡ stop_at s e
   unfolding digits_read value_from
   read_all m = rw (le-leb v max m)
 
-  pub digits-end : stop ≤ i → v ≤ max → digits_left max v (part s i end) ≡ num_read s (Num.Value v (record { at = i; end = end; more = false }))
+  pub digits-end : stop ≤ i → v ≤ max → digits_left max v (part s i end) ≡ num_read s (Some (v, (record { at = i; end = end; more = false })))
   unfolding digits_left num_read
   digits-end h m = rw (part_none s i end ps h, fields-end, read_all m, left-none s (record { at = i; end = end; more = false }) refl)
 
@@ -82,20 +81,20 @@ module _ (s : Bytes) (i end max v : ℕ) {stop : ℕ} (ps : stop ≡ stop_at s e
     here = part-next s i end ps h ∙ ap (λ x. x ∷ part s (i + 1) end) (sym pb)
 
     pub digits-tab : {t : Bool} → t ≡ eqb b 9 → t ≡ true → v ≤ max
-        → digits_left max v (part s i end) ≡ num_read s (Num.Value v (record { at = i + 1; end = end; more = true }))
+        → digits_left max v (part s i end) ≡ num_read s (Some (v, (record { at = i + 1; end = end; more = true })))
     unfolding digits_left num_read
     digits-tab pt e m =
         rw (here, fields-tab b (part s (i + 1) end) (sym pt ∙ e), read_all m, left-more s (record { at = i + 1; end = end; more = true }) refl)
 
-    module _ {t : Bool} (pt : t ≡ eqb b 9) (e : t ≡ false) {d : Digit} (pd : d ≡ pushed v b max) where
-      pub digits-wrong : d ≡ Digit.Wrong → digits_left max v (part s i end) ≡ num_read s Num.Wrong
+    module _ {t : Bool} (pt : t ≡ eqb b 9) (e : t ≡ false) {d : code.Option ℕ} (pd : d ≡ pushed v b max) where
+      pub digits-wrong : d ≡ None → digits_left max v (part s i end) ≡ num_read s None
       unfolding digits_left num_read
       digits-wrong q =
           ap (λ l. field (digits_read max v) (fields l)) here
           ∙ fields-next (digits_read max v) b (part s (i + 1) end) (sym pt ∙ e)
           ∙ field-none _ (pushed-wrong v b max pd q) (fields (part s (i + 1) end))
 
-      pub digits-next : {w : ℕ} → d ≡ Digit.Next w → digits_left max v (part s i end) ≡ digits_left max w (part s (i + 1) end)
+      pub digits-next : {w : ℕ} → d ≡ Some w → digits_left max v (part s i end) ≡ digits_left max w (part s (i + 1) end)
       unfolding digits_left
       digits-next {w} q =
           ap (λ l. field (digits_read max v) (fields l)) here
@@ -144,7 +143,7 @@ numeral-zero max = number-when max (48 ∷ []) ∙ rw (le-leb 0 max (omega arith
 
 -- b is the field's first byte, or 256; t whether it is a digit, u whether it is 0
 module _ (s : Bytes) (at end max : ℕ) {b : ℕ} {t : Bool} (pb : b ≡ byte_in s at end) (pt : t ≡ is_digit b) where
-  pub number-other : t ≡ false → field (number max) (fields (part s at end)) ≡ num_read s Num.Wrong
+  pub number-other : t ≡ false → field (number max) (fields (part s at end)) ≡ num_read s None
   unfolding num_read byte_in
   number-other e = go (part s at end) pb
     where
@@ -179,13 +178,13 @@ module _ (s : Bytes) (at end max : ℕ) {b : ℕ} {t : Bool} (pb : b ≡ byte_in
           let z : b ≡ 48 = eqb-true b 48 (sym pu ∙ f) in
           rw (there, z) (fields-next (number max) 48 (part s (at + 1) end) refl)
 
-      pub number-zero : {past : Past} {c : Cursor} → past ≡ past_tab s (at + 1) end → past ≡ Past.To c
-          → field (number max) (fields (part s at end)) ≡ num_read s (Num.Value 0 c)
+      pub number-zero : {past : code.Option Cursor} {c : Cursor} → past ≡ past_tab s (at + 1) end → past ≡ Some c
+          → field (number max) (fields (part s at end)) ≡ num_read s (Some (0, c))
       unfolding num_read
       number-zero {past} {c} pp q =
           zero-next ∙ past-empty (λ x. number max (48 ∷ x)) s (at + 1) end (sym pp ∙ q) ∙ rw (numeral-zero max)
 
-      pub number-zeros : {past : Past} → past ≡ past_tab s (at + 1) end → past ≡ Past.Wrong
-          → field (number max) (fields (part s at end)) ≡ num_read s Num.Wrong
+      pub number-zeros : {past : code.Option Cursor} → past ≡ past_tab s (at + 1) end → past ≡ None
+          → field (number max) (fields (part s at end)) ≡ num_read s None
       unfolding num_read
       number-zeros pp q = zero-next ∙ past-byte (λ x. number max (48 ∷ x)) (numeral-zeros max) s (at + 1) end (sym pp ∙ q)

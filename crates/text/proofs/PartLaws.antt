@@ -1,7 +1,7 @@
 -- A part of a text, byte by byte: what stands at a place, what is left behind it, and where the part ends.
 use mathlib.Core.Path.{◌≡◌, refl, sym, ap, ◌∙◌}
 use mathlib.Core.List.{List, [], ◌∷◌}
-use Prim.Native.Nat.{ℕ, zero, suc, ◌+◌, ◌-◌, ◌≤◌, ◌<◌}
+use Prim.Native.Nat.{ℕ, min, zero, suc, ◌+◌, ◌-◌, ◌≤◌, ◌<◌}
 use native.Mathlib.Numerals.{add-one}
 use native.Mathlib.Nat.{not-suc-le-zero}
 use native.Mathlib.Omega.{arith}
@@ -99,3 +99,11 @@ module _ (s : Bytes) (at end : ℕ) {b : ℕ} (pb : b ≡ byte_in s at end) (h :
 
   pub byte_next : part s at end ≡ b ∷ part s (at + 1) end
   byte_next = part-next s at end refl byte-in ∙ ap (λ x. x ∷ part s (at + 1) end) (sym (byte-is s at end refl byte-in) ∙ sym pb)
+
+-- the end within the text
+pub stop-least : (s : Bytes) (end : ℕ) → min end (length s) ≡ stop_at s end
+unfolding stop_at
+stop-least s end =
+    cases (leb end (length s))
+    (λ e. let h = leb-true end (length s) e in rw e (omega arith))
+    (λ e. let h = leb-false end (length s) e in rw e (omega arith))

@@ -11,7 +11,8 @@ use borrow.Author.Tests.{eqb-true, eq-eqb}
 use Rattle.objects.specs.Lists.{Bytes, head_or, when, mapped}
 use Rattle.objects.proofs.ListLaws.{cases}
 use Rattle.text.specs.declared.Cursor.{Cursor}
-use Rattle.text.specs.declared.Past.{Past}
+use Rattle.std.specs.declared.option.Option as code
+use Rattle.std.specs.Prelude.{Some, None}
 use Rattle.text.specs.Bytes.{same_bytes}
 use Rattle.text.specs.Lines.{fields}
 use Rattle.text.specs.Readers.{field}
@@ -21,7 +22,7 @@ use Rattle.text.proofs.PartLaws.{drop_at, byte-within, byte_next}
 use Rattle.text.proofs.FieldLaws.{left-none, fields-end, fields-tab, fields-next, field-ext, field-none, past-empty, past-byte}
 
 -- no field is left
-pub exactly-none : (s w : Bytes) (c : Cursor) → c.more ≡ false → exactly w (fields_left s c) ≡ past_read s Past.Wrong
+pub exactly-none : (s w : Bytes) (c : Cursor) → c.more ≡ false → exactly w (fields_left s c) ≡ past_read s None
 unfolding exactly past_read
 exactly-none s w c h = rw (left-none s c h)
 
@@ -55,7 +56,7 @@ starts-same x w l n e = fields-next (matches (x ∷ w)) x l e ∙ field-ext (λ 
 
 module _ (s w : Bytes) (i j end : ℕ) where
   module _ {b : ℕ} (pb : b ≡ byte_in s i end) (h : j < length w) {t : Bool} (pt : t ≡ eqb b 9) where
-    pub word-tab : t ≡ true → exactly (drop j w) (fields (part s i end)) ≡ past_read s Past.Wrong
+    pub word-tab : t ≡ true → exactly (drop j w) (fields (part s i end)) ≡ past_read s None
     unfolding past_read
     word-tab e =
         let z : b ≡ 9 = eqb-true b 9 (sym pt ∙ e) in
@@ -67,7 +68,7 @@ module _ (s w : Bytes) (i j end : ℕ) where
       no-tab : eqb b 9 ≡ false
       no-tab = sym pt ∙ e
 
-      pub word-other : u ≡ false → exactly (drop j w) (fields (part s i end)) ≡ past_read s Past.Wrong
+      pub word-other : u ≡ false → exactly (drop j w) (fields (part s i end)) ≡ past_read s None
       unfolding past_read byte_in
       word-other f =
           rw (drop_at w j h)
@@ -90,10 +91,10 @@ module _ (s w : Bytes) (i j end : ℕ) where
             ∙ ap (mapped (λ p. p.1)) (starts-same (get_or w j 0) (drop (j + 1) w) (part s (i + 1) end) (eq-eqb (get_or w j 0) (get_or w j 0) refl) (ap (λ y. eqb y 9) (sym same_byte) ∙ no-tab))
             ∙ sym (exactly-field _ _))
 
-  pub word_end : length w ≤ j → {r : Past} → r ≡ past_tab s i end → exactly (drop j w) (fields (part s i end)) ≡ past_read s r
+  pub word_end : length w ≤ j → {r : code.Option Cursor} → r ≡ past_tab s i end → exactly (drop j w) (fields (part s i end)) ≡ past_read s r
   unfolding past_read matches
   word_end h {r} pr = rw (drop_of_length-le w h) (exactly-field [] (fields (part s i end)) ∙ go r pr)
     where
-      go : (q : Past) → q ≡ past_tab s i end → mapped (λ p. p.1) (field (matches []) (fields (part s i end))) ≡ past_read s q
-      go (Past.To c) e = ap (mapped (λ p. p.1)) (past-empty (matches []) s i end (sym e))
-      go Past.Wrong e = ap (mapped (λ p. p.1)) (past-byte (matches []) (λ b x. refl) s i end (sym e))
+      go : (q : code.Option Cursor) → q ≡ past_tab s i end → mapped (λ p. p.1) (field (matches []) (fields (part s i end))) ≡ past_read s q
+      go (Some c) e = ap (mapped (λ p. p.1)) (past-empty (matches []) s i end (sym e))
+      go None e = ap (mapped (λ p. p.1)) (past-byte (matches []) (λ b x. refl) s i end (sym e))

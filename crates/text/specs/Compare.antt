@@ -1,11 +1,12 @@
 -- The order of two texts: "ascend by the bytes of the id", and four bytes that are compared at once.
 use Rattle.std.specs.Prelude.{◌≡◌, Bool, true, false, cond, ℕ, ◌+◌, ◌*◌, ◌≤◌, ◌<◌, get_or}
 use Rattle.objects.specs.Lists.{Bytes}
-use Rattle.text.specs.declared.Order.{Order}
+use Rattle.std.specs.declared.cmp.Ordering.{Ordering}
+use Rattle.std.specs.declared.cmp.Ordering.TheVariants.{Less, Equal, Greater}
 use Rattle.text.specs.Bytes.{same_bytes, below_bytes}
 
-unfoldable pub order_of : Bytes → Bytes → Order
-order_of a b = cond (below_bytes a b) Order.Less (cond (same_bytes a b) Order.Equal Order.Greater)
+unfoldable pub order_of : Bytes → Bytes → Ordering
+order_of a b = cond (below_bytes a b) Less (cond (same_bytes a b) Equal Greater)
 
 -- values of four bytes
 abbrev pub fours : ℕ

@@ -4,8 +4,8 @@ use Rattle.std.proofs.Math.Option.{Option, none, some}
 use Rattle.objects.specs.Lists.{Bytes, when}
 use Rattle.text.specs.declared.Cursor.{Cursor}
 use Rattle.text.specs.declared.Part.{Part}
-use Rattle.text.specs.declared.Num.{Num}
-use Rattle.text.specs.declared.Past.{Past}
+use Rattle.std.specs.declared.option.Option as code
+use Rattle.std.specs.Prelude.{Some, None}
 use Rattle.text.specs.Bytes.{same_bytes}
 use Rattle.text.specs.Lines.{fields}
 
@@ -33,14 +33,14 @@ exactly w (b ∷ fs) = when (same_bytes b w) fs
 
 -- ---- what an answer means
 
-unfoldable pub part_read : Bytes → Part → Option (Bytes × List Bytes)
-part_read s (Part.Is from to c) = some (part s from to, fields_left s c)
-part_read s Part.Wrong = none
+unfoldable pub part_read : Bytes → code.Option Part → Option (Bytes × List Bytes)
+part_read s (Some p) = some (part s p.from p.to, fields_left s p.rest)
+part_read s None = none
 
-unfoldable pub num_read : Bytes → Num → Option (ℕ × List Bytes)
-num_read s (Num.Value v c) = some (v, fields_left s c)
-num_read s Num.Wrong = none
+unfoldable pub num_read : Bytes → code.Option (ℕ × Cursor) → Option (ℕ × List Bytes)
+num_read s (Some r) = some (r.0, fields_left s r.1)
+num_read s None = none
 
-unfoldable pub past_read : Bytes → Past → Option (List Bytes)
-past_read s (Past.To c) = some (fields_left s c)
-past_read s Past.Wrong = none
+unfoldable pub past_read : Bytes → code.Option Cursor → Option (List Bytes)
+past_read s (Some c) = some (fields_left s c)
+past_read s None = none

@@ -4,8 +4,8 @@ use Rattle.std.proofs.Math.Option.{Option}
 use Rattle.objects.specs.Lists.{Bytes, every, head_or, when}
 use Rattle.text.specs.declared.Cursor.{Cursor}
 use Rattle.text.specs.declared.Part.{Part}
-use Rattle.text.specs.declared.Past.{Past}
-use Rattle.text.specs.declared.Digit.{Digit}
+use Rattle.std.specs.declared.option.Option as code
+use Rattle.std.specs.Prelude.{Some, None}
 use Rattle.text.specs.Bytes.{between, sized, is_digit, value_from}
 use Rattle.text.specs.Lines.{fields}
 use Rattle.text.specs.Readers.{field}
@@ -34,6 +34,10 @@ pub record Met (s : Bytes) (i n sep : ℕ) (r : Bool) : Type 0 where
   pub yes : (end : ℕ) → i + n ≤ stop_at s end → r ≡ true → run_end (other sep) s i end < i + n
   pub no : (end : ℕ) → i + n ≤ stop_at s end → r ≡ false → run_end (other sep) s i end ≡ run_end (other sep) s (i + n) end
 
+-- what a test answers, by what is known of its calls, is p of the byte
+abbrev pub Tells : (ℕ → Bool → Type 0) → (ℕ → Bool) → Type 0
+Tells post p = (b : ℕ) (r : Bool) → b < 256 → post b r → r ≡ p b
+
 -- a byte ends the run before some end
 abbrev pub Ended : (ℕ → Bool) → Bytes → ℕ → Type 0
 Ended p s at = (end : ℕ) × (run_end p s at end < stop_at s end)
@@ -47,27 +51,27 @@ unfoldable pub byte_in : Bytes → ℕ → ℕ → ℕ
 byte_in s at end = head_or 256 (part s at end)
 
 -- behind a field that ends at a place, where l is left of the line: past its tab, or past the line's last field; wrong where the field goes on
-unfoldable pub past_of : ℕ → ℕ → Bytes → Past
-past_of to end [] = Past.To (record { at = to; end = end; more = false })
-past_of to end (b ∷ l) = cond (eqb b 9) (Past.To (record { at = to + 1; end = end; more = true })) Past.Wrong
+unfoldable pub past_of : ℕ → ℕ → Bytes → code.Option Cursor
+past_of to end [] = Some (record { at = to; end = end; more = false })
+past_of to end (b ∷ l) = cond (eqb b 9) (Some (record { at = to + 1; end = end; more = true })) None
 
-unfoldable pub past_tab : Bytes → ℕ → ℕ → Past
+unfoldable pub past_tab : Bytes → ℕ → ℕ → code.Option Cursor
 past_tab s to end = past_of to end (part s to end)
 
 -- a part and the cursor behind it
-unfoldable pub with_past : ℕ → ℕ → Past → Part
-with_past from to (Past.To c) = Part.Is from to c
-with_past from to Past.Wrong = Part.Wrong
+unfoldable pub with_past : ℕ → ℕ → code.Option Cursor → code.Option Part
+with_past from to (Some c) = Some (record { from = from; to = to; rest = c })
+with_past from to None = None
 
 -- the cursor's next field, if there is one, if it ends at `to`, and if it has 1 to max bytes
-unfoldable pub closed_at : Bytes → Cursor → ℕ → ℕ → Part
+unfoldable pub closed_at : Bytes → Cursor → ℕ → ℕ → code.Option Part
 closed_at s c to max =
-    cond c.more (cond (between 1 max (to - c.at)) (with_past c.at to (past_tab s to c.end)) Part.Wrong) Part.Wrong
+    cond c.more (cond (between 1 max (to - c.at)) (with_past c.at to (past_tab s to c.end)) None) None
 
 -- the places of a part are those of its bytes: as many as lie between them
-unfoldable pub Exact : Bytes → Part → Type 0
-Exact s (Part.Is from to c) = (from ≤ to) × (length (part s from to) ≡ to - from)
-Exact s Part.Wrong = Unit {0}
+unfoldable pub Exact : Bytes → code.Option Part → Type 0
+Exact s (Some p) = (p.from ≤ p.to) × (length (part s p.from p.to) ≡ p.to - p.from)
+Exact s None = Unit {0}
 
 -- a field of 1 to max bytes that all pass the test
 unfoldable pub run_read : (ℕ → Bool) → ℕ → Bytes → Option Bytes
@@ -76,9 +80,9 @@ run_read p max b = when (sized max b && every p b) b
 -- ---- numbers
 
 -- v with one more digit, if the byte is one and the number stays at most max
-unfoldable pub pushed : ℕ → ℕ → ℕ → Digit
+unfoldable pub pushed : ℕ → ℕ → ℕ → code.Option ℕ
 pushed v b max =
-    cond (is_digit b) (cond (leb (v * 10 + (b - 48)) max) (Digit.Next (v * 10 + (b - 48))) Digit.Wrong) Digit.Wrong
+    cond (is_digit b) (cond (leb (v * 10 + (b - 48)) max) (Some (v * 10 + (b - 48))) None) None
 
 -- the number of digits after those that stand for v, if it is at most max
 unfoldable pub digits_read : ℕ → ℕ → Bytes → Option ℕ

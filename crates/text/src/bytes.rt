@@ -1,35 +1,11 @@
-// Tests of one byte, and of two tests.
-ghost use Rattle.std.specs.Prelude.{◌≡◌, ◌&&◌, ◌||◌, eqb};
+// Tests of one byte.
+ghost use Rattle.std.specs.Prelude.{◌≡◌};
 ghost use Rattle.text.specs.Bytes.{between, is_digit, is_name_byte};
-
-pub fn wide(x: u8) -> u64
-    ensures { result ≡ x }
-{
-    x as u64
-}
-
-pub fn or(a: bool, b: bool) -> bool
-    ensures { result ≡ (a || b) }
-{
-    if a { true } else { b }
-}
-
-pub fn both(a: bool, b: bool) -> bool
-    ensures { result ≡ (a && b) }
-{
-    if a { b } else { false }
-}
-
-pub fn is(a: u64, b: u64) -> bool
-    ensures { result ≡ eqb a b }
-{
-    a == b
-}
 
 pub fn within(low: u64, high: u64, b: u64) -> bool
     ensures { result ≡ between low high b }
 {
-    if low <= b { b <= high } else { false }
+    low <= b && b <= high
 }
 
 pub fn digit(b: u64) -> bool

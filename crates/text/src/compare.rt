@@ -3,9 +3,8 @@ ghost use Rattle.std.specs.Prelude.{◌≡◌, ◌+◌, ◌≤◌, ◌<◌, leng
 ghost use Rattle.text.specs.Bytes.{same_bytes};
 ghost use Rattle.text.specs.Compare.{fours, four_of, DifferFour, order_of};
 
-use crate::Order;
-use crate::bytes::wide;
 use crate::scan::stop;
+use std::cmp::Ordering;
 
 // ---- four bytes
 
@@ -15,10 +14,10 @@ pub fn four(s: &[u8], i: usize) -> u64
     ensures value { result ≡ four_of (get_or s.now i 0) (get_or s.now (i + 1) 0) (get_or s.now (i + 2) 0) (get_or s.now (i + 3) 0) }
     ensures upper_bound { result < fours }
 {
-    let a = wide(s[i]);
-    let b = wide(s[i + 1]);
-    let c = wide(s[i + 2]);
-    let d = wide(s[i + 3]);
+    let a = u64::from(s[i]);
+    let b = u64::from(s[i + 1]);
+    let c = u64::from(s[i + 2]);
+    let d = u64::from(s[i + 3]);
     a * 16_777_216 + b * 65_536 + c * 256 + d
 }
 
@@ -38,19 +37,7 @@ fn same_short(a: &[u8], b: &[u8]) -> bool
     ensures { result ≡ same_bytes a.now b.now }
 {
     let n = a.len();
-    if n == 0 {
-        return true;
-    }
-    if a[0] != b[0] {
-        return false;
-    }
-    if a[n / 2] != b[n / 2] {
-        return false;
-    }
-    if a[n - 1] != b[n - 1] {
-        return false;
-    }
-    true
+    n == 0 || (a[0] == b[0] && a[n / 2] == b[n / 2] && a[n - 1] == b[n - 1])
 }
 
 // Texts of one length: the last four bytes first, then four bytes a turn from the front, up to those.
@@ -66,12 +53,10 @@ fn same_bytes(a: &[u8], b: &[u8]) -> bool
     if differ_four(a, b, last) {
         return false;
     }
-    let mut i: usize = 0;
-    while i < last {
+    for i in (0..last).step_by(4) {
         if differ_four(a, b, i) {
             return false;
         }
-        i += 4;
     }
     true
 }
@@ -81,44 +66,11 @@ pub fn same(a: &[u8], b: &[u8]) -> bool
     ensures { result ≡ same_bytes a.now b.now }
 {
     let n = a.len();
-    if n != b.len() {
-        return false;
-    }
-    if n == 0 {
-        return true;
-    }
-    if a[n - 1] != b[n - 1] {
-        return false;
-    }
-    same_bytes(a, b)
+    n == b.len() && (n == 0 || (a[n - 1] == b[n - 1] && same_bytes(a, b)))
 }
 
-// The order of what stands from a place on, byte by byte.
-fn order_each(a: &[u8], b: &[u8], at: usize) -> Order
-    ensures { result ≡ order_of (drop at a.now) (drop at b.now) }
-{
-    let mut i = at;
-    while i < a.len() {
-        if b.len() <= i {
-            return Order::Greater;
-        }
-        if a[i] < b[i] {
-            return Order::Less;
-        }
-        if b[i] < a[i] {
-            return Order::Greater;
-        }
-        i += 1;
-    }
-    if i < b.len() {
-        Order::Less
-    } else {
-        Order::Equal
-    }
-}
-
-// Four bytes a turn, whose numbers are in the order of the bytes, while both have four.
-pub fn order(a: &[u8], b: &[u8]) -> Order
+// Four bytes a turn, whose numbers are in the order of the bytes, while both have four. By a while, since what is left begins where it ends.
+pub fn order(a: &[u8], b: &[u8]) -> Ordering
     ensures { result ≡ order_of a.now b.now }
 {
     let n = stop(a, b.len());
@@ -127,14 +79,14 @@ pub fn order(a: &[u8], b: &[u8]) -> Order
         let x = four(a, i);
         let y = four(b, i);
         if x < y {
-            return Order::Less;
+            return Ordering::Less;
         }
         if y < x {
-            return Order::Greater;
+            return Ordering::Greater;
         }
         i += 4;
     }
-    order_each(a, b, i)
+    a[i..].cmp(&b[i..])
 }
 
 // ---- parts
@@ -143,15 +95,9 @@ pub fn order(a: &[u8], b: &[u8]) -> Order
 pub fn span(s: &[u8], at: usize, n: usize) -> &[u8]
     ensures { result.now ≡ take n (drop at s.now) }
 {
-    if s.len() <= at {
-        return &s[..0];
-    }
-    if n < s.len() - at {
-        let end = at + n;
-        &s[at..end]
-    } else {
-        &s[at..]
-    }
+    let from = at.min(s.len());
+    let end = from + n.min(s.len() - from);
+    &s[from..end]
 }
 
 // The lengths come first, so that parts of different lengths are told apart without a call.
@@ -160,10 +106,7 @@ pub fn same_across(s: &[u8], a: usize, an: usize, t: &[u8], b: usize, bn: usize)
 {
     let x = span(s, a, an);
     let y = span(t, b, bn);
-    if x.len() != y.len() {
-        return false;
-    }
-    same(x, y)
+    x.len() == y.len() && same(x, y)
 }
 
 pub fn same_part(s: &[u8], a: usize, an: usize, b: usize, bn: usize) -> bool
@@ -172,7 +115,7 @@ pub fn same_part(s: &[u8], a: usize, an: usize, b: usize, bn: usize) -> bool
     same_across(s, a, an, s, b, bn)
 }
 
-pub fn compare_part(s: &[u8], a: usize, an: usize, b: usize, bn: usize) -> Order
+pub fn compare_part(s: &[u8], a: usize, an: usize, b: usize, bn: usize) -> Ordering
     ensures { result ≡ order_of (take an (drop a s.now)) (take bn (drop b s.now)) }
 {
     order(span(s, a, an), span(s, b, bn))

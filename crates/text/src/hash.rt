@@ -3,7 +3,6 @@ ghost use Rattle.std.specs.Prelude.{◌≡◌, ◌<◌, drop};
 ghost use Rattle.objects.specs.Rows.{member_at};
 ghost use Rattle.text.specs.Hash.{hashes, hash_rest, hash_from};
 
-use crate::bytes::wide;
 use crate::compare::{four, span};
 use objects::ObjKey;
 use objects::rows::member_word;
@@ -18,14 +17,13 @@ fn hash_rest(name: &[u8], at: usize, before: u64) -> u64
     ensures upper_bound { result < hashes }
 {
     let mut h = before;
-    let mut i = at;
-    while i < name.len() {
-        h = (h + wide(name[i])) * 1_103_515 % HASHES;
-        i += 1;
+    for i in at..name.len() {
+        h = (h + u64::from(name[i])) * 1_103_515 % HASHES;
     }
     h
 }
 
+// By a while, since what is left begins where it ends.
 pub fn hash(name: &[u8]) -> u64
     ensures value { result ≡ hash_from 0 name.now }
     ensures upper_bound { result < hashes }

@@ -8,7 +8,7 @@ pub mod hash;
 pub mod numbers;
 pub mod scan;
 
-ghost use Rattle.std.specs.Prelude.{◌≡◌, not, true};
+ghost use Rattle.std.specs.Prelude.{◌≡◌, not, true, false};
 ghost use Rattle.std.proofs.Math.Option.{some};
 ghost use Rattle.objects.specs.Lists.{when};
 ghost use Rattle.text.specs.Bytes.{is_name, is_path, is_tag, number};
@@ -28,36 +28,10 @@ pub struct Cursor {
 
 // A field's bytes, from one place up to another, and the cursor behind it.
 #[derive(Clone, Copy)]
-pub enum Part {
-    Is(usize, usize, Cursor),
-    Wrong,
-}
-
-#[derive(Clone, Copy)]
-pub enum Num {
-    Value(u64, Cursor),
-    Wrong,
-}
-
-#[derive(Clone, Copy)]
-pub enum Past {
-    To(Cursor),
-    Wrong,
-}
-
-// A number that took one more digit.
-#[derive(Clone, Copy)]
-pub enum Digit {
-    Next(u64),
-    Wrong,
-}
-
-// How a text stands to another, by their bytes.
-#[derive(Clone, Copy)]
-pub enum Order {
-    Less,
-    Equal,
-    Greater,
+pub struct Part {
+    pub from: usize,
+    pub to: usize,
+    pub rest: Cursor,
 }
 
 impl Cursor {
@@ -72,6 +46,17 @@ impl Cursor {
         }
     }
 
+    // Behind the last field of a line.
+    pub fn ended(at: usize, end: usize) -> Cursor
+        ensures { result ≡ record { at = at; end = end; more = false } }
+    {
+        Cursor {
+            at,
+            end,
+            more: false,
+        }
+    }
+
     // Whether no field is left.
     pub fn done(self) -> bool
         ensures { result ≡ not self.more }
@@ -79,115 +64,87 @@ impl Cursor {
         !self.more
     }
 
-    pub fn field(self, s: &[u8]) -> Part
+    pub fn field(self, s: &[u8]) -> Option<Part>
         ensures result_value { part_read s.now result ≡ field some (fields_left s.now self) }
         ensures exact { Exact s.now result }
     {
-        let at = self.at;
-        let end = self.end;
-        let more = self.more;
-        if more {
-            let to = scan::until(s, at, end, 9);
-            match scan::behind(s, to, end) {
-                Past::To(c) => Part::Is(at, to, c),
-                Past::Wrong => Part::Wrong,
-            }
-        } else {
-            Part::Wrong
+        if !self.more {
+            return None;
         }
+        let to = scan::until(s, self.at, self.end, 9);
+        let rest = scan::behind(s, to, self.end)?;
+        Some(Part {
+            from: self.at,
+            to,
+            rest,
+        })
     }
 
-    pub fn number(self, s: &[u8], max: u64) -> Num
+    pub fn number(self, s: &[u8], max: u64) -> Option<(u64, Cursor)>
         ensures { num_read s.now result ≡ field (number max) (fields_left s.now self) }
     {
-        let at = self.at;
-        let end = self.end;
-        let more = self.more;
-        if more {
-            numbers::number_at(s, at, end, max)
-        } else {
-            Num::Wrong
+        if !self.more {
+            return None;
         }
+        numbers::number_at(s, self.at, self.end, max)
     }
 
     // The next field, if it ends at `to` and has 1 to max bytes.
-    fn closed(self, s: &[u8], to: usize, max: usize) -> Part
+    fn closed(self, s: &[u8], to: usize, max: usize) -> Option<Part>
         ensures { result ≡ closed_at s.now self to max }
     {
-        let at = self.at;
-        let end = self.end;
-        let more = self.more;
-        if more {
-            if to <= at {
-                return Part::Wrong;
-            }
-            if max < to - at {
-                return Part::Wrong;
-            }
-            match scan::behind(s, to, end) {
-                Past::To(c) => Part::Is(at, to, c),
-                Past::Wrong => Part::Wrong,
-            }
-        } else {
-            Part::Wrong
+        if !self.more || to <= self.at || max < to - self.at {
+            return None;
         }
+        let rest = scan::behind(s, to, self.end)?;
+        Some(Part {
+            from: self.at,
+            to,
+            rest,
+        })
     }
 
-    pub fn name(self, s: &[u8]) -> Part
+    pub fn name(self, s: &[u8]) -> Option<Part>
         ensures result_value { part_read s.now result ≡ field (λ b. when (is_name b) b) (fields_left s.now self) }
         ensures exact { Exact s.now result }
     {
-        let at = self.at;
-        let end = self.end;
-        let stop = scan::name_end(s, at, end);
-        let Part::Is(from, to, c) = self.closed(s, stop, MAX_NAME) else {
-            return Part::Wrong;
-        };
-        if bytes::digit(bytes::wide(s[from])) {
-            Part::Wrong
+        let stop = scan::name_end(s, self.at, self.end);
+        let p = self.closed(s, stop, MAX_NAME)?;
+        if bytes::digit(u64::from(s[p.from])) {
+            None
         } else {
-            Part::Is(from, to, c)
+            Some(p)
         }
     }
 
-    pub fn path(self, s: &[u8]) -> Part
+    pub fn path(self, s: &[u8]) -> Option<Part>
         ensures result_value { part_read s.now result ≡ field (λ b. when (is_path b) b) (fields_left s.now self) }
         ensures exact { Exact s.now result }
     {
-        let at = self.at;
-        let end = self.end;
-        let stop = scan::plain_end(s, at, end, 33);
-        let Part::Is(from, to, c) = self.closed(s, stop, MAX_PATH) else {
-            return Part::Wrong;
-        };
-        if scan::blank(s, from, to) {
-            Part::Wrong
+        let stop = scan::plain_end(s, self.at, self.end, 33);
+        let p = self.closed(s, stop, MAX_PATH)?;
+        if scan::blank(s, p.from, p.to) {
+            None
         } else {
-            Part::Is(from, to, c)
+            Some(p)
         }
     }
 
-    pub fn tag(self, s: &[u8]) -> Part
+    pub fn tag(self, s: &[u8]) -> Option<Part>
         ensures result_value { part_read s.now result ≡ field (λ b. when (is_tag b) b) (fields_left s.now self) }
         ensures exact { Exact s.now result }
     {
-        let at = self.at;
-        let end = self.end;
-        let stop = scan::plain_end(s, at, end, 32);
+        let stop = scan::plain_end(s, self.at, self.end, 32);
         self.closed(s, stop, MAX_TAG)
     }
 
     // The fixed word w, which must be the whole field.
-    pub fn word(self, s: &[u8], w: &[u8]) -> Past
+    pub fn word(self, s: &[u8], w: &[u8]) -> Option<Cursor>
         ensures { past_read s.now result ≡ exactly w.now (fields_left s.now self) }
     {
-        let at = self.at;
-        let end = self.end;
-        let more = self.more;
-        if more {
-            scan::word_at(s, at, end, w)
-        } else {
-            Past::Wrong
+        if !self.more {
+            return None;
         }
+        scan::word_at(s, self.at, self.end, w)
     }
 }

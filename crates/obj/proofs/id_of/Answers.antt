@@ -6,10 +6,10 @@ pub returns-then-exported : goal.returns-then-exported
 returns-then-exported c =
     id-name _ _ _ c.member_word-name.ensures c.member_word-len.ensures c.exported.ensures c.if-exported.true
 
-pub returns-in-Absent : goal.returns-in-Absent
-returns-in-Absent c =
-    id-none _ _ _ c.member_word-name.ensures c.member_word-len.ensures c.exported.ensures c.if-exported.false c.member_package.ensures c.in-Absent.is
+pub returns-in-None : goal.returns-in-None
+returns-in-None c =
+    id-none _ _ _ c.member_word-name.ensures c.member_word-len.ensures c.exported.ensures c.if-exported.false c.member_package.ensures c.in-None.is
 
-pub returns-in-Is : goal.returns-in-Is
-returns-in-Is c =
-    id-path _ _ _ c.member_word-name.ensures c.member_word-len.ensures c.exported.ensures c.if-exported.false c.member_package.ensures c.requires c.in-Is.is c.package_word-path.ensures c.package_word-path_len.ensures
+pub returns-in-Some : goal.returns-in-Some
+returns-in-Some c =
+    id-path _ _ _ c.member_word-name.ensures c.member_word-len.ensures c.exported.ensures c.if-exported.false c.member_package.ensures c.requires c.in-Some.is c.package_word.ensures c.package_word-in-Some.ensures

@@ -1,6 +1,5 @@
--- `obj::order_parts` meets its contract. The invariant: the order of the ids is their order from `i` on. The measure is what is left of the first.
+-- `obj::order_parts` meets its contract. The invariant: the order of the ids is their order from `i` on.
 use mathlib.Core.Path.{◌≡◌}
-use Prim.Native.Nat.{◌-◌}
 use lib.ListN.{drop}
 use Rattle.text.specs.Compare.{order_of}
 use Rattle.obj.specs.Ids.{joined}
@@ -9,6 +8,3 @@ use Rattle.obj.proofs.order_parts.Given as goal
 abbrev pub invariant-loop-i : goal.invariant-loop-i
 invariant-loop-i l =
     order_of (joined l.f l.p l.a) (joined l.g l.q l.b) ≡ order_of (drop l.i (joined l.f l.p l.a)) (drop l.i (joined l.g l.q l.b))
-
-abbrev pub decreases-loop-i : goal.decreases-loop-i
-decreases-loop-i l = l.n - l.i

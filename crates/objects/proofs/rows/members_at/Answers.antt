@@ -1,11 +1,7 @@
-use Rattle.std.proofs.Common.{rules}
+use Rattle.std.proofs.Common.{arith}
 use Rattle.objects.specs.Bounds.{members_at}
 use Rattle.objects.proofs.rows.members_at.Goals as goal
 
-pub returns-then-half-lt-TYPES_END : goal.returns-then-half-lt-TYPES_END
+pub returns-clause-value : goal.returns-clause-value
 unfolding members_at
-returns-then-half-lt-TYPES_END c = search rules
-
-pub returns-else-half-lt-TYPES_END : goal.returns-else-half-lt-TYPES_END
-unfolding members_at
-returns-else-half-lt-TYPES_END c = search rules
+returns-clause-value c = omega (arith, c.min.ensures)

@@ -1,41 +1,24 @@
-use mathlib.Core.Path.{◌≡◌}
-use Prim.Native.Nat.{suc, ◌+◌}
+-- `objects::writers::put_row` meets its contract: what `copy_from_slice` leaves is `sets`.
+use mathlib.Core.Path.{◌≡◌, sym, ap, refl, ◌∙◌}
+use mathlib.Core.List.{List, ◌++◌}
+use Prim.Native.Nat.{ℕ, ◌+◌, ◌-◌, ◌≤◌}
 use native.Mathlib.Omega.{arith}
-use lib.ListN.{length-set}
+use lib.ListN.{length, take, drop, length-take, length-drop}
+use borrow.Rule.Slice.PartMut.{put_mid}
+use Rattle.std.proofs.lemmas.List.{take_all}
+use Rattle.std.proofs.lemmas.List.Edits.{sets, sets-eq}
+use Rattle.std.proofs.lemmas.Slice.{put_mid-paste}
 use Rattle.objects.proofs.writers.put_row.Goals as goal
 
-pub bounds-rows-at-2 : goal.bounds-rows-at-2
-bounds-rows-at-2 c = simp length-set (omega arith)
-
-pub bounds-rows-at-3 : goal.bounds-rows-at-3
-bounds-rows-at-3 c = simp length-set (omega arith)
-
-pub bounds-rows-at-4 : goal.bounds-rows-at-4
-bounds-rows-at-4 c = simp length-set (omega arith)
-
-pub bounds-rows-at-5 : goal.bounds-rows-at-5
-bounds-rows-at-5 c = simp length-set (omega arith)
-
-pub bounds-rows-at-6 : goal.bounds-rows-at-6
-bounds-rows-at-6 c = simp length-set (omega arith)
-
-pub bounds-rows-at-7 : goal.bounds-rows-at-7
-bounds-rows-at-7 c = simp length-set (omega arith)
-
-pub bounds-rows-at-8 : goal.bounds-rows-at-8
-bounds-rows-at-8 c = simp length-set (omega arith)
-
-pub shape_of-rows : goal.shape_of-rows
-shape_of-rows c = simp length-set
+copied-sets : (rows row new : List ℕ) (at k : ℕ) → new ≡ row → length row ≡ k → at + k ≤ length rows → put_mid at k rows new ≡ sets rows at row
+copied-sets rows row new at k e size room =
+    let h : at + length row ≤ length rows = omega arith in
+    let whole : take (length row) row ≡ row = take_all (length row) row (omega arith) in
+    put_mid-paste at k rows new row (length row) e size refl ∙ sym (sets-eq row rows at h ∙ ap (λ x. (take at rows ++ x) ++ drop (at + length row) rows) (sym whole))
 
 pub returns : goal.returns
-returns c =
-    let at = c.args.at in
-    let e1 : at + 1 ≡ suc at = omega arith in
-    let e2 : at + 2 ≡ suc (suc at) = omega arith in
-    let e3 : at + 3 ≡ suc (suc (suc at)) = omega arith in
-    let e4 : at + 4 ≡ suc (suc (suc (suc at))) = omega arith in
-    let e5 : at + 5 ≡ suc (suc (suc (suc (suc at)))) = omega arith in
-    let e6 : at + 6 ≡ suc (suc (suc (suc (suc (suc at))))) = omega arith in
-    let e7 : at + 7 ≡ suc (suc (suc (suc (suc (suc (suc at)))))) = omega arith in
-    rw (e1, e2, e3, e4, e5, e6, e7)
+returns g c =
+    let k : c.args.at + g.row.WORDS - c.args.at ≡ g.row.WORDS = omega arith in
+    let l : length c.args.row ≡ length (take (c.args.at + g.row.WORDS - c.args.at) (drop c.args.at c.args.rows.now)) = sym (ap length c.copy_from_slice.ensures.after) ∙ c.copy_from_slice.ensures.len in
+    let h : length c.args.row ≡ g.row.WORDS = l ∙ simp (length-take, length-drop) (omega arith) in
+    rw k (copied-sets c.args.rows.now c.args.row c.copy_from_slice.new.self c.args.at g.row.WORDS c.copy_from_slice.ensures.after h c.requires)

@@ -27,31 +27,31 @@ bounds-s-i-4 c = omega (arith, c.requires)
 
 pub overflow_mul-result : goal.overflow_mul-result
 overflow_mul-result c =
-    omega (arith, (c.type_inv.s c.args.i).fits, (c.type_inv.s (c.args.i + 1)).fits, (c.type_inv.s (c.args.i + 2)).fits, (c.type_inv.s (c.args.i + 3)).fits, c.wide-a.ensures, c.wide-b.ensures, c.wide-c.ensures, c.wide-d.ensures)
+    omega (arith, (c.type_inv.s c.args.i).fits, (c.type_inv.s (c.args.i + 1)).fits, (c.type_inv.s (c.args.i + 2)).fits, (c.type_inv.s (c.args.i + 3)).fits, c.from-a.ensures, c.from-b.ensures, c.from-c.ensures, c.from-d.ensures)
 
 pub overflow_mul-result-2 : goal.overflow_mul-result-2
 overflow_mul-result-2 c =
-    omega (arith, (c.type_inv.s c.args.i).fits, (c.type_inv.s (c.args.i + 1)).fits, (c.type_inv.s (c.args.i + 2)).fits, (c.type_inv.s (c.args.i + 3)).fits, c.wide-a.ensures, c.wide-b.ensures, c.wide-c.ensures, c.wide-d.ensures)
+    omega (arith, (c.type_inv.s c.args.i).fits, (c.type_inv.s (c.args.i + 1)).fits, (c.type_inv.s (c.args.i + 2)).fits, (c.type_inv.s (c.args.i + 3)).fits, c.from-a.ensures, c.from-b.ensures, c.from-c.ensures, c.from-d.ensures)
 
 pub overflow_add-result : goal.overflow_add-result
 overflow_add-result c =
-    omega (arith, (c.type_inv.s c.args.i).fits, (c.type_inv.s (c.args.i + 1)).fits, (c.type_inv.s (c.args.i + 2)).fits, (c.type_inv.s (c.args.i + 3)).fits, c.wide-a.ensures, c.wide-b.ensures, c.wide-c.ensures, c.wide-d.ensures)
+    omega (arith, (c.type_inv.s c.args.i).fits, (c.type_inv.s (c.args.i + 1)).fits, (c.type_inv.s (c.args.i + 2)).fits, (c.type_inv.s (c.args.i + 3)).fits, c.from-a.ensures, c.from-b.ensures, c.from-c.ensures, c.from-d.ensures)
 
 pub overflow_mul-result-3 : goal.overflow_mul-result-3
 overflow_mul-result-3 c =
-    omega (arith, (c.type_inv.s c.args.i).fits, (c.type_inv.s (c.args.i + 1)).fits, (c.type_inv.s (c.args.i + 2)).fits, (c.type_inv.s (c.args.i + 3)).fits, c.wide-a.ensures, c.wide-b.ensures, c.wide-c.ensures, c.wide-d.ensures)
+    omega (arith, (c.type_inv.s c.args.i).fits, (c.type_inv.s (c.args.i + 1)).fits, (c.type_inv.s (c.args.i + 2)).fits, (c.type_inv.s (c.args.i + 3)).fits, c.from-a.ensures, c.from-b.ensures, c.from-c.ensures, c.from-d.ensures)
 
 pub overflow_add-result-2 : goal.overflow_add-result-2
 overflow_add-result-2 c =
-    omega (arith, (c.type_inv.s c.args.i).fits, (c.type_inv.s (c.args.i + 1)).fits, (c.type_inv.s (c.args.i + 2)).fits, (c.type_inv.s (c.args.i + 3)).fits, c.wide-a.ensures, c.wide-b.ensures, c.wide-c.ensures, c.wide-d.ensures)
+    omega (arith, (c.type_inv.s c.args.i).fits, (c.type_inv.s (c.args.i + 1)).fits, (c.type_inv.s (c.args.i + 2)).fits, (c.type_inv.s (c.args.i + 3)).fits, c.from-a.ensures, c.from-b.ensures, c.from-c.ensures, c.from-d.ensures)
 
 pub overflow_add-result-3 : goal.overflow_add-result-3
 overflow_add-result-3 c =
-    omega (arith, (c.type_inv.s c.args.i).fits, (c.type_inv.s (c.args.i + 1)).fits, (c.type_inv.s (c.args.i + 2)).fits, (c.type_inv.s (c.args.i + 3)).fits, c.wide-a.ensures, c.wide-b.ensures, c.wide-c.ensures, c.wide-d.ensures)
+    omega (arith, (c.type_inv.s c.args.i).fits, (c.type_inv.s (c.args.i + 1)).fits, (c.type_inv.s (c.args.i + 2)).fits, (c.type_inv.s (c.args.i + 3)).fits, c.from-a.ensures, c.from-b.ensures, c.from-c.ensures, c.from-d.ensures)
 
 pub returns : goal.returns
 returns c =
     record {
-      value = four_is _ _ _ _ c.wide-a.ensures c.wide-b.ensures c.wide-c.ensures c.wide-d.ensures;
-      upper_bound = omega (arith, (c.type_inv.s c.args.i).fits, (c.type_inv.s (c.args.i + 1)).fits, (c.type_inv.s (c.args.i + 2)).fits, (c.type_inv.s (c.args.i + 3)).fits, c.wide-a.ensures, c.wide-b.ensures, c.wide-c.ensures, c.wide-d.ensures);
+      value = four_is _ _ _ _ c.from-a.ensures c.from-b.ensures c.from-c.ensures c.from-d.ensures;
+      upper_bound = omega (arith, (c.type_inv.s c.args.i).fits, (c.type_inv.s (c.args.i + 1)).fits, (c.type_inv.s (c.args.i + 2)).fits, (c.type_inv.s (c.args.i + 3)).fits, c.from-a.ensures, c.from-b.ensures, c.from-c.ensures, c.from-d.ensures);
     }

@@ -1,5 +1,6 @@
 -- `text::compare::same-bytes` meets its contract. The invariant: the bytes before `i` are alike. The measure is what is left up to the last four.
 use mathlib.Core.Path.{sym}
+use Prim.Native.Nat.{◌+◌}
 use native.Mathlib.Omega.{arith}
 use Rattle.text.proofs.CompareLaws.{same-joined, alike-more}
 use Rattle.text.proofs.compare.same_bytes.Goals as goal
@@ -26,16 +27,15 @@ differ_four-requires-in-loop-i c =
 pub returns-then-differ_four-2 : goal.returns-then-differ_four-2
 returns-then-differ_four-2 c = sym (c.differ_four-in-loop-i.ensures.yes c.if-differ_four-2.true)
 
-pub overflow_add-i : goal.overflow_add-i
-overflow_add-i c = omega (arith, c.if-n-lt4.false, c.loop-i-test.true)
-
-pub loop-i-smaller : goal.loop-i-smaller
-loop-i-smaller c = omega (arith, c.loop-i-test.true)
-
 pub loop-i-preserved : goal.loop-i-preserved
 loop-i-preserved c =
     alike-more c.args.a.now c.args.b.now c.loop-i.i c.loop-i.invariant (c.differ_four-in-loop-i.ensures.no c.if-differ_four-2.false)
 
-pub returns : goal.returns
-returns c =
+pub returns-else-differ_four : goal.returns-else-differ_four
+returns-else-differ_four c =
     sym (same-joined c.args.a.now c.args.b.now c.requires c.loop-i.i c.loop-i.invariant c.loop-i-test.false (c.differ_four.ensures.no c.if-differ_four.false))
+
+pub returns-else-differ_four-2 : goal.returns-else-differ_four-2
+returns-else-differ_four-2 c =
+    let alike = alike-more c.args.a.now c.args.b.now c.loop-i.i c.loop-i.invariant (c.differ_four-in-loop-i.ensures.no c.if-differ_four-2.false) in
+    sym (same-joined c.args.a.now c.args.b.now c.requires (c.loop-i.i + 4) alike (omega arith) (c.differ_four.ensures.no c.if-differ_four.false))

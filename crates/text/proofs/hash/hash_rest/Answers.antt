@@ -15,7 +15,7 @@ overflow_mul-h c = omega (arith, (c.type_inv.name c.loop-i.i).fits)
 
 pub loop-i-preserved : goal.loop-i-preserved
 loop-i-preserved c =
-    (c.loop-i.invariant.0 ∙ rest-next c.args.name.now c.loop-i.h c.loop-i.i c.loop-i-test.true c.wide.ensures, omega arith)
+    (c.loop-i.invariant.0 ∙ rest-next c.args.name.now c.loop-i.h c.loop-i.i c.loop-i-test.true c.from.ensures, omega arith)
 
 pub returns : goal.returns
 returns c =

@@ -4,21 +4,19 @@ use native.Mathlib.Omega.{arith}
 use Prim.Native.Nat.{◌+◌, ◌-◌, ◌*◌, ◌≤◌, ◌<◌}
 use Rattle.text.specs.Runs.{pushed}
 use Rattle.text.proofs.numbers.push.Goals as goal
+use Rattle.text.proofs.numbers.push.Goals.{then-b-lt48-via-then-b-lt48, then-b-lt48-via-else-b-lt48+then-b-gt57, then-b-lt48-via-else-b-lt48+else-b-gt57+then-max-v}
 
 pub returns-then-b-lt48 : goal.returns-then-b-lt48
 unfolding pushed
-returns-then-b-lt48 c = simp (lt-leb _ _ c.if-b-lt48.true)
-
-pub returns-then-b-gt57 : goal.returns-then-b-gt57
-unfolding pushed
-returns-then-b-gt57 c = simp (le-leb _ _ c.if-b-lt48.false, lt-leb _ _ c.if-b-gt57.true)
-
-pub returns-then-max-v : goal.returns-then-max-v
-unfolding pushed
-returns-then-max-v c =
-    let a = c.args in
-    let h : a.max < a.v * 10 + (a.b - 48) = omega arith in
-    simp (le-leb _ _ c.if-b-lt48.false, le-leb _ _ c.if-b-gt57.false, lt-leb _ _ h)
+returns-then-b-lt48 c =
+    elim c.then-b-lt48.branch [
+      | then-b-lt48-via-then-b-lt48 w ↦ simp (lt-leb _ _ w.if-b-lt48.true)
+      | then-b-lt48-via-else-b-lt48+then-b-gt57 w ↦ simp (le-leb _ _ w.if-b-lt48.false, lt-leb _ _ w.if-b-gt57.true)
+      | then-b-lt48-via-else-b-lt48+else-b-gt57+then-max-v w ↦
+          let a = c.args in
+          let h : a.max < a.v * 10 + (a.b - 48) = omega arith in
+          simp (le-leb _ _ w.if-b-lt48.false, le-leb _ _ w.if-b-gt57.false, lt-leb _ _ h)
+    ]
 
 pub returns-then-max-t : goal.returns-then-max-t
 unfolding pushed

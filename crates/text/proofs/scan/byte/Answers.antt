@@ -7,7 +7,7 @@ pub bounds-s-at : goal.bounds-s-at
 bounds-s-at c = (stop-in _ _ _ c.stop.ensures c.if-at-stop.true).1
 
 pub returns-then-at-stop : goal.returns-then-at-stop
-returns-then-at-stop c = c.wide.ensures ∙ sym (byte-is _ _ _ c.stop.ensures c.if-at-stop.true)
+returns-then-at-stop c = c.from.ensures ∙ sym (byte-is _ _ _ c.stop.ensures c.if-at-stop.true)
 
 pub returns-else-at-stop : goal.returns-else-at-stop
 returns-else-at-stop c = sym (byte-none _ _ _ c.stop.ensures c.if-at-stop.false)

@@ -1,27 +1,21 @@
--- `text::scan::name_end` meets its contract. The invariant: the run from the start ends where the run from `i` ends. The measure is what is left up to `stop`.
-use mathlib.Core.Path.{sym, ◌∙◌}
-use Rattle.text.proofs.PartLaws.{stop-in}
-use Rattle.text.proofs.RunLaws.{run-done, run-next, run-stop}
+-- `text::scan::name_end` meets its contract: the run that a newline ends, or the run up to the end.
+use mathlib.Core.Path.{refl}
+use borrow.Author.Tests.{eq-eqb}
+use Rattle.text.specs.Bytes.{is_name_byte}
 use Rattle.text.proofs.NameLaws.{newline-ended, newline-end}
+use Rattle.std.proofs.Common.{rules}
 use Rattle.text.proofs.scan.name_end.Goals as goal
 
-pub name_end_met-requires : goal.name_end_met-requires
-name_end_met-requires c = newline-ended _ _ _ c.stop-stop.ensures c.if-at-stop.true c.byte.ensures c.is.ensures c.if-is.true
+pub run_met-requires : goal.run_met-requires
+run_met-requires c =
+    record {
+      callable = search rules;
+      ended = (is_name_byte, search rules, newline-ended _ _ _ c.stop-stop.ensures c.if-at-stop.true c.byte.ensures refl (eq-eqb _ _ c.if-byte-eq10.true));
+    }
 
-pub returns-then-is : goal.returns-then-is
-returns-then-is c =
-    newline-end _ _ _ c.stop-stop.ensures c.if-at-stop.true c.byte.ensures c.is.ensures c.if-is.true c.name_end_met.ensures
-
-pub bounds-s-i : goal.bounds-s-i
-bounds-s-i c = (stop-in _ _ _ c.stop-stop.ensures c.loop-i-test.true).1
-
-pub loop-i-preserved : goal.loop-i-preserved
-loop-i-preserved c =
-    c.loop-i.invariant ∙ run-next _ _ _ _ c.stop-stop.ensures c.loop-i-test.true c.wide.ensures (sym c.name_byte.ensures ∙ c.if-name_byte.true)
-
-pub returns-else-name_byte : goal.returns-else-name_byte
-returns-else-name_byte c =
-    sym (c.loop-i.invariant ∙ run-stop _ _ _ _ c.stop-stop.ensures c.loop-i-test.true c.wide.ensures (sym c.name_byte.ensures ∙ c.if-name_byte.false))
+pub returns-then-byte-eq10 : goal.returns-then-byte-eq10
+returns-then-byte-eq10 c =
+    newline-end _ _ _ c.stop-stop.ensures c.if-at-stop.true c.byte.ensures refl (eq-eqb _ _ c.if-byte-eq10.true) (c.run_met.ensures is_name_byte (search rules))
 
 pub returns : goal.returns
-returns c = sym (c.loop-i.invariant ∙ run-done _ _ _ _ c.stop-stop.ensures c.loop-i-test.false)
+returns c = c.run.ensures is_name_byte (search rules)

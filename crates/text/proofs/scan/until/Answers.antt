@@ -3,6 +3,8 @@
 use mathlib.Core.Path.{refl, sym, ◌∙◌}
 use native.Mathlib.Omega.{arith}
 use Rattle.text.proofs.RunLaws.{run-done, stop-short, met-before, met-past}
+use Rattle.std.proofs.Common.{rules}
+use Rattle.text.specs.Runs.{other}
 use Rattle.text.proofs.scan.until.Goals as goal
 
 pub returns-then-stop-at : goal.returns-then-stop-at
@@ -15,13 +17,18 @@ pub met_in_eight-requires : goal.met_in_eight-requires
 met_in_eight-requires c =
     omega (arith, stop-short c.args.s.now c.args.end c.stop-stop.ensures, c.loop-i.invariant.1, c.loop-i-test.true)
 
-pub until_met-requires : goal.until_met-requires
-until_met-requires c =
-    (c.args.end, met-before _ _ _ c.met_in_eight.ensures _ c.stop-stop.ensures c.loop-i.invariant.1 c.loop-i-test.true c.if-met_in_eight.true)
+pub run_met-requires : goal.run_met-requires
+unfolding other
+run_met-requires c =
+    record {
+      callable = search rules;
+      ended = (other c.args.sep, search rules, (c.args.end, met-before _ _ _ c.met_in_eight.ensures _ c.stop-stop.ensures c.loop-i.invariant.1 c.loop-i-test.true c.if-met_in_eight.true));
+    }
 
 pub returns-then-met_in_eight : goal.returns-then-met_in_eight
+unfolding other
 returns-then-met_in_eight c =
-    c.until_met.ensures _ (met-before _ _ _ c.met_in_eight.ensures _ c.stop-stop.ensures c.loop-i.invariant.1 c.loop-i-test.true c.if-met_in_eight.true) ∙ sym c.loop-i.invariant.0
+    c.run_met.ensures (other c.args.sep) (search rules) _ (met-before _ _ _ c.met_in_eight.ensures _ c.stop-stop.ensures c.loop-i.invariant.1 c.loop-i-test.true c.if-met_in_eight.true) ∙ sym c.loop-i.invariant.0
 
 pub loop-i-smaller : goal.loop-i-smaller
 loop-i-smaller c = omega (arith, c.loop-i-test.true)
@@ -31,4 +38,5 @@ loop-i-preserved c =
     (c.loop-i.invariant.0 ∙ met-past _ _ _ c.met_in_eight.ensures _ c.stop-stop.ensures c.loop-i.invariant.1 c.loop-i-test.true c.if-met_in_eight.false, omega (arith, c.loop-i.invariant.1, c.loop-i-test.true))
 
 pub returns : goal.returns
-returns c = c.until_each.ensures ∙ sym c.loop-i.invariant.0
+unfolding other
+returns c = c.run.ensures (other c.args.sep) (search rules) ∙ sym c.loop-i.invariant.0
