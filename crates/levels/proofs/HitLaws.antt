@@ -7,8 +7,9 @@ use Prim.Native.Nat.{ℕ, suc, ◌+◌, ◌-◌, ◌≤◌, ◌<◌}
 use native.Mathlib.Omega.{arith}
 use lib.Dec.{eqb}
 use lib.ListN.{get_or}
+use Rattle.std.specs.declared.option.Option as code
+use Rattle.std.specs.Prelude.{Some, None}
 use Rattle.objects.specs.Lists.{Bytes, In}
-use Rattle.objects.specs.declared.ObjKey.{ObjKey}
 use Rattle.objects.specs.declared.TypeKey.{TypeKey}
 use Rattle.objects.specs.Table.{Table, type_key, size, is_named, is_struct, is_iface, members_of, kind_at, under, fields_of, declared_of, all_methods, all_methods_of}
 use Rattle.objects.specs.Rows.{Words, word_at, member_at, table_of}
@@ -31,7 +32,6 @@ use Rattle.walks.specs.Rows.{Row, walk_at}
 use Rattle.walk_rows.specs.Records.{record_at, row_meant, row_of, rows_of}
 use Rattle.walk_rows.proofs.StateLaws.{rows_at}
 use Rattle.levels.specs.declared.Found.{Found}
-use Rattle.levels.specs.declared.Hit.{Hit}
 use Rattle.levels.specs.Hits.{ways_from, way_to, HitAt, Tells}
 
 -- ---- a type's own members
@@ -108,18 +108,18 @@ module _ (text : Bytes) (rows : Words) (q : Identity) (walk : List Record) (n lo
   unfolding ways_from
   looked-end i h e = h.left ∙ (let z : n - i ≡ 0 = omega arith in rw z)
 
-  module _ (i : ℕ) (h : Looked i) (l : i < n) {t : TypeKey} (read : t ≡ (row_of walk i).type) {r : Own} (own : own_meant text rows r ≡ first (matching T q t)) where
-    pub looked-on : r ≡ Own.Nothing → Looked (i + 1)
+  module _ (i : ℕ) (h : Looked i) (l : i < n) {t : TypeKey} (read : t ≡ (row_of walk i).type) {r : code.Option Own} (own : own_meant text rows r ≡ first (matching T q t)) where
+    pub looked-on : r ≡ None → Looked (i + 1)
     unfolding own_meant
     looked-on nothing =
         let a = h.order.0 in
         let m = first-none (matching T q t) (sym own ∙ ap (own_meant text rows) nothing) in
         record { order = (omega arith, omega arith); left = h.left ∙ ways-skip T q walk n i l read m }
 
-    pub hit-found : Library text rows → {place : ℕ} {m : ObjKey} → r ≡ Own.Found place m → HitAt text rows q walk n lo (record { row = i; place = place; member = m })
+    pub hit-found : Library text rows → {o : Own} → r ≡ Some o → HitAt text rows q walk n lo (record { row = i; place = o.place; member = o.member })
     unfolding own_meant way_to
-    hit-found lib {place} {m} found =
-        let p : Place = record { place = place; member = member_at text rows m } in
+    hit-found lib {o} found =
+        let p : Place = record { place = o.place; member = member_at text rows o.member } in
         let f = sym own ∙ ap (own_meant text rows) found in
         let within = own-typed T (library-sound lib) t p (In-keep (λ x. same_id (identity_of T x.member) q) (owned T t) p (first-in (matching T q t) p f)).0 in
         record {
@@ -127,17 +127,17 @@ module _ (text : Bytes) (rows : Words) (q : Identity) (walk : List Record) (n lo
           left = h.left;
           here = record {
             inside = l;
-            typed = rw (← member-type-meant text rows m, ← size-read text rows) within;
+            typed = rw (← member-type-meant text rows o.member, ← size-read text rows) within;
             ways = λ nb. ways-here T q walk n i l read p (first_one (matching T q t) p (one T (library-sound lib) q t nb) f);
           };
         }
 
   -- ---- what was told
 
-  pub tells-nothing : {r : Hit} → Tells text rows q walk n lo r → r ≡ Hit.Nothing → ways_from T q walk n lo ≡ []
+  pub tells-nothing : {r : code.Option Found} → Tells text rows q walk n lo r → r ≡ None → ways_from T q walk n lo ≡ []
   unfolding Tells
   tells-nothing h e = subst (Tells text rows q walk n lo) e h
 
-  pub tells_at : {r : Hit} {w : Found} → Tells text rows q walk n lo r → r ≡ Hit.At w → HitAt text rows q walk n lo w
+  pub tells_at : {r : code.Option Found} {w : Found} → Tells text rows q walk n lo r → r ≡ Some w → HitAt text rows q walk n lo w
   unfolding Tells
   tells_at h e = subst (Tells text rows q walk n lo) e h

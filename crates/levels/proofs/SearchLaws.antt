@@ -4,6 +4,8 @@ use mathlib.Core.Bool.{Bool}
 use mathlib.Core.List.{List, [], ◌∷◌, map}
 use Prim.Native.Nat.{ℕ, zero, suc, ◌+◌, ◌-◌, ◌≤◌, ◌<◌}
 use native.Mathlib.Omega.{arith}
+use Rattle.std.specs.declared.option.Option as code
+use Rattle.std.specs.Prelude.{Some, None}
 use Rattle.objects.specs.Bounds.{max_places}
 use Rattle.objects.specs.Lists.{Bytes, flat}
 use Rattle.objects.specs.declared.TypeKey.{TypeKey}
@@ -24,7 +26,6 @@ use Rattle.walks.proofs.Loops.{search-kept}
 use Rattle.walk_rows.specs.Records.{rows_of, level_of}
 use Rattle.walk_rows.specs.State.{Enters}
 use Rattle.levels.specs.declared.Found.{Found}
-use Rattle.levels.specs.declared.Hit.{Hit}
 use Rattle.levels.specs.Hits.{ways_from, way_to, HitAt, Tells, Beside, Answers, nothing_found}
 use Rattle.levels.proofs.StageLaws.{below-still, Staged, stage-level, stage-ends, stage-deep, stage-few, staged-below}
 use Rattle.levels.proofs.VerdictLaws.{Verdict, told-judged, told-inside}
@@ -89,10 +90,10 @@ module _ (text : Bytes) (rows : Words) (q : Identity) (t : TypeKey) (f a : Bool)
     going_end e er nb = rw er record { says = sym (sym g.rest ∙ search-still G q a g.left S (stage-ends g.staged e)); fits = omega arith; called = refl; typed = tt }
 
     -- the next row of the level that has the name is as deep as the first
-    pub going-beside : {w : Found} → HitAt text rows q walk n lo w → (next : Hit) → Tells text rows q walk n (w.row + 1) next → Beside walk w next
+    pub going-beside : {w : Found} → HitAt text rows q walk n lo w → (next : code.Option Found) → Tells text rows q walk n (w.row + 1) next → Beside walk w next
     unfolding Tells Beside
-    going-beside hit Hit.Nothing told = tt
-    going-beside {w} hit (Hit.At v) told =
+    going-beside hit None told = tt
+    going-beside {w} hit (Some v) told =
         let o = hit.order in
         let p = told.order in
         stage-deep g.staged v.row (omega arith) told.here.inside ∙ sym (stage-deep g.staged w.row o hit.here.inside)
@@ -121,7 +122,7 @@ module _ (text : Bytes) (rows : Words) (q : Identity) (t : TypeKey) (f a : Bool)
             let m = lib.laid.types in
             rw (stage-deep g.staged w.row hit.order hit.here.inside) (omega arith)
 
-        pub going-found : (next : Hit) → Tells text rows q walk n (w.row + 1) next → {r : Selection} {places : Words} → Verdict text rows walk w a next r places → Answers text rows q r places due
+        pub going-found : (next : code.Option Found) → Tells text rows q walk n (w.row + 1) next → {r : Selection} {places : Words} → Verdict text rows walk w a next r places → Answers text rows q r places due
         going-found next told {r} {places} s nb =
             let k = s n g.staged.state.rowed hit.here.inside (told-inside text rows q walk n w next told) in
             let all = made-are ∙ hit.left in

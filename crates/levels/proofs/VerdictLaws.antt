@@ -8,6 +8,8 @@ use native.Mathlib.Numerals.{add-one}
 use lib.ListN.{length, take, drop, take-append-drop}
 use lib.Seq.{length-take-le, take-append-le, drop_at}
 use borrow.Rule.Slice.PartMut.{mid_of, put_mid, mid_len}
+use Rattle.std.specs.declared.option.Option as code
+use Rattle.std.specs.Prelude.{Some, None}
 use Rattle.objects.specs.Bounds.{max_places}
 use Rattle.objects.specs.Lists.{Bytes}
 use Rattle.objects.specs.declared.ObjKey.{ObjKey}
@@ -28,23 +30,7 @@ use Rattle.walk_rows.specs.State.{Rowed, Written}
 use Rattle.walk_rows.proofs.StateLaws.{rows_at}
 use Rattle.walk_rows.proofs.PlaceLaws.{read_walk}
 use Rattle.levels.specs.declared.Found.{Found}
-use Rattle.levels.specs.declared.Hit.{Hit}
 use Rattle.levels.specs.Hits.{ways_from, way_to, ways_told, OwnAt, Tells, Beside, Inside, Alone}
-
--- ---- the receiver
-
-pub bad-flag : (p : Bool) {f : Bool} (a : Bool) → f ≡ true → false ≡ p && not f && not a
-bad-flag true a e = rw e
-bad-flag false a e = refl
-
-pub bad-address : (p f : Bool) {a : Bool} → a ≡ true → false ≡ p && not f && not a
-bad-address true true e = refl
-bad-address true false e = rw e
-bad-address false f e = refl
-
-pub bad-neither : (p : Bool) {f a : Bool} → f ≡ false → a ≡ false → p ≡ p && not f && not a
-bad-neither true e g = rw (e, g)
-bad-neither false e g = refl
 
 -- ---- one way alone
 
@@ -75,7 +61,7 @@ rejoined places others = put_mid max_places (length places - max_places) places 
 
 module _ (text : Bytes) (rows : Words) (walk : List Record) (w : Found) (a : Bool) where
   -- what the verdict has to say, whatever rows there are
-  abbrev pub Verdict : Hit → Selection → Words → Type 0
+  abbrev pub Verdict : code.Option Found → Selection → Words → Type 0
   Verdict next r places = (n : ℕ) → Rowed walk n → w.row < n → Inside n next → Selects text rows r places (judged a (ways_told text rows walk n w next))
 
   -- a way as it was written
@@ -88,7 +74,7 @@ module _ (text : Bytes) (rows : Words) (walk : List Record) (w : Found) (a : Boo
     times-fit = let e = k.long in omega arith
 
     -- no other row has the name
-    module _ (typed : (member_type_read rows w.member).0 < type_count rows) {next : Hit} (none : next ≡ Hit.Nothing) {flag : Bool} (read : flag ≡ (row_of walk w.row).flag) where
+    module _ (typed : (member_type_read rows w.member).0 < type_count rows) {next : code.Option Found} (none : next ≡ None) {flag : Bool} (read : flag ≡ (row_of walk w.row).flag) where
       single-is : (n : ℕ) → w.row < n → judged a (ways_told text rows walk n w next) ≡ received a (member_at text rows w.member) flag (places_of (way_to text rows walk n w))
       unfolding ways_told way_to
       single-is n l = rw (none, rows_at walk n w.row l, read)
@@ -104,7 +90,7 @@ module _ (text : Bytes) (rows : Words) (walk : List Record) (w : Found) (a : Boo
       }
 
     -- the next row that has it makes another way, as long, written behind the room for the first
-    module _ (long : 2 * max_places ≤ length places) {next : Hit} {v : Found} (at : next ≡ Hit.At v) (beside : Beside walk w next) where
+    module _ (long : 2 * max_places ≤ length places) {next : code.Option Found} {v : Found} (at : next ≡ Some v) (beside : Beside walk w next) where
       even : level_of walk v.row ≡ level_of walk w.row
       unfolding Beside
       even = subst (Beside walk w) at beside
@@ -146,13 +132,13 @@ module _ (text : Bytes) (rows : Words) (q : Identity) (walk : List Record) (n : 
   abbrev T : Table
   T = table_of text rows
 
-  pub told-inside : (next : Hit) → Tells text rows q walk n (w.row + 1) next → Inside n next
+  pub told-inside : (next : code.Option Found) → Tells text rows q walk n (w.row + 1) next → Inside n next
   unfolding Tells Inside
-  told-inside Hit.Nothing h = tt
-  told-inside (Hit.At v) h = h.here.inside
+  told-inside None h = tt
+  told-inside (Some v) h = h.here.inside
 
   -- the first two ways decide
-  pub told-judged : (next : Hit) → OwnAt text rows q walk n w → Tells text rows q walk n (w.row + 1) next → is_blank q.name ≡ false
+  pub told-judged : (next : code.Option Found) → OwnAt text rows q walk n w → Tells text rows q walk n (w.row + 1) next → is_blank q.name ≡ false
       → (a : Bool) → judged a (ways_told text rows walk n w next) ≡ judged a (ways_from T q walk n w.row)
   unfolding ways_told Tells
   told-judged next own h nb a = by next h
@@ -160,6 +146,6 @@ module _ (text : Bytes) (rows : Words) (q : Identity) (walk : List Record) (n : 
       whole : (l : List Way) → ways_from T q walk n (w.row + 1) ≡ l → ways_from T q walk n w.row ≡ way_to text rows walk n w ∷ l
       whole l e = own.ways nb ∙ ap (λ r. way_to text rows walk n w ∷ r) (ap (ways_from T q walk n) (sym (add-one w.row)) ∙ e)
 
-      by : (x : Hit) → Tells text rows q walk n (w.row + 1) x → judged a (ways_told text rows walk n w x) ≡ judged a (ways_from T q walk n w.row)
-      by Hit.Nothing k = ap (judged a) (sym (whole [] k))
-      by (Hit.At v) k = ap (judged a) (sym (whole _ (k.left ∙ k.here.ways nb)))
+      by : (x : code.Option Found) → Tells text rows q walk n (w.row + 1) x → judged a (ways_told text rows walk n w x) ≡ judged a (ways_from T q walk n w.row)
+      by None k = ap (judged a) (sym (whole [] k))
+      by (Some v) k = ap (judged a) (sym (whole _ (k.left ∙ k.here.ways nb)))

@@ -1,5 +1,7 @@
 -- The rows of a level whose type has the name, the ways that they make, and what the first two of them give.
 use Rattle.std.specs.Prelude.{◌≡◌, Bool, true, false, List, [], ◌∷◌, map, ℕ, suc, ◌*◌, ◌-◌, ◌≤◌, ◌<◌, length}
+use Rattle.std.specs.declared.option.Option as code
+use Rattle.std.specs.Prelude.{Some, None}
 use Rattle.objects.specs.Bounds.{max_places}
 use Rattle.objects.specs.Lists.{Bytes, flat}
 use Rattle.objects.specs.declared.ObjKey.{ObjKey}
@@ -19,7 +21,6 @@ use Rattle.walks.specs.Rows.{walk_at, range}
 use Rattle.walk_rows.specs.Records.{rows_of, level_of}
 use Rattle.walk_rows.specs.State.{Wide}
 use Rattle.levels.specs.declared.Found.{Found}
-use Rattle.levels.specs.declared.Hit.{Hit}
 
 -- What a search is lent: two records for each type of the table, and room for the places of two ways.
 pub record Scratch (rows : Words) (walk : List Record) (places : Words) : Type 0 where
@@ -51,26 +52,26 @@ pub record HitAt (text : Bytes) (rows : Words) (q : Identity) (walk : List Recor
   pub here : OwnAt text rows q walk n w
 
 -- what a look for the next of them gives
-unfoldable pub Tells : Bytes → Words → Identity → List Record → ℕ → ℕ → Hit → Type 0
-Tells text rows q walk n lo Hit.Nothing = ways_from (table_of text rows) q walk n lo ≡ []
-Tells text rows q walk n lo (Hit.At w) = HitAt text rows q walk n lo w
+unfoldable pub Tells : Bytes → Words → Identity → List Record → ℕ → ℕ → code.Option Found → Type 0
+Tells text rows q walk n lo None = ways_from (table_of text rows) q walk n lo ≡ []
+Tells text rows q walk n lo (Some w) = HitAt text rows q walk n lo w
 
 -- ---- the first two
 
 -- the ways of the first row that has the name and of the next, if there is one
-unfoldable pub ways_told : Bytes → Words → List Record → ℕ → Found → Hit → List Way
-ways_told text rows walk n w Hit.Nothing = way_to text rows walk n w ∷ []
-ways_told text rows walk n w (Hit.At v) = way_to text rows walk n w ∷ way_to text rows walk n v ∷ []
+unfoldable pub ways_told : Bytes → Words → List Record → ℕ → Found → code.Option Found → List Way
+ways_told text rows walk n w None = way_to text rows walk n w ∷ []
+ways_told text rows walk n w (Some v) = way_to text rows walk n w ∷ way_to text rows walk n v ∷ []
 
 -- the next is of the same level
-unfoldable pub Beside : List Record → Found → Hit → Type 0
-Beside walk w Hit.Nothing = Unit {0}
-Beside walk w (Hit.At v) = level_of walk v.row ≡ level_of walk w.row
+unfoldable pub Beside : List Record → Found → code.Option Found → Type 0
+Beside walk w None = Unit {0}
+Beside walk w (Some v) = level_of walk v.row ≡ level_of walk w.row
 
 -- it is one of the first n rows
-unfoldable pub Inside : ℕ → Hit → Type 0
-Inside n Hit.Nothing = Unit {0}
-Inside n (Hit.At v) = v.row < n
+unfoldable pub Inside : ℕ → code.Option Found → Type 0
+Inside n None = Unit {0}
+Inside n (Some v) = v.row < n
 
 -- ---- results
 

@@ -22,6 +22,7 @@ pub fn walk_all(text: &[u8], rows: &[u32], walk: &mut [EmbeddedType], t: TypeKey
     put_root(walk, t, f);
     let mut lo: u32 = 0;
     let mut n: usize = 1;
+    // a `while`, since each turn goes on by a whole level
     while (lo as usize) < n {
         let end = lower(text, rows, walk, lo, n);
         lo = n as u32;

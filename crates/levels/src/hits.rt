@@ -7,10 +7,10 @@ ghost use Rattle.selection.specs.Results.{name_meant};
 ghost use Rattle.walk_rows.specs.State.{Walked};
 ghost use Rattle.levels.specs.Hits.{Tells};
 
-use crate::{Found, Hit};
+use crate::Found;
 use multiples::{EmbeddedType, TYP};
 use objects::TypeKey;
-use selection::{Name, Own, own_member};
+use selection::{Name, own_member};
 use walk_rows::records::record_at;
 
 // The first of the rows from lo on, up to n.
@@ -22,26 +22,20 @@ pub fn next_hit(
     q: Name,
     lo: u32,
     n: usize,
-) -> Hit
+) -> Option<Found>
     requires library { Library text.now rows.now }
     requires walked { Walked (type_count rows.now) walk.now n × (lo ≤ n) × (has_package (table_of text.now rows.now) (package_meant q.pkg) ≡ true) }
     ensures { Tells text.now rows.now (name_meant text.now rows.now names.now q) walk.now n lo result }
 {
-    let mut i: u32 = lo;
-    while (i as usize) < n {
-        let e = record_at(walk, i as usize);
-        match own_member(text, rows, TypeKey(e[TYP]), names, q) {
-            Own::Nothing => {
-                i += 1;
-            }
-            Own::Found(place, m) => {
-                return Hit::At(Found {
-                    row: i,
-                    place: place,
-                    member: m,
-                });
-            }
+    for row in lo..n as u32 {
+        let e = record_at(walk, row as usize);
+        if let Some(own) = own_member(text, rows, TypeKey(e[TYP]), names, q) {
+            return Some(Found {
+                row,
+                place: own.place,
+                member: own.member,
+            });
         }
     }
-    Hit::Nothing
+    None
 }

@@ -16,12 +16,6 @@ pub struct Found {
     pub member: ObjKey,
 }
 
-#[derive(Clone, Copy)]
-pub enum Hit {
-    Nothing,
-    At(Found),
-}
-
 // What is searched: a type, whether a pointer was removed to come to it, and whether the operand is addressable.
 #[derive(Clone, Copy)]
 pub struct Start {

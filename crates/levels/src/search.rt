@@ -11,10 +11,10 @@ ghost use Rattle.ways.specs.OfTable.{graph};
 ghost use Rattle.selection.specs.Results.{Selects, name_meant};
 ghost use Rattle.walk_rows.specs.Records.{level_of};
 ghost use Rattle.walk_rows.specs.State.{Rowed, Wide};
-ghost use Rattle.levels.specs.Hits.{Alone, Answers, Beside, Inside, Scratch, nothing_found, ways_told};
+ghost use Rattle.levels.specs.Hits.{Alone, Answers, Beside, Inside, Scratch, ways_told};
 
 use crate::hits::next_hit;
-use crate::{Found, Hit, Start};
+use crate::{Found, Start};
 use multiples::{EmbeddedType, INDIRECT};
 use objects::ObjKey;
 use objects::bounds::MAX_PLACES;
@@ -28,13 +28,7 @@ use walk_rows::records::{put_root, record_at};
 fn bad_receiver(ptr: bool, flag: bool, a: bool) -> bool
     ensures { result ≡ ptr && not flag && not a }
 {
-    if flag {
-        return false;
-    }
-    if a {
-        return false;
-    }
-    ptr
+    ptr && !flag && !a
 }
 
 // "One shortest way: `entry`, member, flag, places. But `badreceiver` if it is a method with pointer receiver, the flag is 0 and a is 0."
@@ -58,7 +52,7 @@ fn verdict(
     walk: &[EmbeddedType],
     places: &mut [u32],
     w: Found,
-    next: Hit,
+    next: Option<Found>,
     a: bool,
 ) -> Selection
     requires { (level_of walk.now w.row < max_places) × (2 * max_places ≤ length places.old) × Beside walk.now w next × ((member_type_read rows.now w.member).0 < type_count rows.now) }
@@ -67,30 +61,18 @@ fn verdict(
     let i = w.row;
     let count = write_places(walk, places, i, w.place);
     match next {
-        Hit::At(v) => {
+        Some(v) => {
             write_places(walk, &mut places[MAX_PLACES..], v.row, v.place);
             Selection {
                 result: LookupResult::Ambiguous,
-                count: count,
+                count,
             }
         }
-        Hit::Nothing => {
+        None => {
             let e = record_at(walk, i as usize);
             let result = alone(text, rows, w.member, e[INDIRECT] == 1, a);
-            Selection {
-                result: result,
-                count: count,
-            }
+            Selection { result, count }
         }
-    }
-}
-
-fn not_found() -> Selection
-    ensures { result ≡ nothing_found }
-{
-    Selection {
-        result: LookupResult::NotFound,
-        count: 0,
     }
 }
 
@@ -113,17 +95,15 @@ pub fn search(
     put_root(walk, s.typ, s.flag);
     let mut lo: u32 = 0;
     let mut n: usize = 1;
+    // a `while`, since each turn goes on by a whole level
     while (lo as usize) < n {
-        match next_hit(text, rows, walk, names, q, lo, n) {
-            Hit::At(w) => {
-                let next = next_hit(text, rows, walk, names, q, w.row + 1, n);
-                return verdict(text, rows, walk, places, w, next, s.addressable);
-            }
-            Hit::Nothing => {}
+        if let Some(w) = next_hit(text, rows, walk, names, q, lo, n) {
+            let next = next_hit(text, rows, walk, names, q, w.row + 1, n);
+            return verdict(text, rows, walk, places, w, next, s.addressable);
         }
         let end = lower(text, rows, walk, lo, n);
         lo = n as u32;
         n = end;
     }
-    not_found()
+    Selection::NOT_FOUND
 }

@@ -32,6 +32,10 @@ use Rattle.selection.specs.declared.Name.{Name}
 use Rattle.selection.specs.declared.Entity.{Entity}
 use Rattle.selection.specs.declared.LookupResult.{LookupResult}
 use Rattle.selection.specs.declared.Selection.{Selection}
+use Rattle.std.specs.declared.option.Option as code
+use Rattle.std.specs.Prelude.{Some, None}
+use Rattle.std.specs.Option.{is_some}
+use Rattle.std.specs.Bool.{then_some}
 use Rattle.selection.specs.declared.Own.{Own}
 use Rattle.selection.specs.declared.Missing.{Missing}
 use Rattle.selection.specs.Results.{first, name_meant, own_meant, key_of, result_meant, called_right, Typed, Selects, missing_meant}
@@ -121,11 +125,11 @@ module _ (text : Bytes) (rows : Words) (m found : ObjKey) {x y : TypeKey} (px : 
   types : identical (table_of text rows) (member_at text rows m).type (member_at text rows found).type ≡ r
   types = rw (member-type-meant text rows m, member-type-meant text rows found, ← px, ← py) (sym pr)
 
-  pub compared_same : r ≡ true → missing_meant text rows Missing.Satisfied ≡ lack_of (member_at text rows m) (compared (table_of text rows) (member_at text rows m) (member_at text rows found))
+  pub compared_same : r ≡ true → missing_meant text rows None ≡ lack_of (member_at text rows m) (compared (table_of text rows) (member_at text rows m) (member_at text rows found))
   unfolding missing_meant lack_of
   compared_same e = rw (types ∙ e)
 
-  pub compared-other : r ≡ false → missing_meant text rows (Missing.Lacks m true) ≡ lack_of (member_at text rows m) (compared (table_of text rows) (member_at text rows m) (member_at text rows found))
+  pub compared-other : r ≡ false → missing_meant text rows (Some (record { method = m; other_type = true })) ≡ lack_of (member_at text rows m) (compared (table_of text rows) (member_at text rows m) (member_at text rows found))
   unfolding missing_meant lack_of
   compared-other e = rw (types ∙ e)
 
@@ -139,7 +143,7 @@ module _ (text : Bytes) (rows : Words) (lib : Library text rows) (t : TypeKey) (
   iface-is-read = iface-read text rows t h (under-in text rows lib t h refl)
 
   module _ (i : iface_read rows t ≡ true) (m : ObjKey) {u : TypeKey} (pu : u ≡ under_read rows t) {q : Name} (pq : q ≡ name_read rows m)
-      (o : Own) (po : own_meant text rows o ≡ first (matching (table_of text rows) (name_meant text rows text q) u)) where
+      (o : code.Option Own) (po : own_meant text rows o ≡ first (matching (table_of text rows) (name_meant text rows text q) u)) where
     listed : own_meant text rows o ≡ first_from (table_of text rows) (identity_of (table_of text rows) (member_at text rows m)) 0 (all_methods (table_of text rows) t)
     listed =
         po ∙ rw (own_name text rows m pq, pu ∙ sym (under-read text rows t h))
@@ -151,36 +155,33 @@ module _ (text : Bytes) (rows : Words) (lib : Library text rows) (t : TypeKey) (
         rw (iface-is-read ∙ i)
         (there-is (table_of text rows) s (member_at text rows m) 0 (all_methods (table_of text rows) t) ∙ ap (found_of (table_of text rows) s (member_at text rows m)) (sym listed))
 
-    module _ {place : ℕ} {found : ObjKey} (e : o ≡ Own.Found place found) where
-      pub there-found : (s : Bool) (r : Missing)
-          → missing_meant text rows r ≡ lack_of (member_at text rows m) (compared (table_of text rows) (member_at text rows m) (member_at text rows found))
+    module _ {own : Own} (e : o ≡ Some own) where
+      pub there-found : (s : Bool) (r : code.Option Missing)
+          → missing_meant text rows r ≡ lack_of (member_at text rows m) (compared (table_of text rows) (member_at text rows m) (member_at text rows own.member))
           → missing_meant text rows r ≡ lack_of (member_at text rows m) (unmet (table_of text rows) t s (member_at text rows m))
       unfolding own_meant
       there-found s r p = p ∙ ap (lack_of (member_at text rows m)) (sym (unmet-list s ∙ rw e))
 
-      pub there-typed : (member_type_read rows found).0 < type_count rows
+      pub there-typed : (member_type_read rows own.member).0 < type_count rows
       unfolding own_meant all_methods
       there-typed =
-          let z : ◌≡◌ {A = Option Place} (some (record { place = place; member = member_at text rows found })) (first_from (table_of text rows) (identity_of (table_of text rows) (member_at text rows m)) 0 (all_methods (table_of text rows) t)) = rw e at listed in
+          let z : ◌≡◌ {A = Option Place} (some (record { place = own.place; member = member_at text rows own.member })) (first_from (table_of text rows) (identity_of (table_of text rows) (member_at text rows m)) 0 (all_methods (table_of text rows) t)) = rw e at listed in
           let j = first-in (table_of text rows) _ 0 (all_methods (table_of text rows) t) _ (sym z) in
-          let k = if-In (is_iface (kind_at (table_of text rows) (under (table_of text rows) t))) _ (member_at text rows found) j in
-          let l = sound.typed (under (table_of text rows) t) (member_at text rows found) k.1 in
-          rw (size-read text rows, member-type-meant text rows found) at l
+          let k = if-In (is_iface (kind_at (table_of text rows) (under (table_of text rows) t))) _ (member_at text rows own.member) j in
+          let l = sound.typed (under (table_of text rows) t) (member_at text rows own.member) k.1 in
+          rw (size-read text rows, member-type-meant text rows own.member) at l
 
-    module _ (e : o ≡ Own.Nothing) {s : Bool} where
-      pub there-absent : s ≡ true → missing_meant text rows (Missing.Lacks m false) ≡ lack_of (member_at text rows m) (unmet (table_of text rows) t s (member_at text rows m))
-      unfolding own_meant missing_meant lack_of
-      there-absent g = rw (unmet-list s, e, g)
-
-      pub there-let : s ≡ false → missing_meant text rows Missing.Satisfied ≡ lack_of (member_at text rows m) (unmet (table_of text rows) t s (member_at text rows m))
-      unfolding own_meant missing_meant lack_of
-      there-let g = rw (unmet-list s, e, g)
+    -- an absent method counts if s says so
+    pub there-none : o ≡ None → (s : Bool) → missing_meant text rows (then_some s (record { method = m; other_type = false })) ≡ lack_of (member_at text rows m) (unmet (table_of text rows) t s (member_at text rows m))
+    unfolding own_meant missing_meant lack_of
+    there-none e true = rw (unmet-list true, e)
+    there-none e false = rw (unmet-list false, e)
 
 -- ---- other t
 
 module _ (text : Bytes) (rows : Words) (m : ObjKey) (first second : List ℕ) where
   module _ {result : LookupResult} {entity : Entity} {flag : Bool} (p : result ≡ LookupResult.Entry entity flag) {found : ObjKey} where
-    pub by-method : entity ≡ Entity.Method found → called_right rows result ≡ true → (r : Missing)
+    pub by-method : entity ≡ Entity.Method found → called_right rows result ≡ true → (r : code.Option Missing)
         → missing_meant text rows r ≡ lack_of (member_at text rows m) (compared (table_of text rows) (member_at text rows m) (member_at text rows found))
         → missing_meant text rows r ≡ lack_of (member_at text rows m) (unmet_by (table_of text rows) (member_at text rows m) (result_meant text rows result first second))
     unfolding called_right result_meant key_of
@@ -189,27 +190,23 @@ module _ (text : Bytes) (rows : Words) (m : ObjKey) (first second : List ℕ) wh
         d ∙ sym (rw (p, e, method-meant text rows found, k))
 
     pub by-field : entity ≡ Entity.Field found → called_right rows result ≡ true
-        → missing_meant text rows (Missing.Lacks m false) ≡ lack_of (member_at text rows m) (unmet_by (table_of text rows) (member_at text rows m) (result_meant text rows result first second))
+        → missing_meant text rows (Some (record { method = m; other_type = false })) ≡ lack_of (member_at text rows m) (unmet_by (table_of text rows) (member_at text rows m) (result_meant text rows result first second))
     unfolding called_right result_meant key_of missing_meant lack_of
     by-field e c =
         let k : not (method_read rows found) ≡ true = rw (p, e) at c in
         rw (p, e, method-meant text rows found, not-true (method_read rows found) k)
 
-  module _ {result : LookupResult} where
-    pub by-ambiguous : result ≡ LookupResult.Ambiguous
-        → missing_meant text rows (Missing.Lacks m false) ≡ lack_of (member_at text rows m) (unmet_by (table_of text rows) (member_at text rows m) (result_meant text rows result first second))
-    unfolding result_meant missing_meant lack_of
-    by-ambiguous p = rw p
-
-    pub by-receiver : result ≡ LookupResult.BadMethodReceiver
-        → missing_meant text rows (Missing.Lacks m false) ≡ lack_of (member_at text rows m) (unmet_by (table_of text rows) (member_at text rows m) (result_meant text rows result first second))
-    unfolding result_meant missing_meant lack_of
-    by-receiver p = rw p
-
-    pub by-nothing : result ≡ LookupResult.NotFound
-        → missing_meant text rows (Missing.Lacks m false) ≡ lack_of (member_at text rows m) (unmet_by (table_of text rows) (member_at text rows m) (result_meant text rows result first second))
-    unfolding result_meant missing_meant lack_of
-    by-nothing p = rw p
+  pub by-other : {result : LookupResult} → ((entity : Entity) (flag : Bool) → result ≡ LookupResult.Entry entity flag → ⊥)
+      → missing_meant text rows (Some (record { method = m; other_type = false })) ≡ lack_of (member_at text rows m) (unmet_by (table_of text rows) (member_at text rows m) (result_meant text rows result first second))
+  unfolding result_meant missing_meant lack_of
+  by-other {result} n = other result n
+    where
+      other : (r : LookupResult) → ((entity : Entity) (flag : Bool) → r ≡ LookupResult.Entry entity flag → ⊥)
+          → missing_meant text rows (Some (record { method = m; other_type = false })) ≡ lack_of (member_at text rows m) (unmet_by (table_of text rows) (member_at text rows m) (result_meant text rows r first second))
+      other (LookupResult.Entry entity flag) n = absurd (n entity flag refl)
+      other LookupResult.Ambiguous n = refl
+      other LookupResult.BadMethodReceiver n = refl
+      other LookupResult.NotFound n = refl
 
 pub by-typed : (rows : Words) {result : LookupResult} {entity : Entity} {flag : Bool} → result ≡ LookupResult.Entry entity flag → {found : ObjKey} → entity ≡ Entity.Method found
     → Typed rows result → (member_type_read rows found).0 < type_count rows
@@ -218,7 +215,7 @@ by-typed rows p e h = rw (p, e) at h
 
 module _ (text : Bytes) (rows : Words) (lib : Library text rows) (t : TypeKey) (h : t.0 < type_count rows) {b : Bool} (pb : b ≡ iface_read rows t) (m : ObjKey) where
   pub selected-unmet : b ≡ false → {q : Name} → q ≡ name_read rows m → (found : Selection) (places : Words)
-      → Selects text rows found places (select (table_of text rows) (name_meant text rows text q) t false) → (s : Bool) (r : Missing)
+      → Selects text rows found places (select (table_of text rows) (name_meant text rows text q) t false) → (s : Bool) (r : code.Option Missing)
       → ((first second : List ℕ) → missing_meant text rows r ≡ lack_of (member_at text rows m) (unmet_by (table_of text rows) (member_at text rows m) (result_meant text rows found.result first second)))
       → missing_meant text rows r ≡ lack_of (member_at text rows m) (unmet (table_of text rows) t s (member_at text rows m))
   unfolding unmet
@@ -241,15 +238,26 @@ first_step T t s m ms = go (unmet T t s m)
     go none = refl
     go (some w) = refl
 
+module _ (text : Bytes) (rows : Words) where
+  lack-some : (r : code.Option Missing) → is_some r ≡ true → (o : Option Lack) → or_lack (missing_meant text rows r) o ≡ missing_meant text rows r
+  unfolding missing_meant
+  lack-some (Some l) e o = refl
+  lack-some None e o = cc
+
+  lack-none : (r : code.Option Missing) → is_some r ≡ false → (o : Option Lack) → or_lack (missing_meant text rows r) o ≡ o
+  unfolding missing_meant
+  lack-none (Some l) e o = cc
+  lack-none None e o = refl
+
 module _ (text : Bytes) (rows : Words) (t : TypeKey) (s : Bool) (from n : ℕ) where
   pub unmet-start : first_unmet (table_of text rows) t s (members_from text rows from n) ≡ first_unmet (table_of text rows) t s (members_from text rows (from + 0) (n - 0))
   unmet-start = let z : from + 0 ≡ from = omega arith in let y : n - 0 ≡ n = omega arith in rw (z, y)
 
-  pub unmet-end : (i : ℕ) → i ≤ n → n ≤ i → missing_meant text rows Missing.Satisfied ≡ first_unmet (table_of text rows) t s (members_from text rows (from + i) (n - i))
+  pub unmet-end : (i : ℕ) → i ≤ n → n ≤ i → missing_meant text rows None ≡ first_unmet (table_of text rows) t s (members_from text rows (from + i) (n - i))
   unfolding missing_meant members_from
   unmet-end i h k = let z : n - i ≡ 0 = omega arith in rw z
 
-  module _ (i : ℕ) (h : i < n) (r : Missing)
+  module _ (i : ℕ) (h : i < n) (r : code.Option Missing)
       (p : missing_meant text rows r ≡ lack_of (member_at text rows (obj_key (from + i))) (unmet (table_of text rows) t s (member_at text rows (obj_key (from + i))))) where
     step : first_unmet (table_of text rows) t s (members_from text rows (from + i) (n - i))
         ≡ or_lack (missing_meant text rows r) (first_unmet (table_of text rows) t s (members_from text rows (from + (i + 1)) (n - (i + 1))))
@@ -258,14 +266,14 @@ module _ (text : Bytes) (rows : Words) (t : TypeKey) (s : Bool) (from n : ℕ) w
         ∙ first_step (table_of text rows) t s (member_at text rows (obj_key (from + i))) (members_from text rows (from + (i + 1)) (n - (i + 1)))
         ∙ ap (λ o. or_lack o (first_unmet (table_of text rows) t s (members_from text rows (from + (i + 1)) (n - (i + 1))))) (sym p)
 
-    pub unmet-here : {m : ObjKey} {w : Bool} → r ≡ Missing.Lacks m w → missing_meant text rows (Missing.Lacks m w) ≡ first_unmet (table_of text rows) t s (members_from text rows (from + i) (n - i))
+    pub unmet-here : is_some r ≡ true → missing_meant text rows r ≡ first_unmet (table_of text rows) t s (members_from text rows (from + i) (n - i))
     unfolding missing_meant
-    unmet-here e = sym (step ∙ rw e)
+    unmet-here e = sym (step ∙ lack-some text rows r e _)
 
-    pub unmet-next : r ≡ Missing.Satisfied
+    pub unmet-next : is_some r ≡ false
         → first_unmet (table_of text rows) t s (members_from text rows (from + i) (n - i)) ≡ first_unmet (table_of text rows) t s (members_from text rows (from + (i + 1)) (n - (i + 1)))
     unfolding missing_meant
-    unmet-next e = step ∙ rw e
+    unmet-next e = step ∙ lack-none text rows r e _
 
 -- ---- the methods of i
 
@@ -273,7 +281,7 @@ module _ (text : Bytes) (rows : Words) (lib : Library text rows) (i : TypeKey) (
   methods : all_methods (table_of text rows) i ≡ cond (iface_read rows i) (members_from text rows (first_read rows (under_read rows i)) (total_read rows (under_read rows i))) []
   methods = all-methods-read text rows i h (under-in text rows lib i h refl)
 
-  pub no-methods : b ≡ false → (t : TypeKey) (s : Bool) → missing_meant text rows Missing.Satisfied ≡ missing (table_of text rows) t i s
+  pub no-methods : b ≡ false → (t : TypeKey) (s : Bool) → missing_meant text rows None ≡ missing (table_of text rows) t i s
   unfolding missing missing_meant
   no-methods e t s = rw (methods, sym pb ∙ e)
 
@@ -297,6 +305,6 @@ module _ (text : Bytes) (rows : Words) (lib : Library text rows) (i : TypeKey) (
     pub methods-fit : from + n ≤ max_elements
     methods-fit = list-fits text rows u lib inside pf pn
 
-    pub all-methods : (t : TypeKey) (s : Bool) (r : Missing) → missing_meant text rows r ≡ first_unmet (table_of text rows) t s (members_from text rows from n) → missing_meant text rows r ≡ missing (table_of text rows) t i s
+    pub all-methods : (t : TypeKey) (s : Bool) (r : code.Option Missing) → missing_meant text rows r ≡ first_unmet (table_of text rows) t s (members_from text rows from n) → missing_meant text rows r ≡ missing (table_of text rows) t i s
     unfolding missing
     all-methods t s r p = p ∙ rw (methods, sym pb ∙ e, pf, pn, pu)

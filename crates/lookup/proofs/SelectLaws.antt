@@ -39,13 +39,6 @@ pub blank-asked : (text : Bytes) (rows : Words) (names : Bytes) (q : Name) {s : 
 unfolding name_meant asked_id identity_from is_blank bytes_at
 blank-asked text rows names q e = rw e
 
-module _ (rows : Words) (t : TypeKey) {b : Bool} (pb : b ≡ pointer_read rows t) where
-  pub pointer-iface : b ≡ true → {u : TypeKey} → u ≡ bare_read rows t → {r : Bool} → r ≡ iface_read rows u → r ≡ pointer_read rows t && iface_read rows (bare_read rows t)
-  pointer-iface e pu pr = rw (sym pb ∙ e, ← pu) pr
-
-  pub pointer_none : b ≡ false → false ≡ pointer_read rows t && iface_read rows (bare_read rows t)
-  pointer_none e = rw (sym pb ∙ e)
-
 -- ---- selections
 
 module _ (text : Bytes) (rows : Words) (places : Words) where
@@ -105,17 +98,15 @@ module _ (s : Selection) where
     unfolding without_method left_of
     without-field e = rw (p, e)
 
-  pub without-ambiguous : s.result ≡ LookupResult.Ambiguous → s ≡ without_method s
+  pub without-other : ((entity : Entity) (flag : Bool) → s.result ≡ LookupResult.Entry entity flag → ⊥) → s ≡ without_method s
   unfolding without_method left_of
-  without-ambiguous p = rw p
-
-  pub without-receiver : s.result ≡ LookupResult.BadMethodReceiver → s ≡ without_method s
-  unfolding without_method left_of
-  without-receiver p = rw p
-
-  pub without-nothing : s.result ≡ LookupResult.NotFound → s ≡ without_method s
-  unfolding without_method left_of
-  without-nothing p = rw p
+  without-other n = left s.result n
+    where
+      left : (r : LookupResult) → ((entity : Entity) (flag : Bool) → r ≡ LookupResult.Entry entity flag → ⊥) → s ≡ left_of r s
+      left (LookupResult.Entry entity flag) n = absurd (n entity flag refl)
+      left LookupResult.Ambiguous n = refl
+      left LookupResult.BadMethodReceiver n = refl
+      left LookupResult.NotFound n = refl
 
 module _ (text : Bytes) (rows : Words) (places : Words) where
   left-selects : (result : LookupResult) (n : ℕ) (due : Selected) → Selects text rows (record { result = result; count = n }) places due → Selects text rows (left_of result (record { result = result; count = n })) places (no_method due)

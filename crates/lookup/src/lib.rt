@@ -36,29 +36,19 @@ fn blank_name(text: &[u8], rows: &[u32], names: &[u8], q: Name) -> bool
 fn pointer_to_interface(rows: &[u32], t: TypeKey) -> bool
     ensures { result ≡ pointer_read rows.now t && iface_read rows.now (bare_read rows.now t) }
 {
-    if pointer_at(rows, t) {
-        iface_under(rows, bare(rows, t))
-    } else {
-        false
-    }
+    pointer_at(rows, t) && iface_under(rows, bare(rows, t))
 }
 
 // "an `entry` that is a method becomes `notfound`"
 fn without_method(s: Selection) -> Selection
     ensures { result ≡ without_method s }
 {
-    let result = s.result;
-    match result {
+    match s.result {
         LookupResult::Entry(entity, _) => match entity {
-            Entity::Method(_) => Selection {
-                result: LookupResult::NotFound,
-                count: 0,
-            },
+            Entity::Method(_) => Selection::NOT_FOUND,
             Entity::Field(_) => s,
         },
-        LookupResult::Ambiguous => s,
-        LookupResult::BadMethodReceiver => s,
-        LookupResult::NotFound => s,
+        _ => s,
     }
 }
 
@@ -81,17 +71,8 @@ pub fn lookup_field_or_method_impl(
     ensures selects { Selects text.now rows.now result places.new (cond (is_blank (name_meant text.now rows.now names.now q).name) notfound (searched (table_of text.now rows.now) (name_meant text.now rows.now names.now q) t a)) }
     ensures wide { Wide walk.new }
 {
-    if blank_name(text, rows, names, q) {
-        return Selection {
-            result: LookupResult::NotFound,
-            count: 0,
-        };
-    }
-    if pointer_to_interface(rows, t) {
-        return Selection {
-            result: LookupResult::NotFound,
-            count: 0,
-        };
+    if blank_name(text, rows, names, q) || pointer_to_interface(rows, t) {
+        return Selection::NOT_FOUND;
     }
     let u = bare(rows, t);
     let f = pointer_at(rows, t);

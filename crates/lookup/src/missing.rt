@@ -17,13 +17,19 @@ use objects::rows::{
     first_member, iface_under, member_package, member_total, member_type, member_word, under,
 };
 use objects::{ObjKey, TypeKey};
-use selection::{Entity, LookupResult, Missing, Name, Own, own_member};
+use selection::{Entity, LookupResult, Missing, Name, own_member};
 use typ::identical::identical;
 
 // ---- one method
 
 // "w is 1 where a method is there with another type"
-fn compared(text: &[u8], rows: &[u32], marks: &mut [u32], m: ObjKey, found: ObjKey) -> Missing
+fn compared(
+    text: &[u8],
+    rows: &[u32],
+    marks: &mut [u32],
+    m: ObjKey,
+    found: ObjKey,
+) -> Option<Missing>
     requires library { Library text.now rows.now }
     requires m_bound { ((member_type_read rows.now m).0 < type_count rows.now) × ((member_type_read rows.now found).0 < type_count rows.now) × (mark_words ≤ length marks.old) }
     requires marks_value { marks.old ≡ replicate (length marks.old) 0 }
@@ -33,9 +39,12 @@ fn compared(text: &[u8], rows: &[u32], marks: &mut [u32], m: ObjKey, found: ObjK
     let x = member_type(rows, m);
     let y = member_type(rows, found);
     if identical(text, rows, marks, x, y) {
-        Missing::Satisfied
+        None
     } else {
-        Missing::Lacks(m, true)
+        Some(Missing {
+            method: m,
+            other_type: true,
+        })
     }
 }
 
@@ -43,13 +52,10 @@ fn compared(text: &[u8], rows: &[u32], marks: &mut [u32], m: ObjKey, found: ObjK
 fn name_of(rows: &[u32], m: ObjKey) -> Name
     ensures { result ≡ name_read rows.now m }
 {
-    let at = member_word(rows, m, 0);
-    let len = member_word(rows, m, 1);
-    let pkg = member_package(rows, m);
     Name {
-        at: at,
-        len: len,
-        pkg: pkg,
+        at: member_word(rows, m, 0),
+        len: member_word(rows, m, 1),
+        pkg: member_package(rows, m),
     }
 }
 
@@ -61,7 +67,7 @@ fn unmet_there(
     t: TypeKey,
     m: ObjKey,
     s: bool,
-) -> Missing
+) -> Option<Missing>
     requires library { Library text.now rows.now }
     requires t_bound { (t.0 < type_count rows.now) × InTable text.now rows.now m }
     requires t_value { (iface_read rows.now t ≡ true) × (mark_words ≤ length marks.old) }
@@ -72,33 +78,38 @@ fn unmet_there(
     let u = under(rows, t);
     let q = name_of(rows, m);
     match own_member(text, rows, u, text, q) {
-        Own::Found(_, found) => compared(text, rows, marks, m, found),
-        Own::Nothing => {
-            if s {
-                Missing::Lacks(m, false)
-            } else {
-                Missing::Satisfied
-            }
-        }
+        Some(own) => compared(text, rows, marks, m, own.member),
+        None => s.then_some(Missing {
+            method: m,
+            other_type: false,
+        }),
     }
 }
 
 // "any answer but an `entry` that is a method counts as unmet with w 0"
-fn unmet_by(text: &[u8], rows: &[u32], marks: &mut [u32], m: ObjKey, res: LookupResult) -> Missing
+fn unmet_by(
+    text: &[u8],
+    rows: &[u32],
+    marks: &mut [u32],
+    m: ObjKey,
+    res: LookupResult,
+) -> Option<Missing>
     requires library { Library text.now rows.now }
     requires m_bound { ((member_type_read rows.now m).0 < type_count rows.now) × Typed rows.now res × (called_right rows.now res ≡ true) × (mark_words ≤ length marks.old) }
     requires marks_value { marks.old ≡ replicate (length marks.old) 0 }
     ensures by_index { (first second : List ℕ) → missing_meant text.now rows.now result ≡ lack_of (member_at text.now rows.now m) (unmet_by (table_of text.now rows.now) (member_at text.now rows.now m) (result_meant text.now rows.now res first second)) }
     ensures marks_unchanged { marks.new ≡ marks.old }
 {
+    let absent = Some(Missing {
+        method: m,
+        other_type: false,
+    });
     match res {
         LookupResult::Entry(entity, _) => match entity {
             Entity::Method(found) => compared(text, rows, marks, m, found),
-            Entity::Field(_) => Missing::Lacks(m, false),
+            Entity::Field(_) => absent,
         },
-        LookupResult::Ambiguous => Missing::Lacks(m, false),
-        LookupResult::BadMethodReceiver => Missing::Lacks(m, false),
-        LookupResult::NotFound => Missing::Lacks(m, false),
+        _ => absent,
     }
 }
 
@@ -112,7 +123,7 @@ fn unmet(
     t: TypeKey,
     m: ObjKey,
     s: bool,
-) -> Missing
+) -> Option<Missing>
     requires library { Library text.now rows.now }
     requires t_bound { (t.0 < type_count rows.now) × InTable text.now rows.now m }
     requires mark_words_in_bounds { (mark_words ≤ length marks.old) × Scratch rows.now walk.old places.old }
@@ -126,8 +137,7 @@ fn unmet(
     }
     let q = name_of(rows, m);
     let found = lookup_field_or_method(text, rows, walk, places, text, q, t, false);
-    let result = found.result;
-    unmet_by(text, rows, marks, m, result)
+    unmet_by(text, rows, marks, m, found.result)
 }
 
 // ---- all methods
@@ -143,7 +153,7 @@ fn first_unmet(
     first: u32,
     n: u32,
     s: bool,
-) -> Missing
+) -> Option<Missing>
     requires library { Library text.now rows.now }
     requires t_bound { (t.0 < type_count rows.now) × ((i : ℕ) → i < n → InTable text.now rows.now (obj_key (first + i))) × (first + n ≤ max_elements) }
     requires mark_words_in_bounds { (mark_words ≤ length marks.old) × Scratch rows.now walk.old places.old }
@@ -152,18 +162,13 @@ fn first_unmet(
     ensures marks_unchanged { marks.new ≡ marks.old }
     ensures wide { Wide walk.new }
 {
-    let mut i = 0;
-    while i < n {
-        match unmet(text, rows, marks, walk, places, t, ObjKey(first + i), s) {
-            Missing::Satisfied => {
-                i += 1;
-            }
-            Missing::Lacks(m, w) => {
-                return Missing::Lacks(m, w);
-            }
+    for i in 0..n {
+        let lack = unmet(text, rows, marks, walk, places, t, ObjKey(first + i), s);
+        if lack.is_some() {
+            return lack;
         }
     }
-    Missing::Satisfied
+    None
 }
 
 // N
@@ -176,7 +181,7 @@ pub fn missing_method(
     t: TypeKey,
     i: TypeKey,
     s: bool,
-) -> Missing
+) -> Option<Missing>
     requires library { Library text.now rows.now }
     requires t_bound { (t.0 < type_count rows.now) × (i.0 < type_count rows.now) }
     requires mark_words_in_bounds { (mark_words ≤ length marks.old) × Scratch rows.now walk.old places.old }
@@ -191,6 +196,6 @@ pub fn missing_method(
         let n = member_total(rows, u);
         first_unmet(text, rows, marks, walk, places, t, first, n, s)
     } else {
-        Missing::Satisfied
+        None
     }
 }

@@ -2,8 +2,8 @@
 // the mark on the first of two records of one type.
 #![tactic(auto)]
 
-ghost use Rattle.std.specs.Prelude.{◌≡◌, ◌≤◌, length};
-ghost use Rattle.multiples.specs.Records.{max_records, consolidated};
+ghost use Rattle.std.specs.Prelude.{◌≡◌};
+ghost use Rattle.multiples.specs.Records.{consolidated};
 
 use objects::TypeKey;
 use objects::bounds::MAX_TYPES;
@@ -42,15 +42,12 @@ pub const FIRST: usize = 7;
 
 // Another walk of the level comes to type t: its first record is marked.
 pub fn consolidate_multiples(level: &mut [EmbeddedType], t: TypeKey)
-    requires { length level.old ≤ max_records }
     ensures { level.new ≡ consolidated level.old t }
 {
-    let mut i: usize = 0;
-    while i < level.len() {
-        if level[i][TYP] == t.0 {
-            level[i][MULTIPLES] = 1;
+    for r in level.iter_mut() {
+        if r[TYP] == t.0 {
+            r[MULTIPLES] = 1;
             return;
         }
-        i += 1;
     }
 }

@@ -6,7 +6,7 @@ use Prim.Native.Nat.{ℕ, zero, suc, ◌+◌, ◌-◌, ◌<◌, ◌≤◌}
 use native.Mathlib.Nat.{add-zero, add-suc, suc-add}
 use native.Mathlib.Numerals.{add-one}
 use native.Mathlib.Omega.{arith}
-use lib.ListN.{length, get_or, take, drop, length-take, length-drop}
+use lib.ListN.{get_or, take, drop}
 use lib.Seq.{get_or-take, get_or-drop}
 use borrow.Author.Tests.{lt-ltb, le-ltb}
 use Rattle.objects.specs.Lists.{Bytes}
@@ -16,12 +16,11 @@ use Rattle.objects.proofs.BoolLaws.{false_of}
 use Rattle.objects.proofs.RowLaws.{members-more}
 use Rattle.text.specs.Hash.{hash_from}
 use Rattle.rules.specs.Members.{identity_from, identity_of, same_id}
-use Rattle.rules.specs.Library.{Signed}
 use Rattle.rules.proofs.MemberLaws.{same_id-true}
 use Rattle.obj.specs.Ids.{asked_id}
 use Rattle.selection.specs.declared.Name.{Name}
 use Rattle.selection.specs.Results.{name_meant}
-use Rattle.selection.specs.Finds.{first_from, place_at, FoundAt}
+use Rattle.selection.specs.Finds.{first_from, place_at, SignsAre, FoundAt}
 
 module _ (text : Bytes) (rows : Words) where
   pub members-cons : (from n : ℕ) → members_from text rows from (suc n) ≡ member_at text rows (obj_key from) ∷ members_from text rows (suc from) n
@@ -75,29 +74,22 @@ asked-sign names q es er = er ∙ ap (hash_from 0) es
 pub signs-part : (rows : Words) (from count : ℕ) {at : ℕ} → at ≡ signs_at rows → take (at + from + count - (at + from)) (drop (at + from) rows) ≡ take count (drop (signs_at rows + from) rows)
 signs-part rows from count {at = at} e = let z : at + from + count - (at + from) ≡ count = omega arith in rw (z, e)
 
-module _ (text : Bytes) (rows : Words) (from count : ℕ) (signed : Signed text rows) (within : from + count ≤ member_count_of rows) where
-  pub signs-fit : signs_at rows + from + count ≤ length rows
-  signs-fit = let r = signed.room in omega arith
+module _ (text : Bytes) (rows : Words) (from count : ℕ) (names : Bytes) (q : Name) {signs : Words} {sign : ℕ} (s : SignsAre text rows from count names q signs sign) (i : ℕ) (h : i < count) where
+  sign-is : get_or signs i 0 ≡ sign_at rows (obj_key (from + i))
+  unfolding sign_at word_at
+  sign-is =
+      let z : signs_at rows + from + i ≡ signs_at rows + (from + i) = omega arith in
+      rw s.members (get_or-take count (drop (signs_at rows + from) rows) i 0 h ∙ get_or-drop (signs_at rows + from) rows i 0 ∙ ap (λ k. get_or rows k 0) z)
 
-  module _ {signs : Words} (es : signs ≡ take count (drop (signs_at rows + from) rows)) where
-    pub signs-long : length signs ≡ count
-    signs-long = let f = signs-fit in rw es (simp (length-take, length-drop) (omega arith))
+  -- a member of another sign than the name's has another name
+  module _ (ne : get_or signs i 0 ≡ sign → ⊥) where
+    other_name : false ≡ same_id (identity_of (table_of text rows) (member_at text rows (obj_key (from + i)))) (asked_id text rows names q.at q.len q.pkg)
+    unfolding identity_of identity_from asked_id
+    other_name =
+        let here : from + i < member_count_of rows = let w = s.within in omega arith in
+        sym (false_of _ (λ e.
+        let z : (member_at text rows (obj_key (from + i))).name ≡ bytes_at names q.at q.len = ap (λ a. a.name) (same_id-true _ _ e) in
+        ne (sign-is ∙ s.signed.signs (obj_key (from + i)) here ∙ ap (hash_from 0) z ∙ sym s.asked)))
 
-    module _ (i : ℕ) (h : i < count) where
-      sign-is : get_or signs i 0 ≡ sign_at rows (obj_key (from + i))
-      unfolding sign_at word_at
-      sign-is =
-          let z : signs_at rows + from + i ≡ signs_at rows + (from + i) = omega arith in
-          rw es (get_or-take count (drop (signs_at rows + from) rows) i 0 h ∙ get_or-drop (signs_at rows + from) rows i 0 ∙ ap (λ k. get_or rows k 0) z)
-
-      -- a member of another sign than the name's has another name
-      module _ (names : Bytes) (q : Name) {sign : ℕ} (ps : sign ≡ hash_from 0 (bytes_at names q.at q.len)) (ne : get_or signs i 0 ≡ sign → ⊥) where
-        other_name : false ≡ same_id (identity_of (table_of text rows) (member_at text rows (obj_key (from + i)))) (asked_id text rows names q.at q.len q.pkg)
-        unfolding identity_of identity_from asked_id
-        other_name =
-            sym (false_of _ (λ e.
-            let z : (member_at text rows (obj_key (from + i))).name ≡ bytes_at names q.at q.len = ap (λ a. a.name) (same_id-true _ _ e) in
-            ne (sign-is ∙ signed.signs (obj_key (from + i)) (omega arith) ∙ ap (hash_from 0) z ∙ sym ps)))
-
-        pub find-skip : Left text rows names q from count i → Left text rows names q from count (i + 1)
-        find-skip left = find-next text rows names q from count i h left other_name refl
+    pub find-skip : Left text rows names q from count i → Left text rows names q from count (i + 1)
+    find-skip left = find-next text rows names q from count i h left other_name refl

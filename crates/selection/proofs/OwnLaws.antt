@@ -1,5 +1,5 @@
 -- A type's own members off its row: the list under its T line, and the three lists that `owned` of the rules goes through.
-use mathlib.Core.Path.{◌≡◌, refl, sym, ap, ap₂, ◌∙◌}
+use mathlib.Core.Path.{◌≡◌, refl, sym, ap, ◌∙◌}
 use mathlib.Core.Bool.{Bool, true, false}
 use mathlib.Core.List.{List, [], ◌∷◌, ◌++◌}
 use mathlib.Core.Option.{Option, none, some}
@@ -22,6 +22,9 @@ use Rattle.rules.specs.Library.{Library}
 use Rattle.rules.specs.Ways.{Place, places_from, field_places, owned, matching}
 use Rattle.rules.proofs.Sounds.{library-sound}
 use Rattle.selection.specs.declared.Name.{Name}
+use Rattle.std.specs.declared.option.Option as code
+use Rattle.std.specs.Prelude.{Some, None}
+use Rattle.std.specs.Option.{is_some}
 use Rattle.selection.specs.declared.Own.{Own}
 use Rattle.selection.specs.Results.{first, name_meant, own_meant}
 use Rattle.selection.specs.Finds.{first_from, or_else, first_plain, place_at}
@@ -102,11 +105,11 @@ module _ (text : Bytes) (rows : Words) (t : TypeKey) where
         ≡ first_from (table_of text rows) (name_meant text rows names q) 0 (members_of (kind_at (table_of text rows) t))
     list-is = rw (pf, pc, members-row h g)
 
-    pub listed_found : i < count → own_meant text rows (Own.Found i (obj_key (from + i))) ≡ first_from (table_of text rows) (name_meant text rows names q) 0 (members_of (kind_at (table_of text rows) t))
+    pub listed_found : i < count → own_meant text rows (Some (record { place = i; member = obj_key (from + i) })) ≡ first_from (table_of text rows) (name_meant text rows names q) 0 (members_of (kind_at (table_of text rows) t))
     unfolding own_meant place_at
     listed_found l = (rw (lt-ltb i count l) at p) ∙ list-is
 
-    pub listed-nothing : count ≤ i → own_meant text rows Own.Nothing ≡ first_from (table_of text rows) (name_meant text rows names q) 0 (members_of (kind_at (table_of text rows) t))
+    pub listed-nothing : count ≤ i → own_meant text rows None ≡ first_from (table_of text rows) (name_meant text rows names q) 0 (members_of (kind_at (table_of text rows) t))
     unfolding own_meant place_at
     listed-nothing l = (rw (le-ltb i count l) at p) ∙ list-is
 
@@ -124,7 +127,7 @@ module _ (text : Bytes) (rows : Words) (q : Identity) (u : TypeKey) (h : u.0 < t
   unfolding first_plain first_from or_else
   plain-iface e = rw (number ∙ e)
 
-  pub plain_other : (k ≡ 8 → ⊥) → (k ≡ 9 → ⊥) → own_meant text rows Own.Nothing ≡ first_plain (table_of text rows) q u
+  pub plain_other : (k ≡ 8 → ⊥) → (k ≡ 9 → ⊥) → own_meant text rows None ≡ first_plain (table_of text rows) q u
   unfolding first_plain first_from or_else own_meant
   plain_other n m = rw (number, ne_eqb k 8 n, ne_eqb k 9 m)
 
@@ -148,26 +151,37 @@ module _ (text : Bytes) (rows : Words) where
       let v : u ≡ t = e ∙ sym (under-read text rows t h) ∙ z in
       rw v h)
 
-  module _ (q : Identity) (t : TypeKey) (h : t.0 < type_count rows) {b : Bool} (pb : b ≡ named_read rows t) {u : TypeKey} (pu : u ≡ under_read rows t) where
+  -- a member that is there comes before others
+  meant-some : (r : code.Option Own) → is_some r ≡ true → (p : Option Place) → or_else (own_meant text rows r) p ≡ own_meant text rows r
+  unfolding own_meant or_else
+  meant-some (Some o) e p = refl
+  meant-some None e p = cc
+
+  meant-none : (r : code.Option Own) → is_some r ≡ false → (p : Option Place) → or_else (own_meant text rows r) p ≡ p
+  unfolding own_meant or_else
+  meant-none (Some o) e p = cc
+  meant-none None e p = refl
+
+  module _ (q : Identity) (t : TypeKey) (h : t.0 < type_count rows) {b : Bool} (pb : b ≡ named_read rows t) where
     named : is_named (kind_at (table_of text rows) t) ≡ b
     unfolding named_read
     named = ap (λ n. eqb n 10) (number-read text rows t h) ∙ sym pb
 
-    beneath : first_plain (table_of text rows) q (under (table_of text rows) t) ≡ first_plain (table_of text rows) q u
-    beneath = ap (first_plain (table_of text rows) q) (under-read text rows t h ∙ sym pu)
+    module _ (e : b ≡ true) (r : code.Option Own) (p : own_meant text rows r ≡ first_from (table_of text rows) q 0 (members_of (kind_at (table_of text rows) t))) where
+      declared-first : first (matching (table_of text rows) q t) ≡ or_else (own_meant text rows r) (first_plain (table_of text rows) q (under (table_of text rows) t))
+      declared-first = first-owned (table_of text rows) q t ∙ ap (λ o. or_else o (first_plain (table_of text rows) q (under (table_of text rows) t))) (rw (named ∙ e) (sym p))
 
-    module _ (e : b ≡ true) (r : Own) (p : own_meant text rows r ≡ first_from (table_of text rows) q 0 (members_of (kind_at (table_of text rows) t))) where
-      declared-first : first (matching (table_of text rows) q t) ≡ or_else (own_meant text rows r) (first_plain (table_of text rows) q u)
-      declared-first = first-owned (table_of text rows) q t ∙ ap₂ or_else (rw (named ∙ e) (sym p)) beneath
+      pub own-declared : is_some r ≡ true → own_meant text rows r ≡ first (matching (table_of text rows) q t)
+      own-declared f = sym (declared-first ∙ meant-some r f _)
 
-      pub own-declared : {place : ℕ} {m : _} → r ≡ Own.Found place m → own_meant text rows (Own.Found place m) ≡ first (matching (table_of text rows) q t)
-      unfolding own_meant or_else
-      own-declared f = sym (rw f at declared-first)
+    module _ {u : TypeKey} (pu : u ≡ under_read rows t) where
+      beneath : first_plain (table_of text rows) q (under (table_of text rows) t) ≡ first_plain (table_of text rows) q u
+      beneath = ap (first_plain (table_of text rows) q) (under-read text rows t h ∙ sym pu)
 
-      pub own-under : r ≡ Own.Nothing → (s : Own) → own_meant text rows s ≡ first_plain (table_of text rows) q u → own_meant text rows s ≡ first (matching (table_of text rows) q t)
-      unfolding own_meant or_else
-      own-under f s g = g ∙ sym (rw f at declared-first)
+      pub own-under : b ≡ true → (r : code.Option Own) → own_meant text rows r ≡ first_from (table_of text rows) q 0 (members_of (kind_at (table_of text rows) t))
+          → is_some r ≡ false → (s : code.Option Own) → own_meant text rows s ≡ first_plain (table_of text rows) q u → own_meant text rows s ≡ first (matching (table_of text rows) q t)
+      own-under e r p f s g = g ∙ sym (declared-first e r p ∙ meant-none r f _ ∙ beneath)
 
-    pub own-plain : b ≡ false → (s : Own) → own_meant text rows s ≡ first_plain (table_of text rows) q u → own_meant text rows s ≡ first (matching (table_of text rows) q t)
-    unfolding or_else first_from
-    own-plain e s g = g ∙ sym (first-owned (table_of text rows) q t ∙ rw (named ∙ e) beneath)
+      pub own-plain : b ≡ false → (s : code.Option Own) → own_meant text rows s ≡ first_plain (table_of text rows) q u → own_meant text rows s ≡ first (matching (table_of text rows) q t)
+      unfolding or_else first_from
+      own-plain e s g = g ∙ sym (first-owned (table_of text rows) q t ∙ rw (named ∙ e) beneath)

@@ -1,12 +1,14 @@
 -- The first member of a list that has an identity, at its place in the list: what a search of one type's own members goes through.
-use Rattle.std.specs.Prelude.{◌≡◌, cond, true, List, ℕ, ◌+◌, ◌<◌, ◌≤◌, ltb}
+use Rattle.std.specs.Prelude.{◌≡◌, cond, true, List, ℕ, ◌+◌, ◌<◌, ◌≤◌, ltb, take, drop}
 use Rattle.std.proofs.Math.Option.{Option, none, some}
 use Rattle.objects.specs.declared.TypeKey.{TypeKey}
 use Rattle.objects.specs.Bounds.{max_elements}
 use Rattle.objects.specs.Lists.{Bytes, keep}
 use Rattle.objects.specs.Table.{Table, Member, obj_key, has_package, kind_at, fields_of, all_methods_of}
-use Rattle.objects.specs.Rows.{Words, package_meant, member_at, members_from, table_of}
+use Rattle.objects.specs.Rows.{Words, package_meant, member_count_of, signs_at, bytes_at, member_at, members_from, table_of}
+use Rattle.text.specs.Hash.{hash_from}
 use Rattle.rules.specs.Members.{Identity, identity_of, same_id}
+use Rattle.rules.specs.Library.{Signed}
 use Rattle.rules.specs.Sound.{Ordered}
 use Rattle.rules.specs.Ways.{Place, places_from}
 use Rattle.selection.specs.declared.Name.{Name}
@@ -35,6 +37,13 @@ pub record Searched (text : Bytes) (rows : Words) (from count : ℕ) (q : Name) 
   pub asked : has_package (table_of text rows) (package_meant q.pkg) ≡ true
   pub fits : from + count ≤ max_elements
   pub ordered : Ordered (table_of text rows)
+
+-- The signs of those members, which the rows have, and that of the name.
+pub record SignsAre (text : Bytes) (rows : Words) (from count : ℕ) (names : Bytes) (q : Name) (signs : Words) (sign : ℕ) : Type 0 where
+  pub signed : Signed text rows
+  pub within : from + count ≤ member_count_of rows
+  pub members : signs ≡ take count (drop (signs_at rows + from) rows)
+  pub asked : sign ≡ hash_from 0 (bytes_at names q.at q.len)
 
 -- i is the place of the first of them that has the name, or none has it and i is past the last
 abbrev pub FoundAt : Bytes → Words → (from count : ℕ) → Bytes → Name → ℕ → Type 0

@@ -1,6 +1,8 @@
 -- What the results of the code stand for: "Where an answer is an enum, a definition sets out this paper's number and values for each of its cases."
 use Rattle.std.specs.Prelude.{◌≡◌, Bool, true, not, List, [], ◌∷◌, ℕ, ◌≤◌, ◌<◌, take, drop}
 use Rattle.std.proofs.Math.Option.{Option, none, some}
+use Rattle.std.specs.declared.option.Option as code
+use Rattle.std.specs.Prelude.{Some, None}
 use Rattle.objects.specs.Bounds.{max_places}
 use Rattle.objects.specs.Lists.{Bytes}
 use Rattle.objects.specs.declared.ObjKey.{ObjKey}
@@ -28,9 +30,9 @@ abbrev pub first : List Place → Option Place
 first [] = none
 first (p ∷ ps) = some p
 
-unfoldable pub own_meant : Bytes → Words → Own → Option Place
-own_meant text rows Own.Nothing = none
-own_meant text rows (Own.Found place m) = some (record { place = place; member = member_at text rows m })
+unfoldable pub own_meant : Bytes → Words → code.Option Own → Option Place
+own_meant text rows None = none
+own_meant text rows (Some o) = some (record { place = o.place; member = member_at text rows o.member })
 
 -- ---- results
 
@@ -73,6 +75,7 @@ pub record Selects (text : Bytes) (rows : Words) (r : Selection) (places : Words
 
 -- ---- missing methods
 
-unfoldable pub missing_meant : Bytes → Words → Missing → Option Lack
-missing_meant text rows Missing.Satisfied = none
-missing_meant text rows (Missing.Lacks m w) = some (record { member = member_at text rows m; w = w })
+-- none if every method is met
+unfoldable pub missing_meant : Bytes → Words → code.Option Missing → Option Lack
+missing_meant text rows None = none
+missing_meant text rows (Some l) = some (record { member = member_at text rows l.method; w = l.other_type })

@@ -1,19 +1,20 @@
 // What a selection gives, as goscript's lookup.rs and selection.rs have it, and the members that are a type's own.
 #![tactic(auto)]
 
-ghost use Rattle.std.specs.Prelude.{◌≡◌, true, ◌+◌, ◌<◌, ◌≤◌, length, take, drop};
+ghost use Rattle.std.specs.Prelude.{◌≡◌, true, ◌+◌, ◌<◌, ◌≤◌, length, take, drop, MatchOption};
 ghost use Rattle.objects.specs.Table.{has_package, members_of, kind_at};
 ghost use Rattle.objects.specs.Rows.{type_count, member_count_of, signs_at, bytes_at, package_meant, table_of};
 ghost use Rattle.objects.specs.Types.{number_read};
 ghost use Rattle.text.specs.Hash.{hash_from};
-ghost use Rattle.rules.specs.Library.{Signed, Library};
+ghost use Rattle.rules.specs.Library.{Library};
 ghost use Rattle.rules.specs.Ways.{matching};
 ghost use Rattle.selection.specs.Results.{name_meant, first, own_meant};
-ghost use Rattle.selection.specs.Finds.{first_from, first_plain, Searched, FoundAt};
+ghost use Rattle.selection.specs.Finds.{first_from, first_plain, Searched, SignsAre, FoundAt};
 
 use obj::same_id;
+use objects::kinds::{IFACE, STRUCT};
 use objects::rows::{first_member, kind_number, member_total, named_at, signed, signs_at, under};
-use objects::{ObjKey, Package, TypeKey};
+use objects::{ObjKey, PackageKey, TypeKey};
 use text::compare::span;
 use text::hash::hash;
 
@@ -22,7 +23,7 @@ use text::hash::hash;
 pub struct Name {
     pub at: u32,
     pub len: u32,
-    pub pkg: Package,
+    pub pkg: Option<PackageKey>,
 }
 
 // "the selection enum holds a method-or-field enum"
@@ -48,40 +49,32 @@ pub struct Selection {
     pub count: usize,
 }
 
-// A member of a type itself, at its place in the list that it stands in.
-#[derive(Clone, Copy)]
-pub enum Own {
-    Nothing,
-    Found(u32, ObjKey),
+impl Selection {
+    // No member has the name.
+    pub const NOT_FOUND: Selection = Selection {
+        result: LookupResult::NotFound,
+        count: 0,
+    };
 }
 
-// What N answers: the first method that is not met, and whether a method is there with another type.
+// A member of a type itself, at its place in the list that it stands in.
 #[derive(Clone, Copy)]
-pub enum Missing {
-    Satisfied,
-    Lacks(ObjKey, bool),
+pub struct Own {
+    pub place: u32,
+    pub member: ObjKey,
+}
+
+// Why a type lacks what N asks for: the first method that is not met, and whether a method is there with another type.
+#[derive(Clone, Copy)]
+pub struct Missing {
+    pub method: ObjKey,
+    pub other_type: bool,
 }
 
 // ---- the members that are a type's own
 
 // So many members are compared about as soon as the sign of a name is made, counted in instructions for names of 8 to 16 bytes.
 const FEW_MEMBERS: u32 = 2;
-
-// The place of the first of `count` members from number `from` on that has the name, or count.
-fn find(text: &[u8], rows: &[u32], from: u32, count: u32, names: &[u8], q: Name) -> u32
-    requires { Searched text.now rows.now from count q }
-    ensures { FoundAt text.now rows.now from count names.now q result }
-{
-    let pkg = q.pkg;
-    let mut i = 0;
-    while i < count {
-        if same_id(text, rows, ObjKey(from + i), names, q.at, q.len, pkg) {
-            return i;
-        }
-        i += 1;
-    }
-    count
-}
 
 // The sign of a name.
 fn sign_of(names: &[u8], q: Name) -> u32
@@ -100,23 +93,30 @@ fn signs_of(rows: &[u32], from: u32, count: u32) -> &[u32]
     &rows[at..end]
 }
 
-// The same as `find` of members that are signed: only one with the sign of the name is compared with it.
-fn find_signed(text: &[u8], rows: &[u32], from: u32, count: u32, names: &[u8], q: Name) -> u32
-    requires { Searched text.now rows.now from count q × Signed text.now rows.now × (from + count ≤ member_count_of rows.now) }
+// The place of the first of `count` members from number `from` on that has the name, or count. Where their signs and that of the name are given, a member is
+// compared only if its sign is the name's.
+fn find(
+    text: &[u8],
+    rows: &[u32],
+    from: u32,
+    count: u32,
+    names: &[u8],
+    q: Name,
+    signs: Option<(&[u32], u32)>,
+) -> u32
+    requires searched { Searched text.now rows.now from count q }
+    requires signs { MatchOption signs (Unit {0}) (λ s. SignsAre text.now rows.now from count names.now q s.0.now s.1) }
     ensures { FoundAt text.now rows.now from count names.now q result }
 {
-    let pkg = q.pkg;
-    let sign = sign_of(names, q);
-    let signs = signs_of(rows, from, count);
-    let mut i = 0;
-    while i < count {
-        if signs[i as usize] == sign {
-            let m = from + i;
-            if same_id(text, rows, ObjKey(m), names, q.at, q.len, pkg) {
-                return i;
+    for i in 0..count {
+        if let Some((all, sign)) = signs {
+            if all[i as usize] != sign {
+                continue;
             }
         }
-        i += 1;
+        if same_id(text, rows, ObjKey(from + i), names, q.at, q.len, q.pkg) {
+            return i;
+        }
     }
     count
 }
@@ -126,16 +126,16 @@ fn place(text: &[u8], rows: &[u32], from: u32, count: u32, names: &[u8], q: Name
     requires { Library text.now rows.now × Searched text.now rows.now from count q × (from + count ≤ member_count_of rows.now) }
     ensures { FoundAt text.now rows.now from count names.now q result }
 {
-    if FEW_MEMBERS < count {
-        if signed(rows) != 0 {
-            return find_signed(text, rows, from, count, names, q);
-        }
+    if FEW_MEMBERS < count && signed(rows) != 0 {
+        let signs = signs_of(rows, from, count);
+        let sign = sign_of(names, q);
+        return find(text, rows, from, count, names, q, Some((signs, sign)));
     }
-    find(text, rows, from, count, names, q)
+    find(text, rows, from, count, names, q, None)
 }
 
 // The first of the members under the T line of t, which may have some.
-fn listed(text: &[u8], rows: &[u32], t: TypeKey, names: &[u8], q: Name) -> Own
+fn listed(text: &[u8], rows: &[u32], t: TypeKey, names: &[u8], q: Name) -> Option<Own>
     requires library { Library text.now rows.now }
     requires t_bound { (t.0 < type_count rows.now) × (has_package (table_of text.now rows.now) (package_meant q.pkg) ≡ true) × (8 ≤ number_read rows.now t) }
     ensures { own_meant text.now rows.now result ≡ first_from (table_of text.now rows.now) (name_meant text.now rows.now names.now q) 0 (members_of (kind_at (table_of text.now rows.now) t)) }
@@ -144,38 +144,41 @@ fn listed(text: &[u8], rows: &[u32], t: TypeKey, names: &[u8], q: Name) -> Own
     let count = member_total(rows, t);
     let i = place(text, rows, from, count, names, q);
     if i < count {
-        Own::Found(i, ObjKey(from + i))
+        Some(Own {
+            place: i,
+            member: ObjKey(from + i),
+        })
     } else {
-        Own::Nothing
+        None
     }
 }
 
 // The first of the fields of a struct or of the methods of an interface.
-fn plain_member(text: &[u8], rows: &[u32], u: TypeKey, names: &[u8], q: Name) -> Own
+fn plain_member(text: &[u8], rows: &[u32], u: TypeKey, names: &[u8], q: Name) -> Option<Own>
     requires library { Library text.now rows.now }
     requires u_bound { (u.0 < type_count rows.now) × (has_package (table_of text.now rows.now) (package_meant q.pkg) ≡ true) }
     ensures { own_meant text.now rows.now result ≡ first_plain (table_of text.now rows.now) (name_meant text.now rows.now names.now q) u }
 {
-    match kind_number(rows, u) {
-        8 => listed(text, rows, u, names, q),
-        9 => listed(text, rows, u, names, q),
-        _ => Own::Nothing,
+    let kind = kind_number(rows, u);
+    if kind == STRUCT || kind == IFACE {
+        listed(text, rows, u, names, q)
+    } else {
+        None
     }
 }
 
 // The member of t itself that has the name.
-pub fn own_member(text: &[u8], rows: &[u32], t: TypeKey, names: &[u8], q: Name) -> Own
+pub fn own_member(text: &[u8], rows: &[u32], t: TypeKey, names: &[u8], q: Name) -> Option<Own>
     requires library { Library text.now rows.now }
     requires t_bound { (t.0 < type_count rows.now) × (has_package (table_of text.now rows.now) (package_meant q.pkg) ≡ true) }
     ensures { own_meant text.now rows.now result ≡ first (matching (table_of text.now rows.now) (name_meant text.now rows.now names.now q) t) }
 {
-    let u = under(rows, t);
     if named_at(rows, t) {
-        match listed(text, rows, t, names, q) {
-            Own::Found(place, m) => Own::Found(place, m),
-            Own::Nothing => plain_member(text, rows, u, names, q),
+        let own = listed(text, rows, t, names, q);
+        if own.is_some() {
+            return own;
         }
-    } else {
-        plain_member(text, rows, u, names, q)
     }
+    let u = under(rows, t);
+    plain_member(text, rows, u, names, q)
 }

@@ -19,11 +19,9 @@ fn put_signs(text: &[u8], rows: &mut [u32])
     ensures { Signing text.now rows.old (member_count_of rows.old) rows.new }
 {
     let n = member_count(rows);
-    let mut m: u32 = 0;
-    while m < n {
+    for m in 0..n {
         let sign = name_hash(text, rows, ObjKey(m)) as u32;
         put_sign(rows, ObjKey(m), sign);
-        m += 1;
     }
 }
 

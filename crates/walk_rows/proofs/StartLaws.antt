@@ -1,12 +1,13 @@
 -- The start: no type has a row.
 use mathlib.Core.Path.{◌≡◌, refl, ap, ◌∙◌}
-use mathlib.Core.Bool.{Bool}
+use mathlib.Core.Bool.{Bool, true, false}
 use mathlib.Core.List.{List, [], ◌∷◌}
 use Prim.Native.Nat.{ℕ, ◌+◌, ◌≤◌, ◌<◌}
 use native.Mathlib.Omega.{arith}
 use lib.Dec.{eqb}
 use lib.ListN.{length, set}
 use borrow.Author.Tests.{eqb-true, eqb-false}
+use mir.Val.{bool_byte}
 use Rattle.objects.specs.declared.TypeKey.{TypeKey}
 use Rattle.objects.specs.Rows.{word_at}
 use Rattle.objects.proofs.ListLaws.{cases}
@@ -40,6 +41,11 @@ rowed-none walk most wide clear = record {
 }
 
 -- ---- the first row
+
+-- a flag as a word: 1 exactly if it is set
+pub byte-eq1 : (b : Bool) → eqb (bool_byte b) 1 ≡ b
+byte-eq1 true = refl
+byte-eq1 false = refl
 
 module _ (t : TypeKey) (flag : ℕ) where
   abbrev pub root_record : Record

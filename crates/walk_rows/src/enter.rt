@@ -12,10 +12,7 @@ fn keeps_out(walk: &[EmbeddedType], i: usize, level: u32) -> bool
     ensures { result ≡ ltb (level_of walk.now i) level || mark_of walk.now i }
 {
     let r = record_at(walk, i);
-    if r[LEVEL] < level {
-        return true;
-    }
-    r[MULTIPLES] == 1
+    r[LEVEL] < level || r[MULTIPLES] == 1
 }
 
 // Record e, below the rows before `from`. Answers where the rows now end.

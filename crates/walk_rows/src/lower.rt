@@ -20,7 +20,6 @@ use objects::rows::{
     bare, first_member, is_embedded, kind_number, member_total, member_type, pointer_at, under,
 };
 use objects::{ObjKey, TypeKey};
-use text::bytes::or;
 
 // Member m, at a place among the fields of a row's type, if it is an embedded field.
 fn embed_field(
@@ -41,15 +40,10 @@ fn embed_field(
     }
     let t = member_type(rows, m);
     let target = bare(rows, t);
-    let flag = if or(up.flag, pointer_at(rows, t)) {
-        1
-    } else {
-        0
-    };
-    let from = up.from;
+    let flag = u32::from(up.flag || pointer_at(rows, t));
     enter(
         walk,
-        from,
+        up.from,
         n,
         [target.0, up.row, place, flag, 0, m.0, up.level, 0],
     )
@@ -70,10 +64,8 @@ fn embed_fields(
     ensures { Enters (type_count rows.now) walk.old n (rows_below (table_of text.now rows.now) up (places_from 0 (members_from text.now rows.now first total))) walk.new result }
 {
     let mut end = n;
-    let mut j: u32 = 0;
-    while j < total {
+    for j in 0..total {
         end = embed_field(text, rows, walk, end, up, ObjKey(first + j), j);
-        j += 1;
     }
     end
 }
@@ -100,7 +92,7 @@ fn embed(
         row: i,
         flag: e[INDIRECT] == 1,
         level: e[LEVEL] + 1,
-        from: from,
+        from,
     };
     let first = first_member(rows, u);
     let total = member_total(rows, u);
@@ -114,10 +106,8 @@ pub fn lower(text: &[u8], rows: &[u32], walk: &mut [EmbeddedType], lo: u32, n: u
     ensures { Enters (type_count rows.now) walk.old n (flat (embeds (graph (table_of text.now rows.now)) (rows_of walk.old n)) (range lo (n - lo))) walk.new result }
 {
     let mut end = n;
-    let mut i: u32 = lo;
-    while (i as usize) < n {
+    for i in lo..n as u32 {
         end = embed(text, rows, walk, n, end, i);
-        i += 1;
     }
     end
 }

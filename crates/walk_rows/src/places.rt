@@ -16,6 +16,7 @@ pub fn write_places(walk: &[EmbeddedType], places: &mut [u32], i: u32, last: u32
     places[d] = last;
     let mut left = d;
     let mut at = i;
+    // a `while`, since it climbs a chain of parents
     while left > 0 {
         left -= 1;
         let e = record_at(walk, at as usize);

@@ -14,10 +14,9 @@ use objects::TypeKey;
 pub fn record_at(walk: &[EmbeddedType], i: usize) -> EmbeddedType
     ensures { (c : ℕ) → word_at result c ≡ word_at (record_at walk.now i) c }
 {
-    if i < walk.len() {
-        walk[i]
-    } else {
-        [0u32; RECORD_WORDS]
+    match walk.get(i) {
+        Some(r) => *r,
+        None => [0; RECORD_WORDS],
     }
 }
 
@@ -26,10 +25,8 @@ fn clear_firsts(walk: &mut [EmbeddedType])
     requires { (length walk.old ≤ max_records) × Wide walk.old }
     ensures { (length walk.new ≡ length walk.old) × Wide walk.new × Empty walk.new }
 {
-    let mut i: usize = 0;
-    while 2 * i + 2 <= walk.len() {
+    for i in 0..walk.len() / 2 {
         walk[i][FIRST] = 0;
-        i += 1;
     }
 }
 
@@ -70,5 +67,5 @@ pub fn put_root(walk: &mut [EmbeddedType], t: TypeKey, f: bool)
     ensures { (length walk.new ≡ length walk.old) × Holds walk.new 1 (root_row t f ∷ []) }
 {
     clear_firsts(walk);
-    put_first(walk, 0, [t.0, 0, 0, if f { 1 } else { 0 }, 0, 0, 0, 0]);
+    put_first(walk, 0, [t.0, 0, 0, u32::from(f), 0, 0, 0, 0]);
 }

@@ -1,12 +1,8 @@
 -- `signs::put_signs` meets its contract. The invariant: the members before m are signed.
 use mathlib.Core.Path.{◌≡◌}
-use Prim.Native.Nat.{◌-◌, ◌≤◌}
 use lib.ListN.{length}
 use Rattle.signs.specs.Signing.{Signing}
 use Rattle.signs.proofs.put_signs.Given as goal
 
 abbrev pub invariant-loop-m : goal.invariant-loop-m
-invariant-loop-m l = (length l.rows ≡ length l.initial.rows) × (l.m ≤ l.n) × Signing l.text l.initial.rows l.m l.rows
-
-abbrev pub decreases-loop-m : goal.decreases-loop-m
-decreases-loop-m l = l.n - l.m
+invariant-loop-m l = (length l.rows ≡ length l.initial.rows) × Signing l.text l.initial.rows l.m l.rows

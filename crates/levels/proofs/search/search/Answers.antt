@@ -26,22 +26,22 @@ next_hit-requires c =
 
 pub overflow_add-w : goal.overflow_add-w
 overflow_add-w c =
-    let hit = tells_at _ _ _ _ _ _ c.next_hit.ensures c.in-At.is in
+    let hit = tells_at _ _ _ _ _ _ c.next_hit.ensures c.in-Some.is in
     omega (arith, rows-most c.loop-lo.invariant.0.staged.state.rowed, c.loop-lo.invariant.0.staged.state.rowed.most, hit.here.inside)
 
 pub next_hit-next-requires : goal.next_hit-next-requires
 next_hit-next-requires c =
-    let hit = tells_at _ _ _ _ _ _ c.next_hit.ensures c.in-At.is in
+    let hit = tells_at _ _ _ _ _ _ c.next_hit.ensures c.in-Some.is in
     record { library = c.requires.library; walked = (c.loop-lo.invariant.0.staged.state, omega (arith, hit.here.inside), c.requires.typ_bound.1) }
 
 pub verdict-requires : goal.verdict-requires
 verdict-requires c =
-    let hit = tells_at _ _ _ _ _ _ c.next_hit.ensures c.in-At.is in
+    let hit = tells_at _ _ _ _ _ _ c.next_hit.ensures c.in-Some.is in
     (going-short _ _ _ _ _ _ c.loop-lo.invariant.0 c.requires.library c.requires.typ_bound.0 c.loop-lo-test.true hit, omega (arith, c.loop-lo.invariant.2, c.requires.scratch.long), going-beside _ _ _ _ _ _ c.loop-lo.invariant.0 hit _ c.next_hit-next.ensures, hit.here.typed)
 
-pub returns-in-At : goal.returns-in-At
-returns-in-At c =
-    let hit = tells_at _ _ _ _ _ _ c.next_hit.ensures c.in-At.is in
+pub returns-in-Some : goal.returns-in-Some
+returns-in-Some c =
+    let hit = tells_at _ _ _ _ _ _ c.next_hit.ensures c.in-Some.is in
     record { answers = going-found _ _ _ _ _ _ c.loop-lo.invariant.0 c.requires.library c.requires.typ_bound.0 c.loop-lo-test.true hit _ c.next_hit-next.ensures c.verdict.ensures; wide = c.loop-lo.invariant.0.staged.state.rowed.wide }
 
 pub lower-end-requires : goal.lower-end-requires
@@ -58,9 +58,9 @@ loop-lo-smaller c =
 
 pub loop-lo-preserved : goal.loop-lo-preserved
 loop-lo-preserved c =
-    let none = tells-nothing _ _ _ _ _ _ c.next_hit.ensures c.in-Nothing.is in
+    let none = tells-nothing _ _ _ _ _ _ c.next_hit.ensures c.in_default.is in
     (going_on _ _ _ _ _ _ c.loop-lo.invariant.0 c.requires.library c.requires.typ_bound.0 c.loop-lo-test.true none c.lower-end.ensures, search rules, c.loop-lo.invariant.2)
 
 pub returns : goal.returns
 returns c =
-    record { answers = going_end _ _ _ _ _ _ c.loop-lo.invariant.0 c.loop-lo-test.false c.not_found.ensures; wide = c.loop-lo.invariant.0.staged.state.rowed.wide }
+    record { answers = going_end _ _ _ _ _ _ c.loop-lo.invariant.0 c.loop-lo-test.false refl; wide = c.loop-lo.invariant.0.staged.state.rowed.wide }

@@ -4,4 +4,4 @@ use Rattle.lookup.proofs.missing.name_of.Goals as goal
 
 pub returns : goal.returns
 unfolding name_read
-returns c = rw (c.member_word-at.ensures, c.member_word-len.ensures, c.member_package-pkg.ensures)
+returns c = rw (c.member_word.ensures, c.member_word-2.ensures, c.member_package.ensures)

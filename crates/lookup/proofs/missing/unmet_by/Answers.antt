@@ -1,6 +1,6 @@
 -- `lookup::missing::unmet_by` meets its contract.
 use mathlib.Core.Path.{refl}
-use Rattle.lookup.proofs.MissingLaws.{by-method, by-field, by-ambiguous, by-receiver, by-nothing, by-typed}
+use Rattle.lookup.proofs.MissingLaws.{by-method, by-field, by-other, by-typed}
 use Rattle.lookup.proofs.missing.unmet_by.Goals as goal
 
 pub compared-requires : goal.compared-requires
@@ -15,14 +15,6 @@ pub returns-in-Field : goal.returns-in-Field
 returns-in-Field c =
     record { by_index = λ first second. by-field _ _ _ first second c.in-Entry.is c.in-Field.is c.requires.m_bound.2; marks_unchanged = refl }
 
-pub returns-in-Ambiguous : goal.returns-in-Ambiguous
-returns-in-Ambiguous c =
-    record { by_index = λ first second. by-ambiguous _ _ _ first second c.in-Ambiguous.is; marks_unchanged = refl }
-
-pub returns-in-BadMethodReceiver : goal.returns-in-BadMethodReceiver
-returns-in-BadMethodReceiver c =
-    record { by_index = λ first second. by-receiver _ _ _ first second c.in-BadMethodReceiver.is; marks_unchanged = refl }
-
-pub returns-in-NotFound : goal.returns-in-NotFound
-returns-in-NotFound c =
-    record { by_index = λ first second. by-nothing _ _ _ first second c.in-NotFound.is; marks_unchanged = refl }
+pub returns-in_default : goal.returns-in_default
+returns-in_default c =
+    record { by_index = λ first second. by-other _ _ _ first second c.in_default.not-Entry; marks_unchanged = refl }

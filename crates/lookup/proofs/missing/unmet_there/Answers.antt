@@ -1,7 +1,8 @@
 -- `lookup::missing::unmet_there` meets its contract.
-use mathlib.Core.Path.{refl}
+use mathlib.Core.Path.{ap, ◌∙◌}
+use Rattle.selection.specs.Results.{missing_meant}
 use Rattle.selection.proofs.OwnLaws.{under-in}
-use Rattle.lookup.proofs.MissingLaws.{own-packaged, there-found, there-typed, there-absent, there-let}
+use Rattle.lookup.proofs.MissingLaws.{own-packaged, there-found, there-typed, there-none}
 use Rattle.lookup.proofs.missing.unmet_there.Goals as goal
 
 pub own_member-requires : goal.own_member-requires
@@ -10,16 +11,12 @@ own_member-requires c =
 
 pub compared-requires : goal.compared-requires
 compared-requires c =
-    record { library = c.requires.library; m_bound = (c.requires.t_bound.1.typed, there-typed _ _ c.requires.library _ c.requires.t_bound.0 c.requires.t_value.0 _ c.under-u.ensures c.name_of-q.ensures _ c.own_member.ensures c.in-Found.is, c.requires.t_value.1); marks_value = c.requires.marks_value }
+    record { library = c.requires.library; m_bound = (c.requires.t_bound.1.typed, there-typed _ _ c.requires.library _ c.requires.t_bound.0 c.requires.t_value.0 _ c.under-u.ensures c.name_of-q.ensures _ c.own_member.ensures c.in-Some.is, c.requires.t_value.1); marks_value = c.requires.marks_value }
 
-pub returns-in-Found : goal.returns-in-Found
-returns-in-Found c =
-    record { result_value = there-found _ _ c.requires.library _ c.requires.t_bound.0 c.requires.t_value.0 _ c.under-u.ensures c.name_of-q.ensures _ c.own_member.ensures c.in-Found.is _ _ c.compared.ensures.result_value; marks_unchanged = c.compared.ensures.marks_unchanged }
+pub returns-in-Some : goal.returns-in-Some
+returns-in-Some c =
+    record { result_value = there-found _ _ c.requires.library _ c.requires.t_bound.0 c.requires.t_value.0 _ c.under-u.ensures c.name_of-q.ensures _ c.own_member.ensures c.in-Some.is _ _ c.compared.ensures.result_value; marks_unchanged = c.compared.ensures.marks_unchanged }
 
-pub returns-then-s : goal.returns-then-s
-returns-then-s c =
-    record { result_value = there-absent _ _ c.requires.library _ c.requires.t_bound.0 c.requires.t_value.0 _ c.under-u.ensures c.name_of-q.ensures _ c.own_member.ensures c.in-Nothing.is c.if-s.true; marks_unchanged = refl }
-
-pub returns-else-s : goal.returns-else-s
-returns-else-s c =
-    record { result_value = there-let _ _ c.requires.library _ c.requires.t_bound.0 c.requires.t_value.0 _ c.under-u.ensures c.name_of-q.ensures _ c.own_member.ensures c.in-Nothing.is c.if-s.false; marks_unchanged = refl }
+pub returns-in-None-clause-result_value : goal.returns-in-None-clause-result_value
+returns-in-None-clause-result_value c =
+    ap (missing_meant c.args.text.now c.args.rows.now) c.then_some.ensures ∙ there-none _ _ c.requires.library _ c.requires.t_bound.0 c.requires.t_value.0 _ c.under-u.ensures c.name_of-q.ensures _ c.own_member.ensures c.in-None.is c.args.s

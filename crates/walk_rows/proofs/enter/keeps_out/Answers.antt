@@ -1,4 +1,6 @@
 -- `keeps_out`.
+use mathlib.Core.Path.{◌∙◌}
+use borrow.Author.Tests.{lt-ltb}
 use Rattle.objects.specs.Rows.{word_at}
 use Rattle.walk_rows.proofs.EnterLaws.{out-earlier, out-marked}
 use Rattle.walk_rows.proofs.enter.keeps_out.Goals as goal
@@ -6,9 +8,9 @@ use Rattle.walk_rows.proofs.enter.keeps_out.Goals as goal
 pub returns-then-r-level : goal.returns-then-r-level
 unfolding word_at
 returns-then-r-level c =
-    out-earlier c.args.walk.now c.args.i c.args.level c.record_at-r.result c.record_at-r.ensures c.if-r-level.true
+    lt-ltb _ _ c.if-r-level.true ∙ out-earlier c.args.walk.now c.args.i c.args.level c.record_at-r.result c.record_at-r.ensures c.if-r-level.true
 
-pub returns : goal.returns
+pub returns-else-r-level : goal.returns-else-r-level
 unfolding word_at
-returns c =
+returns-else-r-level c =
     out-marked c.args.walk.now c.args.i c.args.level c.record_at-r.result c.record_at-r.ensures c.if-r-level.false

@@ -7,28 +7,22 @@ use Rattle.walk_rows.proofs.lower.embed_fields.Goals as goal
 
 pub loop-j-init : goal.loop-j-init
 loop-j-init c =
-    (omega arith, fields-start c.args.text.now c.args.rows.now c.args.up c.args.first c.requires.walked.0, refl)
+    (fields-start c.args.text.now c.args.rows.now c.args.up c.args.first c.requires.walked.0, refl)
 
 pub overflow_add-first : goal.overflow_add-first
 overflow_add-first c = omega arith
 
 pub embed_field-end-requires : goal.embed_field-end-requires
 embed_field-end-requires c =
-    record { library = c.requires.library; walked = (c.loop-j.invariant.1.state, below_on _ c.loop-j.invariant.1 c.args.up c.requires.walked.1, c.requires.walked.3 _ c.loop-j-test.true) }
-
-pub overflow_add-j : goal.overflow_add-j
-overflow_add-j c = omega arith
-
-pub loop-j-smaller : goal.loop-j-smaller
-loop-j-smaller c = omega arith
+    record { library = c.requires.library; walked = (c.loop-j.invariant.0.state, below_on _ c.loop-j.invariant.0 c.args.up c.requires.walked.1, c.requires.walked.3 _ c.loop-j-test.true) }
 
 pub loop-j-preserved : goal.loop-j-preserved
 loop-j-preserved c =
-    (omega arith, fields-on c.args.text.now c.args.rows.now c.args.up c.args.first c.loop-j.j c.loop-j.invariant.1 c.embed_field-end.ensures, search rules)
+    (fields-on c.args.text.now c.args.rows.now c.args.up c.args.first c.loop-j.j c.loop-j.invariant.0 c.embed_field-end.ensures, search rules)
 
 pub shape_of-walk : goal.shape_of-walk
-shape_of-walk c = c.loop-j.invariant.2
+shape_of-walk c = c.loop-j.invariant.1
 
 pub returns : goal.returns
 returns c =
-    fields-end c.args.text.now c.args.rows.now c.args.up c.args.first c.loop-j.j c.args.total c.loop-j.invariant.1 c.loop-j.invariant.0 c.loop-j-test.false
+    fields-end c.args.text.now c.args.rows.now c.args.up c.args.first c.loop-j.j c.args.total c.loop-j.invariant.0 c.loop-j.auto.j-end c.loop-j-test.false

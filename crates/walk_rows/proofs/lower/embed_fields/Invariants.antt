@@ -1,6 +1,5 @@
 -- `embed_fields`: the rows for the first j fields are entered.
 use mathlib.Core.Path.{◌≡◌}
-use Prim.Native.Nat.{◌-◌, ◌≤◌}
 use lib.ListN.{length}
 use Rattle.objects.specs.Rows.{type_count}
 use Rattle.walk_rows.specs.State.{Enters}
@@ -9,7 +8,4 @@ use Rattle.walk_rows.proofs.lower.embed_fields.Given as goal
 
 abbrev pub invariant-loop-j : goal.invariant-loop-j
 invariant-loop-j l =
-    (l.j ≤ l.total) × Enters (type_count l.rows) l.initial.walk l.n (field_rows l.text l.rows l.up l.first l.j) l.walk l.end × (length l.walk ≡ length l.initial.walk)
-
-abbrev pub decreases-loop-j : goal.decreases-loop-j
-decreases-loop-j l = l.total - l.j
+    Enters (type_count l.rows) l.initial.walk l.n (field_rows l.text l.rows l.up l.first l.j) l.walk l.end × (length l.walk ≡ length l.initial.walk)

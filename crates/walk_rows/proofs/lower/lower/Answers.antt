@@ -8,27 +8,24 @@ use Rattle.walk_rows.proofs.lower.lower.Goals as goal
 
 pub loop-i-init : goal.loop-i-init
 loop-i-init c =
-    (omega arith, c.requires.walked.1, level-start c.args.text.now c.args.rows.now c.args.walk.now c.args.n c.args.lo c.requires.walked.0, refl)
+    (level-start c.args.text.now c.args.rows.now c.args.walk.now c.args.n c.args.lo c.requires.walked.0, refl)
 
-pub embed-end-requires : goal.embed-end-requires
-embed-end-requires c =
-    record { library = c.requires.library; walked = (c.loop-i.invariant.2.state, c.loop-i-test.true, enters-more _ c.loop-i.invariant.2, last_on _ c.loop-i.invariant.2 c.args.lo c.loop-i.i c.loop-i.invariant.0 c.requires.walked.2) }
-
-pub overflow_add-i : goal.overflow_add-i
-overflow_add-i c =
+pub overflow_cast-i-end : goal.overflow_cast-i-end
+overflow_cast-i-end c =
     let most = rows-most c.requires.walked.0.rowed in
     omega arith
 
-pub loop-i-smaller : goal.loop-i-smaller
-loop-i-smaller c = omega arith
+pub embed-end-requires : goal.embed-end-requires
+embed-end-requires c =
+    record { library = c.requires.library; walked = (c.loop-i.invariant.0.state, c.loop-i-test.true, enters-more _ c.loop-i.invariant.0, last_on _ c.loop-i.invariant.0 c.args.lo c.loop-i.i c.loop-i.auto.i c.requires.walked.2) }
 
 pub loop-i-preserved : goal.loop-i-preserved
 loop-i-preserved c =
-    (omega arith, omega arith, level-on c.args.text.now c.args.rows.now c.args.walk.now c.args.n c.args.lo c.loop-i.i c.loop-i.invariant.0 c.loop-i-test.true c.loop-i.invariant.2 c.embed-end.ensures, search rules)
+    (level-on c.args.text.now c.args.rows.now c.args.walk.now c.args.n c.args.lo c.loop-i.i c.loop-i.auto.i c.loop-i-test.true c.loop-i.invariant.0 c.embed-end.ensures, search rules)
 
 pub shape_of-walk : goal.shape_of-walk
-shape_of-walk c = c.loop-i.invariant.3
+shape_of-walk c = c.loop-i.invariant.1
 
 pub returns : goal.returns
 returns c =
-    level-end c.args.text.now c.args.rows.now c.args.walk.now c.args.n c.args.lo c.loop-i.i c.loop-i.invariant.2 c.loop-i.invariant.1 c.loop-i-test.false
+    level-end c.args.text.now c.args.rows.now c.args.walk.now c.args.n c.args.lo c.loop-i.i c.loop-i.invariant.0 (c.loop-i.auto.i-end c.requires.walked.1) c.loop-i-test.false

@@ -1,6 +1,5 @@
 -- `lower`: what the rows from lo up to i embed is entered.
 use mathlib.Core.Path.{◌≡◌}
-use Prim.Native.Nat.{◌-◌, ◌≤◌}
 use lib.ListN.{length}
 use Rattle.objects.specs.Rows.{type_count}
 use Rattle.walk_rows.specs.State.{Enters}
@@ -9,7 +8,4 @@ use Rattle.walk_rows.proofs.lower.lower.Given as goal
 
 abbrev pub invariant-loop-i : goal.invariant-loop-i
 invariant-loop-i l =
-    (l.lo ≤ l.i) × (l.i ≤ l.n) × Enters (type_count l.rows) l.initial.walk l.n (level_rows l.text l.rows l.initial.walk l.n l.lo l.i) l.walk l.end × (length l.walk ≡ length l.initial.walk)
-
-abbrev pub decreases-loop-i : goal.decreases-loop-i
-decreases-loop-i l = l.n - l.i
+    Enters (type_count l.rows) l.initial.walk l.n (level_rows l.text l.rows l.initial.walk l.n l.lo l.i) l.walk l.end × (length l.walk ≡ length l.initial.walk)

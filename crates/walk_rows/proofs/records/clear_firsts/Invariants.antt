@@ -1,6 +1,5 @@
 -- `clear_firsts`: the first i types have no row.
 use mathlib.Core.Path.{◌≡◌}
-use Prim.Native.Nat.{◌*◌, ◌-◌, ◌≤◌}
 use lib.ListN.{length}
 use Rattle.walk_rows.specs.State.{Wide}
 use Rattle.walk_rows.proofs.StartLaws.{Cleared}
@@ -8,7 +7,4 @@ use Rattle.walk_rows.proofs.records.clear_firsts.Given as goal
 
 abbrev pub invariant-loop-i : goal.invariant-loop-i
 invariant-loop-i l =
-    (length l.walk ≡ length l.initial.walk) × Wide l.walk × (2 * l.i ≤ length l.walk) × Cleared l.walk l.i
-
-abbrev pub decreases-loop-i : goal.decreases-loop-i
-decreases-loop-i l = length l.walk - l.i
+    (length l.walk ≡ length l.initial.walk) × Wide l.walk × Cleared l.walk l.i

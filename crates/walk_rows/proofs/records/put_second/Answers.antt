@@ -1,6 +1,5 @@
 -- `put_second`.
 use native.Mathlib.Omega.{arith}
-use lib.ListN.{length-take, length-drop}
 use Rattle.objects.specs.Rows.{word_at}
 use Rattle.walk_rows.proofs.StateLaws.{rows-most}
 use Rattle.walk_rows.proofs.EnterLaws.{part-marks, marks-room, marks-most, second_holds}
@@ -12,9 +11,6 @@ offset_bounds-walk-from c =
 
 pub slice_bounds-consolidate_multiples-end : goal.slice_bounds-consolidate_multiples-end
 slice_bounds-consolidate_multiples-end c = rows-most c.requires.rowed.0
-
-pub consolidate_multiples-requires : goal.consolidate_multiples-requires
-consolidate_multiples-requires c = simp (length-take, length-drop) (omega arith)
 
 pub put_record-requires : goal.put_record-requires
 unfolding word_at
