@@ -45,14 +45,10 @@ pub fn unordered(text: &[u8], rows: &[u32]) -> Stage
     requires { Laid rows.now }
     ensures { found result ≡ first_unordered (table_of text.now rows.now).packages }
 {
-    let n = package_count(rows);
-    let mut p = 1;
-    while p < n {
+    for p in 1..package_count(rows) {
         if !ascends(text, rows, p) {
-            let line = p + 2;
-            return Stage::Bad(line);
+            return Stage::Bad(p + 2);
         }
-        p += 1;
     }
     Stage::Passed
 }
