@@ -10,9 +10,9 @@ ghost use Rattle.cycles.specs.Contained.{Finds};
 
 use crate::contents::{content, content_total};
 use crate::ranks::rank;
+use objects::TypeKey;
 use objects::bounds::MAX_TYPES;
 use objects::rows::{type_count, type_word, word};
-use objects::{Stage, TypeKey};
 
 // A type that was not met is marked and goes to the end of the queue. Answers the new end.
 fn push(marks: &mut [u32], queue: &mut [u32], end: usize, e: TypeKey) -> usize
@@ -82,15 +82,15 @@ fn on_cycle(rows: &[u32], t: TypeKey) -> bool
 
 // The line of the least type that contains itself. A search is linear in the contents, and only a type without rank asks for one: in the worst case, where
 // nearly all types merely lead to a cycle, the whole is quadratic.
-pub fn first_back(rows: &[u32]) -> Stage
+pub fn first_back(rows: &[u32]) -> Option<u32>
     requires { Ranks rows.now }
     ensures { Finds rows.now result }
 {
     for t in 0..type_count(rows) {
         let k = TypeKey(t);
         if on_cycle(rows, k) {
-            return Stage::Bad(type_word(rows, k, 6));
+            return Some(type_word(rows, k, 6));
         }
     }
-    Stage::Passed
+    None
 }

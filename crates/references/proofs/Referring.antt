@@ -11,7 +11,8 @@ use native.Mathlib.Numerals.{add-one}
 use Rattle.objects.specs.declared.TypeKey.{TypeKey}
 use Rattle.objects.specs.declared.ObjKey.{ObjKey}
 use Rattle.objects.specs.declared.PackageKey.{PackageKey}
-use Rattle.objects.specs.declared.«Package».{«Package»}
+use Rattle.std.specs.declared.option.Option as code
+use Rattle.std.specs.Prelude.{Some, None}
 use Rattle.objects.specs.declared.«Type».{«Type»}
 use Rattle.objects.specs.Lists.{Bytes, every}
 use Rattle.objects.specs.Table.{type_key, refs, has_type, has_package, kind_number, kind_at}
@@ -28,17 +29,17 @@ module _ (text : Bytes) (rows : Words) where
   pub type-had : (t : TypeKey) {n : ℕ} → n ≡ type_count rows → ltb t.0 n ≡ has_type (table_of text rows) t
   type-had t p = ap (ltb t.0) (p ∙ sym (size-read text rows))
 
-  module _ {p : «Package»} where
-    pub no-package : p ≡ «Package».Absent → true ≡ has_package (table_of text rows) (package_meant p)
+  module _ {p : code.Option PackageKey} where
+    pub no-package : p ≡ None → true ≡ has_package (table_of text rows) (package_meant p)
     unfolding package_meant
     no-package e = rw e
 
-    pub package-had : {k : PackageKey} → p ≡ «Package».Is k → {c : ℕ} → c ≡ package_count rows → ltb k.0 c ≡ has_package (table_of text rows) (package_meant p)
+    pub package-had : {k : PackageKey} → p ≡ Some k → {c : ℕ} → c ≡ package_count rows → ltb k.0 c ≡ has_package (table_of text rows) (package_meant p)
     unfolding package_meant
     package-had {k} e q = rw e (ap (ltb k.0) (q ∙ sym (package-count-read text rows)))
 
   pub member-had : (m : ObjKey) {e : TypeKey} → e ≡ member_type_read rows m → {a : Bool} → a ≡ has_type (table_of text rows) e
-      → {p : «Package»} → p ≡ package_read rows m → {b : Bool} → b ≡ has_package (table_of text rows) (package_meant p) → {r : Bool} → r ≡ a && b
+      → {p : code.Option PackageKey} → p ≡ package_read rows m → {b : Bool} → b ≡ has_package (table_of text rows) (package_meant p) → {r : Bool} → r ≡ a && b
       → r ≡ has_type (table_of text rows) (member_at text rows m).type && has_package (table_of text rows) (member_at text rows m).pkg
   member-had m pe pa pp pb pr = pr ∙ rw (pa, pb, pe, pp, member-type-meant text rows m, member-package-meant text rows m)
 

@@ -14,7 +14,7 @@ ghost use Rattle.references.specs.Lines.{Says, lines_read};
 use crate::tests::{Forbidden, Lacking, Test};
 use objects::kinds::FUNC;
 use objects::rows::{first_member, kind_number, member_total, member_word, type_count, type_word};
-use objects::{ObjKey, Stage, TypeKey};
+use objects::{ObjKey, TypeKey};
 
 pub mod tests; // the two tests of a line
 pub mod refs; // what a line refers to
@@ -35,7 +35,7 @@ pub fn member_lines(rows: &[u32], t: TypeKey) -> u32
 }
 
 // The first line under the T line of t that fails.
-fn first_member_line<X: Test>(rows: &[u32], t: TypeKey) -> Stage
+fn first_member_line<X: Test>(rows: &[u32], t: TypeKey) -> Option<u32>
     requires { Laid rows.now × (t.0 < type_count rows.now) }
     ensures { Says rows.now (found result) (λ T. first_item T (X.fails T) (lines_under t (kind_at T t))) }
 {
@@ -43,19 +43,19 @@ fn first_member_line<X: Test>(rows: &[u32], t: TypeKey) -> Stage
     for i in 0..member_lines(rows, t) {
         let m = ObjKey(first + i);
         if X::member_fails(rows, t, m) {
-            return Stage::Bad(member_word(rows, m, 7));
+            return Some(member_word(rows, m, 7));
         }
     }
-    Stage::Passed
+    None
 }
 
 // The first line of t that fails: its T line, or one under it.
-fn first_line_of<X: Test>(rows: &[u32], t: TypeKey) -> Stage
+fn first_line_of<X: Test>(rows: &[u32], t: TypeKey) -> Option<u32>
     requires { Laid rows.now × (t.0 < type_count rows.now) }
     ensures { Says rows.now (found result) (λ T. first_item T (X.fails T) (lines_of t (kind_at T t))) }
 {
     if X::type_fails(rows, t) {
-        return Stage::Bad(type_word(rows, t, 6));
+        return Some(type_word(rows, t, 6));
     }
     first_member_line::<X>(rows, t)
 }
@@ -63,20 +63,20 @@ fn first_line_of<X: Test>(rows: &[u32], t: TypeKey) -> Stage
 // ---- the whole table
 
 // The first line of the table that fails.
-fn first_line<X: Test>(rows: &[u32]) -> Stage
+fn first_line<X: Test>(rows: &[u32]) -> Option<u32>
     requires { Laid rows.now }
     ensures { Says rows.now (found result) (λ T. first_item T (X.fails T) (items T)) }
 {
     for t in 0..type_count(rows) {
-        if let Stage::Bad(line) = first_line_of::<X>(rows, TypeKey(t)) {
-            return Stage::Bad(line);
+        if let Some(line) = first_line_of::<X>(rows, TypeKey(t)) {
+            return Some(line);
         }
     }
-    Stage::Passed
+    None
 }
 
 // 7
-pub fn lacking(rows: &[u32]) -> Stage
+pub fn lacking(rows: &[u32]) -> Option<u32>
     requires { Laid rows.now }
     ensures { Says rows.now (found result) (λ T. first_item T (lacking T) (items T)) }
 {
@@ -84,7 +84,7 @@ pub fn lacking(rows: &[u32]) -> Stage
 }
 
 // 8. It does not matter whether 7 was found.
-pub fn forbidden(rows: &[u32]) -> Stage
+pub fn forbidden(rows: &[u32]) -> Option<u32>
     requires { Laid rows.now }
     ensures { Says rows.now (found result) (λ T. first_item T (forbidden T) (items T)) }
 {

@@ -12,7 +12,7 @@ use crate::allowed::may_refer;
 use crate::elements::{elements_allowed, elements_within};
 use crate::tests::{Forbidden, Lacking};
 use objects::rows::{member_package, member_type, package_count, type_count, type_of};
-use objects::{ObjKey, Package, Type, TypeKey};
+use objects::{ObjKey, PackageKey, Type, TypeKey};
 
 // ---- numbers that the table has
 
@@ -22,12 +22,12 @@ pub fn has_type(rows: &[u32], t: TypeKey) -> bool
     t.0 < type_count(rows)
 }
 
-pub fn has_package(rows: &[u32], p: Package) -> bool
+pub fn has_package(rows: &[u32], p: Option<PackageKey>) -> bool
     ensures { Says rows.now result (λ T. has_package T (package_meant p)) }
 {
     match p {
-        Package::Absent => true,
-        Package::Is(k) => k.0 < package_count(rows),
+        None => true,
+        Some(k) => k.0 < package_count(rows),
     }
 }
 

@@ -11,9 +11,9 @@ pub loop-t-preserved : goal.loop-t-preserved
 loop-t-preserved g c text =
     c.loop-t.invariant text ∙ table_on text c.args.rows.now (g.X.Test.fails (table_of text c.args.rows.now)) c.type_count-t-end.ensures _ c.loop-t-test.true (c.first_line_of.ensures text) c.in_default.is
 
-pub returns-in-Bad : goal.returns-in-Bad
-returns-in-Bad g c text =
-    sym (c.loop-t.invariant text ∙ table-stop text c.args.rows.now (g.X.Test.fails (table_of text c.args.rows.now)) c.type_count-t-end.ensures _ c.loop-t-test.true (c.first_line_of.ensures text) _ c.in-Bad.is)
+pub returns-in-Some : goal.returns-in-Some
+returns-in-Some g c text =
+    sym (c.loop-t.invariant text ∙ table-stop text c.args.rows.now (g.X.Test.fails (table_of text c.args.rows.now)) c.type_count-t-end.ensures _ c.loop-t-test.true (c.first_line_of.ensures text) _ c.in-Some.is)
 
 pub returns : goal.returns
 returns g c text =
