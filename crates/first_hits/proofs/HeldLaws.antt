@@ -7,13 +7,13 @@ use Prim.Native.Nat.{ℕ, ◌+◌, ◌<◌, ◌≤◌}
 use native.Mathlib.Omega.{arith}
 use lib.ListN.{length, get_or, take, drop, set, length-append, length-drop}
 use lib.Seq.{length-take-le, get_or-take}
+use Rattle.std.specs.Prelude.{Result, Ok, Err}
 use Rattle.objects.specs.Lists.{Bytes, In}
 use Rattle.objects.specs.Rows.{Words, member_count_of}
 use Rattle.objects.proofs.PartLaws.{get_or-In}
 use Rattle.rules.specs.Library.{Library}
 use Rattle.multiples.specs.Records.{Record}
 use Rattle.levels.specs.declared.Found.{Found}
-use Rattle.first_hits.specs.declared.Place.{Place}
 use Rattle.first_hits.specs.Names.{identity_at, id_at, Listed, Placed}
 use Rattle.first_hits.specs.Hits.{FirstHit, hit_row, Room, beside, above, hidden_if, Held}
 use Rattle.first_hits.proofs.SearchLaws.{found_at, found_in, new-at, new_in, same-identity}
@@ -36,10 +36,10 @@ module _ (text : Bytes) (rows : Words) where
     count : length l ≡ n
     count = length-take-le n names (held_fits h)
 
-    module _ (i : ℕ) {r : Place} (s : Placed text rows (take n names) (id_at text rows w.member.0) r) where
+    module _ (i : ℕ) {r : Result ℕ ℕ} (s : Placed text rows (take n names) (id_at text rows w.member.0) r) where
       -- ---- its name is there
 
-      module _ (e : r ≡ Place.Found i) where
+      module _ (e : r ≡ Ok i) where
         abbrev k : ℕ
         k = get_or names i 0
 
@@ -75,7 +75,7 @@ module _ (text : Bytes) (rows : Words) where
 
       -- ---- it is new
 
-      module _ (e : r ≡ Place.At i) where
+      module _ (e : r ≡ Err i) where
         abbrev put : List ℕ
         put = take i l ++ (m ∷ drop i l)
 

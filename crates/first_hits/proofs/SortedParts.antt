@@ -5,8 +5,9 @@ use mathlib.Core.Logic.{◌⊎◌, inl, inr}
 use Prim.Native.Nat.{ℕ, zero, suc, ◌+◌, ◌-◌, ◌<◌, ◌≤◌}
 use native.Mathlib.Numerals.{add-one}
 use native.Mathlib.Omega.{arith}
-use lib.ListN.{length, get_or, take, drop, set, take-append-drop, length-append, length-drop, get_or-append}
-use lib.Seq.{take-suc, drop-cons, take-take, length-take-le, set_at, take_at, get_or-take, append_snoc}
+use lib.ListN.{length, get_or, take, drop, set, take-append-drop, length-append, length-drop}
+use lib.Seq.{take-suc, take-take, length-take-le, set_at, take_at, append_snoc}
+use Rattle.std.specs.List.{copy_within}
 use Rattle.objects.specs.Lists.{In, Sorted}
 use Rattle.objects.proofs.ListLaws.{either, In-append, In-append-l, In-append-r}
 use Rattle.text.proofs.PartLaws.{drop-take}
@@ -78,50 +79,19 @@ module _ {A : Type 0} where
 -- ---- words that go one place further
 
 module _ (w : List ℕ) (n : ℕ) (h : n < length w) where
-  -- the words after those from j up to n went further
+  -- the words from j up to n went further
   abbrev pub gone : ℕ → List ℕ
   gone j = take (j + 1) w ++ (take (n - j) (drop j w) ++ drop (n + 1) w)
 
-  pub gone-none : w ≡ gone n
-  gone-none = let z : n - n ≡ 0 = omega arith in rw z (sym (take-append-drop (n + 1) w))
-
-  gone-length : (j : ℕ) → j ≤ n → length (gone j) ≡ length w
-  gone-length j l =
-      let a : length (take (j + 1) w) ≡ j + 1 = length-take-le (j + 1) w (omega arith) in
-      let b : length (drop j w) ≡ length w - j = length-drop j w in
-      let c : length (take (n - j) (drop j w)) ≡ n - j = length-take-le (n - j) (drop j w) (omega arith) in
-      let d : length (drop (n + 1) w) ≡ length w - (n + 1) = length-drop (n + 1) w in
-      length-append (take (j + 1) w) (take (n - j) (drop j w) ++ drop (n + 1) w)
-      ∙ ap (λ k. length (take (j + 1) w) + k) (length-append (take (n - j) (drop j w)) (drop (n + 1) w))
-      ∙ omega arith
-
-  pub gone_long : (j : ℕ) → j ≤ n → {v : List ℕ} → v ≡ gone j → length v ≡ length w
-  gone_long j l e = ap length e ∙ gone-length j l
+  -- as `copy_within` leaves them
+  pub within-gone : (i : ℕ) → i ≤ n → {v : List ℕ} → v ≡ copy_within w i n (i + 1) → v ≡ gone i
+  within-gone i l e = let z : i + 1 + (n - i) ≡ n + 1 = omega arith in e ∙ rw z (append_assoc (take (i + 1) w) (take (n - i) (drop i w)) (drop (n + 1) w))
 
   -- the word at j, once those behind it went further, may be another
   over : (j : ℕ) (rest : List ℕ) (x : ℕ) → j < length w → set (take (j + 1) w ++ rest) j x ≡ take j w ++ (x ∷ rest)
   over j rest x l =
       rw (add-one j, take-suc w j 0 l, append_snoc (take j w) (get_or w j 0) rest)
       (set_at (take j w) (get_or w j 0) rest x j (length-take-le j w (omega arith)))
-
-  gone-read : (j i : ℕ) → i ≤ j → j ≤ n → get_or (gone j) i 0 ≡ get_or w i 0
-  gone-read j i p l =
-      let z : length (take (j + 1) w) ≡ j + 1 = length-take-le (j + 1) w (omega arith) in
-      get_or-append (take (j + 1) w) (take (n - j) (drop j w) ++ drop (n + 1) w) 0 i (omega arith) ∙ get_or-take (j + 1) w i 0 (omega arith)
-
-  gone-step : (i : ℕ) → suc i ≤ n → set (gone (suc i)) (suc i) (get_or w i 0) ≡ gone i
-  gone-step i l =
-      let z : n - i ≡ suc (n - suc i) = omega arith in
-      over (suc i) (take (n - suc i) (drop (suc i) w) ++ drop (n + 1) w) (get_or w i 0) (omega arith)
-      ∙ rw (add-one i, z, drop-cons w i 0 (omega arith))
-
-  -- one more went further
-  pub gone-more : (j : ℕ) → 0 < j → j ≤ n → {v : List ℕ} → v ≡ gone j → set v j (get_or v (j - 1) 0) ≡ gone (j - 1)
-  gone-more zero p l e = absurd (omega arith)
-  gone-more (suc i) p l e =
-      let z : suc i - 1 ≡ i = omega arith in
-      let q : get_or (gone (suc i)) i 0 ≡ get_or w i 0 = gone-read (suc i) i (omega arith) l in
-      rw (z, e, q) (gone-step i l)
 
   put-gone : (i k : ℕ) → i ≤ n → take (n + 1) (set (gone i) i k) ≡ take i (take n w) ++ (k ∷ drop i (take n w))
   put-gone i k l =

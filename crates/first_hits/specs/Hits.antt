@@ -2,12 +2,14 @@
 use Rattle.std.specs.Prelude.{◌≡◌, Bool, cond, ◌||◌, List, [], ◌∷◌, ◌++◌, map, ℕ, zero, suc, ◌+◌, ◌<◌, ◌≤◌, eqb, leb, length, get_or, take, set}
 use Rattle.objects.specs.Lists.{Bytes, any, keep, In}
 use Rattle.objects.specs.Table.{obj_key, bit}
-use Rattle.objects.specs.Rows.{Words, word_at, member_count_of}
+use Rattle.objects.specs.Rows.{Words, word_at, type_count, member_count_of}
 use Rattle.objects.specs.Types.{named_read, number_read, under_read, first_read, total_read}
 use Rattle.rules.specs.Members.{same_id}
+use Rattle.rules.specs.Library.{Library}
 use Rattle.multiples.specs.Records.{Record}
 use Rattle.walk_rows.specs.Records.{row_of, level_of}
 use Rattle.levels.specs.declared.Found.{Found}
+use Rattle.first_hits.specs.declared.Stretch.{Stretch}
 use Rattle.first_hits.specs.Names.{identity_at, Listed}
 
 -- ---- what is kept of a name
@@ -79,6 +81,10 @@ covered_if walk row k hits = hidden_if (above walk row (hit_row hits k)) k hits
 unfoldable pub stretch_met : ℕ → ℕ → ℕ → List Found
 stretch_met row first zero = []
 stretch_met row first (suc k) = stretch_met row first k ++ (record { row = row; place = k; member = obj_key (first + k) } ∷ [])
+
+-- members of the table, where it is a library and the row's type is one of its types
+abbrev pub Within : Words → List Record → ℕ → Stretch → Type 0
+Within rows walk i s = (text : Bytes) → Library text rows → (row_of walk i).type.0 < type_count rows → s.first + s.total ≤ member_count_of rows
 
 -- the kinds whose members stand under a type
 abbrev pub struct_kind : ℕ

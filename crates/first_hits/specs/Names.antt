@@ -1,11 +1,10 @@
 -- Names in order: keys of members that ascend by id, and where an id stands among them.
-use Rattle.std.specs.Prelude.{◌≡◌, true, List, ℕ, ◌<◌, ◌≤◌, length, get_or, take, drop}
+use Rattle.std.specs.Prelude.{◌≡◌, true, Result, Ok, Err, List, ℕ, ◌<◌, ◌≤◌, length, get_or, take, drop}
 use Rattle.objects.specs.Lists.{Bytes, In, Sorted}
 use Rattle.objects.specs.Table.{obj_key}
 use Rattle.objects.specs.Rows.{Words, member_count_of, member_at, table_of}
 use Rattle.text.specs.Bytes.{below_bytes}
 use Rattle.rules.specs.Members.{Identity, identity_of, id_bytes}
-use Rattle.first_hits.specs.declared.Place.{Place}
 
 module _ (text : Bytes) (rows : Words) where
   -- the identity of a member, by its number
@@ -28,7 +27,7 @@ module _ (text : Bytes) (rows : Words) where
     pub sorted : Sorted (λ (a b : ℕ). below_bytes (id_at a) (id_at b) ≡ true) l
     pub keys : (k : ℕ) → In k l → k < member_count_of rows
 
-  -- where the id q stands in the list, or would stand
-  unfoldable pub Placed : List ℕ → Bytes → Place → Type 0
-  Placed l q (Place.Found i) = (i < length l) × (id_at (get_or l i 0) ≡ q)
-  Placed l q (Place.At i) = (i ≤ length l) × AllBelow q (take i l) × AllAbove q (drop i l)
+  -- where the id q stands in the list, or where it would stand if it is not there
+  unfoldable pub Placed : List ℕ → Bytes → Result ℕ ℕ → Type 0
+  Placed l q (Ok i) = (i < length l) × (id_at (get_or l i 0) ≡ q)
+  Placed l q (Err i) = (i ≤ length l) × AllBelow q (take i l) × AllAbove q (drop i l)

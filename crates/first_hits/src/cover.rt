@@ -3,20 +3,17 @@ ghost use Rattle.std.specs.Prelude.{◌≡◌, List, [], ◌∷◌, ◌++◌, �
 ghost use Rattle.objects.specs.Rows.{member_count_of, type_count};
 ghost use Rattle.rules.specs.Library.{Library};
 ghost use Rattle.levels.specs.declared.Found.{Found};
-ghost use Rattle.walk_rows.specs.Records.{row_of};
 ghost use Rattle.walk_rows.specs.State.{Walked};
-ghost use Rattle.first_hits.specs.Hits.{Held, Settles, Covered, Room, covered_if, struct_kind, stretch_met, parts_met, methods_met, fields_met};
+ghost use Rattle.first_hits.specs.Hits.{Held, Settles, Covered, Room, covered_if, stretch_met, methods_met, fields_met};
 
-use crate::gather::{level_at, meet_methods};
+use crate::gather::{level_at, meet_methods, parts};
 use crate::names::place_of;
-use crate::{FirstHit, HIDDEN, Place, ROW, Stretch};
+use crate::{FirstHit, HIDDEN, ROW, Stretch};
 use levels::Found;
-use multiples::{EmbeddedType, TYP};
+use multiples::EmbeddedType;
 use obj::id_of;
+use objects::ObjKey;
 use objects::kinds::STRUCT;
-use objects::rows::{first_member, kind_number, member_total, under};
-use objects::{ObjKey, TypeKey};
-use walk_rows::records::record_at;
 
 // The name under key k is that of a field at a row: it is hidden if its method is not less deep.
 fn hide(walk: &[EmbeddedType], hits: &mut [FirstHit], k: u32, row: u32)
@@ -45,14 +42,12 @@ fn cover(
     ensures covered { (M F : List Found) → Covered text.now rows.now walk.now M F (take n names.now) hits.old → Covered text.now rows.now walk.now M (F ++ (w ∷ [])) (take n names.now) hits.new }
 {
     let id = id_of(text, rows, w.member);
-    match place_of(text, rows, names, n, id) {
-        Place::Found(i) => {
-            hide(walk, hits, names[i], w.row);
-        }
-        Place::At(_) => {}
+    if let Ok(i) = place_of(text, rows, names, n, id) {
+        hide(walk, hits, names[i], w.row);
     }
 }
 
+// The fields of a stretch.
 fn cover_stretch(
     text: &[u8],
     rows: &[u32],
@@ -67,43 +62,14 @@ fn cover_stretch(
     ensures held_2 { Held text.now rows.now names.now n hits.new }
     ensures covered { (M F : List Found) → Covered text.now rows.now walk.now M F (take n names.now) hits.old → Covered text.now rows.now walk.now M (F ++ stretch_met s.row s.first s.total) (take n names.now) hits.new }
 {
-    let mut j: u32 = 0;
-    while j < s.total {
+    for place in 0..s.total {
         let w = Found {
             row: s.row,
-            place: j,
-            member: ObjKey(s.first + j),
+            place,
+            member: ObjKey(s.first + place),
         };
         cover(text, rows, walk, names, n, hits, w);
-        j += 1;
     }
-}
-
-// The fields of the struct under the type of row i.
-fn cover_fields(
-    text: &[u8],
-    rows: &[u32],
-    walk: &[EmbeddedType],
-    names: &[u32],
-    n: usize,
-    hits: &mut [FirstHit],
-    i: u32,
-)
-    requires library { Library text.now rows.now }
-    requires held { Held text.now rows.now names.now n hits.old × ((row_of walk.now i).type.0 < type_count rows.now) }
-    ensures held_2 { Held text.now rows.now names.now n hits.new }
-    ensures covered { (M F : List Found) → Covered text.now rows.now walk.now M F (take n names.now) hits.old → Covered text.now rows.now walk.now M (F ++ parts_met rows.now walk.now struct_kind i) (take n names.now) hits.new }
-{
-    let u = under(rows, TypeKey(record_at(walk, i as usize)[TYP]));
-    if kind_number(rows, u) != STRUCT {
-        return;
-    }
-    let s = Stretch {
-        row: i,
-        first: first_member(rows, u),
-        total: member_total(rows, u),
-    };
-    cover_stretch(text, rows, walk, names, n, hits, s);
 }
 
 // The fields of the first n rows; the first `count` names are those of all methods.
@@ -124,10 +90,9 @@ fn cover_methods(
     if count == 0 {
         return;
     }
-    let mut i: u32 = 0;
-    while (i as usize) < n {
-        cover_fields(text, rows, walk, names, count, hits, i);
-        i += 1;
+    for i in 0..n as u32 {
+        let fields = parts(rows, walk, i, STRUCT);
+        cover_stretch(text, rows, walk, names, count, hits, fields);
     }
 }
 

@@ -3,12 +3,12 @@ ghost use Rattle.std.specs.Prelude.{◌≡◌, List, [], ◌∷◌, ◌++◌, �
 ghost use Rattle.objects.specs.Rows.{member_count_of, type_count};
 ghost use Rattle.rules.specs.Library.{Library};
 ghost use Rattle.levels.specs.declared.Found.{Found};
-ghost use Rattle.walk_rows.specs.Records.{row_of, level_of};
+ghost use Rattle.walk_rows.specs.Records.{level_of};
 ghost use Rattle.walk_rows.specs.State.{Walked};
-ghost use Rattle.first_hits.specs.Hits.{Held, Settles, Room, marked_if, iface_kind, stretch_met, declared_met, parts_met, methods_met};
+ghost use Rattle.first_hits.specs.Hits.{Held, Settles, Room, Within, marked_if, stretch_met, declared_met, parts_met, methods_met};
 
 use crate::names::{place_of, put_name};
-use crate::{FirstHit, HIDDEN, Place, ROW, Stretch};
+use crate::{FirstHit, HIDDEN, ROW, Stretch};
 use levels::Found;
 use multiples::{EmbeddedType, LEVEL, TYP};
 use obj::id_of;
@@ -54,11 +54,11 @@ fn meet(
     let m = w.member;
     let id = id_of(text, rows, m);
     match place_of(text, rows, names, n, id) {
-        Place::Found(i) => {
+        Ok(i) => {
             meet_again(walk, hits, names[i], w.row);
             n
         }
-        Place::At(i) => {
+        Err(i) => {
             put_name(names, n, i, m.0);
             hits[m.0 as usize] = [w.row, w.place, 0];
             n + 1
@@ -66,8 +66,48 @@ fn meet(
     }
 }
 
-// ---- the methods of a row's type
+// ---- the members of a row's type
 
+// No members.
+const EMPTY: Stretch = Stretch {
+    row: 0,
+    first: 0,
+    total: 0,
+};
+
+// The methods of row i's type, if it is named.
+fn declared(rows: &[u32], walk: &[EmbeddedType], i: u32) -> Stretch
+    ensures met { stretch_met result.row result.first result.total ≡ declared_met rows.now walk.now i }
+    ensures within { Within rows.now walk.now i result }
+{
+    let u = TypeKey(record_at(walk, i as usize)[TYP]);
+    if !named_at(rows, u) {
+        return EMPTY;
+    }
+    Stretch {
+        row: i,
+        first: first_member(rows, u),
+        total: member_total(rows, u),
+    }
+}
+
+// The members of what is under row i's type, if that is of this kind: a struct or an interface.
+pub fn parts(rows: &[u32], walk: &[EmbeddedType], i: u32, kind: u32) -> Stretch
+    ensures met { stretch_met result.row result.first result.total ≡ parts_met rows.now walk.now kind i }
+    ensures within { 8 ≤ kind → Within rows.now walk.now i result }
+{
+    let u = under(rows, TypeKey(record_at(walk, i as usize)[TYP]));
+    if kind_number(rows, u) != kind {
+        return EMPTY;
+    }
+    Stretch {
+        row: i,
+        first: first_member(rows, u),
+        total: member_total(rows, u),
+    }
+}
+
+// The methods of a stretch.
 fn meet_stretch(
     text: &[u8],
     rows: &[u32],
@@ -83,71 +123,15 @@ fn meet_stretch(
     ensures settles { (P : List Found) → Settles text.now rows.now walk.now P (take n names.old) hits.old → Settles text.now rows.now walk.now (P ++ stretch_met s.row s.first s.total) (take result names.new) hits.new }
 {
     let mut end = n;
-    let mut j: u32 = 0;
-    while j < s.total {
+    for place in 0..s.total {
         let w = Found {
             row: s.row,
-            place: j,
-            member: ObjKey(s.first + j),
+            place,
+            member: ObjKey(s.first + place),
         };
         end = meet(text, rows, walk, names, end, hits, w);
-        j += 1;
     }
     end
-}
-
-// The methods of a named type.
-fn meet_declared(
-    text: &[u8],
-    rows: &[u32],
-    walk: &[EmbeddedType],
-    names: &mut [u32],
-    n: usize,
-    hits: &mut [FirstHit],
-    i: u32,
-) -> usize
-    requires library { Library text.now rows.now }
-    requires held { Held text.now rows.now names.old n hits.old × ((row_of walk.now i).type.0 < type_count rows.now) }
-    ensures held_2 { Held text.now rows.now names.new result hits.new }
-    ensures settles { (P : List Found) → Settles text.now rows.now walk.now P (take n names.old) hits.old → Settles text.now rows.now walk.now (P ++ declared_met rows.now walk.now i) (take result names.new) hits.new }
-{
-    let u = TypeKey(record_at(walk, i as usize)[TYP]);
-    if !named_at(rows, u) {
-        return n;
-    }
-    let s = Stretch {
-        row: i,
-        first: first_member(rows, u),
-        total: member_total(rows, u),
-    };
-    meet_stretch(text, rows, walk, names, n, hits, s)
-}
-
-// The methods of the interface under the type.
-fn meet_listed(
-    text: &[u8],
-    rows: &[u32],
-    walk: &[EmbeddedType],
-    names: &mut [u32],
-    n: usize,
-    hits: &mut [FirstHit],
-    i: u32,
-) -> usize
-    requires library { Library text.now rows.now }
-    requires held { Held text.now rows.now names.old n hits.old × ((row_of walk.now i).type.0 < type_count rows.now) }
-    ensures held_2 { Held text.now rows.now names.new result hits.new }
-    ensures settles { (P : List Found) → Settles text.now rows.now walk.now P (take n names.old) hits.old → Settles text.now rows.now walk.now (P ++ parts_met rows.now walk.now iface_kind i) (take result names.new) hits.new }
-{
-    let u = under(rows, TypeKey(record_at(walk, i as usize)[TYP]));
-    if kind_number(rows, u) != IFACE {
-        return n;
-    }
-    let s = Stretch {
-        row: i,
-        first: first_member(rows, u),
-        total: member_total(rows, u),
-    };
-    meet_stretch(text, rows, walk, names, n, hits, s)
 }
 
 // ---- all rows
@@ -166,12 +150,12 @@ pub fn meet_methods(
     ensures held { Held text.now rows.now names.new result hits.new }
     ensures settles { Settles text.now rows.now walk.now (methods_met rows.now walk.now n) (take result names.new) hits.new }
 {
-    let mut count: usize = 0;
-    let mut i: u32 = 0;
-    while (i as usize) < n {
-        count = meet_declared(text, rows, walk, names, count, hits, i);
-        count = meet_listed(text, rows, walk, names, count, hits, i);
-        i += 1;
+    let mut count = 0;
+    for i in 0..n as u32 {
+        let own = declared(rows, walk, i);
+        count = meet_stretch(text, rows, walk, names, count, hits, own);
+        let listed = parts(rows, walk, i, IFACE);
+        count = meet_stretch(text, rows, walk, names, count, hits, listed);
     }
     count
 }

@@ -20,13 +20,6 @@ pub const PLACE: usize = 1;
 // 1 if the name is hidden
 pub const HIDDEN: usize = 2;
 
-// Where an id stands in a sorted list, or would stand.
-#[derive(Clone, Copy)]
-pub enum Place {
-    Found(usize),
-    At(usize),
-}
-
 // Members of a row's type: so many from a first one on, which stand at the places from 0 on.
 #[derive(Clone, Copy)]
 pub struct Stretch {

@@ -10,6 +10,7 @@ use lib.ListN.{length, get_or, take, drop, set, length-set, length-take, length-
 use lib.Seq.{get_or-take, take-suc, take-suc-set, take-append-le, drop-cons, drop-set-lt}
 use borrow.Rule.Slice.PartMut.{mid_of, post_of, put_mid, same_len_mid}
 use borrow.Author.Tests.{ne_eqb}
+use mir.Val.{bool_byte}
 use Rattle.objects.specs.Bounds.{max_places}
 use Rattle.objects.specs.Lists.{keep, In}
 use Rattle.objects.proofs.ListLaws.{keep_append}
@@ -25,6 +26,11 @@ use Rattle.first_hits.specs.Hits.{FirstHit, hit_row, hit_place, hit_hidden}
 use Rattle.method_set.specs.Sets.{empty_read, flag_read, in_set, sel_at}
 
 -- ---- the flag
+
+-- as a word
+pub byte-bit : (b : Bool) → bool_byte b ≡ bit b
+byte-bit true = refl
+byte-bit false = refl
 
 module _ (rows : Words) (walk : List Record) (i : ℕ) {b : Bool} (e : b ≡ (row_of walk i).flag) where
   pub flag-removed : b ≡ true → true ≡ flag_read rows walk i

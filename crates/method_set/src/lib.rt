@@ -28,11 +28,7 @@ fn flag_at(rows: &[u32], walk: &[EmbeddedType], i: u32) -> bool
     ensures { result ≡ flag_read rows.now walk.now i }
 {
     let e = record_at(walk, i as usize);
-    if e[INDIRECT] == 1 {
-        return true;
-    }
-    let u = e[TYP];
-    iface_under(rows, TypeKey(u))
+    e[INDIRECT] == 1 || iface_under(rows, TypeKey(e[TYP]))
 }
 
 // Whether the name under key k is in the set.
@@ -41,14 +37,7 @@ fn in_set(rows: &[u32], walk: &[EmbeddedType], hits: &[FirstHit], k: u32) -> boo
     ensures { result ≡ in_set rows.now walk.now hits.now k }
 {
     let h = hits[k as usize];
-    if h[HIDDEN] == 1 {
-        return false;
-    }
-    if has_ptr(rows, ObjKey(k)) {
-        flag_at(rows, walk, h[ROW])
-    } else {
-        true
-    }
+    h[HIDDEN] != 1 && (!has_ptr(rows, ObjKey(k)) || flag_at(rows, walk, h[ROW]))
 }
 
 // ---- the set
@@ -66,14 +55,12 @@ fn keep_methods(
     ensures { (take result names.new ≡ keep (in_set rows.now walk.now hits.now) (take n names.old)) × (result ≤ n) }
 {
     let mut r: usize = 0;
-    let mut i: usize = 0;
-    while i < n {
+    for i in 0..n {
         let k = names[i];
         if in_set(rows, walk, hits, k) {
             names[r] = k;
             r += 1;
         }
-        i += 1;
     }
     r
 }
@@ -82,14 +69,7 @@ fn keep_methods(
 fn empty_set(rows: &[u32], t: TypeKey) -> bool
     ensures { result ≡ empty_read rows.now t }
 {
-    if named_pointer(rows, t) {
-        return true;
-    }
-    if pointer_at(rows, t) {
-        iface_under(rows, bare(rows, t))
-    } else {
-        false
-    }
+    named_pointer(rows, t) || (pointer_at(rows, t) && iface_under(rows, bare(rows, t)))
 }
 
 // "ascending by id": the keys of the names of the set are the first words of `names`, as many as this answers; `selection` writes out what is said of each.
@@ -128,7 +108,7 @@ pub fn selection(
     let h = hits[k as usize];
     let flag = flag_at(rows, walk, h[ROW]);
     out[0] = k;
-    out[1] = if flag { 1 } else { 0 };
+    out[1] = u32::from(flag);
     let count = write_places(walk, &mut out[2..], h[ROW], h[PLACE]);
     count + 2
 }

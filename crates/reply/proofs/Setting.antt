@@ -6,6 +6,7 @@ use native.Mathlib.Numerals.{add-one}
 use native.Mathlib.Omega.{arith}
 use lib.ListN.{length, get_or, take, drop, drop_of_length-le, length-append}
 use lib.Seq.{drop-cons}
+use Rattle.std.specs.Prelude.{Ok, Err}
 use Rattle.objects.specs.Bounds.{max_places}
 use Rattle.objects.specs.Lists.{Bytes}
 use Rattle.objects.specs.Rows.{Words}
@@ -18,7 +19,7 @@ use Rattle.print.proofs.WrittenLaws.{written-more, written-nothing, then-wrote, 
 use Rattle.first_hits.specs.Hits.{FirstHit}
 use Rattle.method_set.specs.Sets.{sel_at}
 use Rattle.rules.specs.Asked.{say}
-use Rattle.reply.specs.declared.Done.{Done}
+use Rattle.reply.specs.declared.Unsaid.{Unsaid}
 use Rattle.reply.specs.Done.{Does}
 use Rattle.reply.specs.SetLines.{Says, Short, sel_line, sel_lines, set_lines}
 use Rattle.reply.proofs.Saying.{too-long, fits_said}
@@ -88,9 +89,9 @@ module _ (rows : Words) (walk : List Record) (hits : List FirstHit) (ks : List �
   set-length p q = omega (arith, p, q, ap length set_is, length-append (number_line (ascii "set") (length ks ∷ [])) (sel_lines rows walk hits ks))
 
   module _ (before : Bytes) {a b : ℕ} (p : a ≡ length (number_line (ascii "set") (length ks ∷ []))) (q : b ≡ length (sel_lines rows walk hits ks)) where
-    pub set_long : length before < a + b → Does (say (set_lines rows walk hits ks)) (Done.Long (a + b)) before before
+    pub set_long : length before < a + b → Does (say (set_lines rows walk hits ks)) (Err (Unsaid.Long (a + b))) before before
     set_long t = too-long before (set_lines rows walk hits ks) (set-length p q) t
 
     pub set-said : a + b ≤ length before → {mid after : Bytes} {at r : ℕ} → Wrote before 0 (number_line (ascii "set") (length ks ∷ [])) mid at
-        → Wrote mid at (sel_lines rows walk hits ks) after r → Does (say (set_lines rows walk hits ks)) (Done.Said r) before after
+        → Wrote mid at (sel_lines rows walk hits ks) after r → Does (say (set_lines rows walk hits ks)) (Ok r) before after
     set-said t v w = fits_said before (set_lines rows walk hits ks) (set-length p q) t (wrote_as set_is refl (then-wrote v w))

@@ -6,7 +6,7 @@ ghost use Rattle.rules.specs.Asked.{say};
 ghost use Rattle.reply.specs.Done.{Does};
 ghost use Rattle.reply.specs.SetLines.{Says, Short, sel_line, sel_lines, set_lines};
 
-use crate::Done;
+use crate::Unsaid;
 use first_hits::FirstHit;
 use method_set::selection;
 use multiples::EmbeddedType;
@@ -95,7 +95,7 @@ pub fn say_set(
     hits: &[FirstHit],
     names: &[u32],
     n: usize,
-) -> Done
+) -> Result<usize, Unsaid>
     requires n_le_max_members { (n ≤ max_members) × (n ≤ length names.now) }
     requires short { Short walk.now hits.now (take n names.now) }
     ensures { Does (say (set_lines rows.now walk.now hits.now (take n names.now))) result answer.old answer.new }
@@ -107,9 +107,9 @@ pub fn say_set(
     let rest = total_length(rows, walk, hits, set, &mut numbers);
     let size = head + rest;
     if answer.len() < size {
-        return Done::Long(size);
+        return Err(Unsaid::Long(size));
     }
     let at = put_line(answer, 0, b"set", &count, 1);
     let end = put_lines(answer, at, rows, walk, hits, set, &mut numbers);
-    Done::Said(end)
+    Ok(end)
 }

@@ -1,17 +1,20 @@
 -- `in_set` meets its contract.
+use mathlib.Core.Path.{ap, ◌∙◌}
+use mathlib.Core.Bool.{not}
+use borrow.Author.Tests.{eq-eqb}
 use Rattle.objects.specs.Rows.{word_at}
 use Rattle.method_set.proofs.KeepLaws.{in-hidden, in-pointer, in-value}
 use Rattle.method_set.proofs.in_set.Goals as goal
 
-pub returns-then-h-eq1 : goal.returns-then-h-eq1
+pub returns-else-h-ne1 : goal.returns-else-h-ne1
 unfolding word_at
-returns-then-h-eq1 c = in-hidden _ _ c.args.hits.now c.args.k c.if-h-eq1.true
+returns-else-h-ne1 c = ap not (eq-eqb _ _ c.if-h-ne1.false) ∙ in-hidden _ _ c.args.hits.now c.args.k c.if-h-ne1.false
 
-pub returns-then-has_ptr : goal.returns-then-has_ptr
+pub returns-else-not-has_ptr : goal.returns-else-not-has_ptr
 unfolding word_at
-returns-then-has_ptr c =
-    in-pointer _ _ c.args.hits.now c.args.k c.if-h-eq1.false c.has_ptr.ensures c.if-has_ptr.true c.flag_at.ensures
+returns-else-not-has_ptr c =
+    in-pointer _ _ c.args.hits.now c.args.k c.if-h-ne1.true c.has_ptr.ensures c.if-not-has_ptr.false c.flag_at.ensures
 
-pub returns-else-has_ptr : goal.returns-else-has_ptr
+pub returns-then-not-has_ptr : goal.returns-then-not-has_ptr
 unfolding word_at
-returns-else-has_ptr c = in-value _ _ c.args.hits.now c.args.k c.if-h-eq1.false c.has_ptr.ensures c.if-has_ptr.false
+returns-then-not-has_ptr c = ap not c.if-not-has_ptr.true ∙ in-value _ _ c.args.hits.now c.args.k c.if-h-ne1.true c.has_ptr.ensures c.if-not-has_ptr.true

@@ -8,11 +8,11 @@ use Rattle.method_set.proofs.keep_methods.Goals as goal
 use Rattle.method_set.proofs.keep_methods.Goals.{then-in_set, else-in_set}
 
 pub loop-i-init : goal.loop-i-init
-loop-i-init c = (refl, omega arith, keeping_start _ _)
+loop-i-init c = (refl, keeping_start _ _)
 
 pub in_set-requires : goal.in_set-requires
 in_set-requires c =
-    c.requires.room _ (keeping-read _ _ _ c.loop-i.r c.loop-i.i c.loop-i.invariant.0 (omega (arith, c.requires.n_in_bounds)) c.loop-i.invariant.2 c.args.n c.loop-i-test.true)
+    c.requires.room _ (keeping-read _ _ _ c.loop-i.r c.loop-i.i c.loop-i.invariant.0 (omega (arith, c.requires.n_in_bounds)) c.loop-i.invariant.1 c.args.n c.loop-i-test.true)
 
 pub bounds-names-r : goal.bounds-names-r
 bounds-names-r c = omega arith
@@ -23,15 +23,13 @@ loop-i-preserved c =
     elim c.if-in_set.branch [
       | then-in_set w ↦ (
         ap length w.names-is ∙ length-set c.loop-i.names c.loop-i.r _ ∙ c.loop-i.invariant.0,
-        omega arith,
-        keeping-yes _ _ _ _ _ c.loop-i.invariant.0 inside c.loop-i.invariant.2 (sym c.in_set.ensures ∙ w.if-in_set.true) w.names-is w.r-is,
+        keeping-yes _ _ _ _ _ c.loop-i.invariant.0 inside c.loop-i.invariant.1 (sym c.in_set.ensures ∙ w.if-in_set.true) w.names-is w.r-is,
       )
       | else-in_set w ↦ (
         ap length w.names-is ∙ c.loop-i.invariant.0,
-        omega arith,
-        keeping-no _ _ _ _ _ c.loop-i.invariant.0 inside c.loop-i.invariant.2 (sym c.in_set.ensures ∙ w.if-in_set.false) w.names-is w.r-is,
+        keeping-no _ _ _ _ _ c.loop-i.invariant.0 inside c.loop-i.invariant.1 (sym c.in_set.ensures ∙ w.if-in_set.false) w.names-is w.r-is,
       )
     ]
 
 pub returns : goal.returns
-returns c = keeping-end _ _ _ _ _ _ c.loop-i.invariant.2 c.loop-i.invariant.1 c.loop-i-test.false
+returns c = keeping-end _ _ _ _ _ _ c.loop-i.invariant.1 c.loop-i.auto.i-end c.loop-i-test.false

@@ -16,29 +16,22 @@ returns-then-count-eq0 c =
 pub loop-i-init : goal.loop-i-init
 loop-i-init c =
     let none = fields-none c.args.rows.now c.args.walk.now in
-    (c.requires.walked.1, covered_none c.args.text.now c.args.rows.now c.args.walk.now none _ (take c.args.count c.args.names.now) c.args.hits.now c.requires.walked.2, omega arith, refl)
+    (c.requires.walked.1, covered_none c.args.text.now c.args.rows.now c.args.walk.now none _ (take c.args.count c.args.names.now) c.args.hits.now c.requires.walked.2, refl)
 
-pub overflow_cast-i : goal.overflow_cast-i
-overflow_cast-i c =
-    omega (arith, c.loop-i.invariant.2, rows-most c.requires.walked.0.rowed, c.requires.walked.0.rowed.most)
+pub overflow_cast-i-end : goal.overflow_cast-i-end
+overflow_cast-i-end c =
+    omega (arith, rows-most c.requires.walked.0.rowed, c.requires.walked.0.rowed.most)
 
-pub cover_fields-requires : goal.cover_fields-requires
-cover_fields-requires c =
-    record { library = c.requires.library; held = (c.loop-i.invariant.0, row_typed c.requires.walked.0 c.loop-i.i c.loop-i-test.true) }
-
-pub overflow_add-i : goal.overflow_add-i
-overflow_add-i c =
-    omega (arith, c.loop-i-test.true, rows-most c.requires.walked.0.rowed, c.requires.walked.0.rowed.most)
-
-pub loop-i-smaller : goal.loop-i-smaller
-loop-i-smaller c = omega (arith, c.loop-i-test.true)
+pub cover_stretch-requires-clause-held : goal.cover_stretch-requires-clause-held
+cover_stretch-requires-clause-held c =
+    (c.loop-i.invariant.0, c.parts-fields.ensures.within (omega arith) _ c.requires.library (row_typed c.requires.walked.0 c.loop-i.i c.loop-i-test.true))
 
 pub loop-i-preserved : goal.loop-i-preserved
 loop-i-preserved c =
     let met = fields-more c.args.rows.now c.args.walk.now c.loop-i.i in
-    (c.cover_fields.ensures.held_2, rw met (c.cover_fields.ensures.covered _ _ c.loop-i.invariant.1), omega (arith, c.loop-i-test.true), search rules)
+    (c.cover_stretch.ensures.held_2, rw (met, ← c.parts-fields.ensures.met) (c.cover_stretch.ensures.covered _ _ c.loop-i.invariant.1), search rules)
 
 pub returns : goal.returns
 returns c =
-    let all : c.loop-i.i ≡ c.args.n = omega (arith, c.loop-i.invariant.2, c.loop-i-test.false) in
+    let all : c.loop-i.i ≡ c.args.n = omega (arith, c.loop-i.auto.i-end, c.loop-i-test.false) in
     record { held = c.loop-i.invariant.0; covered = rw all at c.loop-i.invariant.1 }

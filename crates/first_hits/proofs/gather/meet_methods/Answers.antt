@@ -10,33 +10,26 @@ use Rattle.first_hits.proofs.gather.meet_methods.Goals as goal
 pub loop-i-init : goal.loop-i-init
 loop-i-init c =
     let none = settles-none c.args.text.now c.args.rows.now c.args.walk.now (methods-none c.args.rows.now c.args.walk.now) c.args.hits.now in
-    (c.requires.walked.1, none, omega arith, refl, refl)
+    (c.requires.walked.1, none, refl, refl)
 
-pub overflow_cast-i : goal.overflow_cast-i
-overflow_cast-i c =
-    omega (arith, c.loop-i.invariant.2, rows-most c.requires.walked.0.rowed, c.requires.walked.0.rowed.most)
+pub overflow_cast-i-end : goal.overflow_cast-i-end
+overflow_cast-i-end c =
+    omega (arith, rows-most c.requires.walked.0.rowed, c.requires.walked.0.rowed.most)
 
-pub meet_declared-count-requires : goal.meet_declared-count-requires
-meet_declared-count-requires c =
-    record { library = c.requires.library; held = (c.loop-i.invariant.0, row_typed c.requires.walked.0 c.loop-i.i c.loop-i-test.true) }
+pub meet_stretch-count-requires-clause-held : goal.meet_stretch-count-requires-clause-held
+meet_stretch-count-requires-clause-held c =
+    (c.loop-i.invariant.0, c.declared-own.ensures.within _ c.requires.library (row_typed c.requires.walked.0 c.loop-i.i c.loop-i-test.true))
 
-pub meet_listed-count-requires : goal.meet_listed-count-requires
-meet_listed-count-requires c =
-    record { library = c.requires.library; held = (c.meet_declared-count.ensures.held_2, row_typed c.requires.walked.0 c.loop-i.i c.loop-i-test.true) }
-
-pub overflow_add-i : goal.overflow_add-i
-overflow_add-i c =
-    omega (arith, c.loop-i-test.true, rows-most c.requires.walked.0.rowed, c.requires.walked.0.rowed.most)
-
-pub loop-i-smaller : goal.loop-i-smaller
-loop-i-smaller c = omega (arith, c.loop-i-test.true)
+pub meet_stretch-count-requires-in-loop-i-clause-held : goal.meet_stretch-count-requires-in-loop-i-clause-held
+meet_stretch-count-requires-in-loop-i-clause-held c =
+    (c.meet_stretch-count.ensures.held_2, c.parts-listed.ensures.within (omega arith) _ c.requires.library (row_typed c.requires.walked.0 c.loop-i.i c.loop-i-test.true))
 
 pub loop-i-preserved : goal.loop-i-preserved
 loop-i-preserved c =
     let met = methods-more c.args.rows.now c.args.walk.now c.loop-i.i in
-    (c.meet_listed-count.ensures.held_2, rw met (c.meet_listed-count.ensures.settles _ (c.meet_declared-count.ensures.settles _ c.loop-i.invariant.1)), omega (arith, c.loop-i-test.true), search rules, search rules)
+    (c.meet_stretch-count-in-loop-i.ensures.held_2, rw (met, ← c.declared-own.ensures.met, ← c.parts-listed.ensures.met) (c.meet_stretch-count-in-loop-i.ensures.settles _ (c.meet_stretch-count.ensures.settles _ c.loop-i.invariant.1)), search rules, search rules)
 
 pub returns : goal.returns
 returns c =
-    let all : c.loop-i.i ≡ c.args.n = omega (arith, c.loop-i.invariant.2, c.loop-i-test.false) in
+    let all : c.loop-i.i ≡ c.args.n = omega (arith, c.loop-i.auto.i-end, c.loop-i-test.false) in
     record { held = c.loop-i.invariant.0; settles = rw all at c.loop-i.invariant.1 }
