@@ -68,14 +68,6 @@ module _ (rows : Words) (t : TypeKey) where
       let r = In-map (content_read rows t) (up_to (content_total rows t)) e (subst (λ es. In e es) (contents-read [] rows t h) j) in
       (r.0, up_to-below (content_total rows t) r.0 r.1, r.2)
 
-  -- a type that contains one is in the table
-  pub inside-out : (e : TypeKey) → In e (inside rows t) → t.0 < type_count rows
-  unfolding inside
-  inside-out e j =
-      cases (ltb t.0 (type_count rows))
-      (λ f. ltb-true t.0 (type_count rows) f)
-      (λ f. let z : In e [] = subst (λ es. In e es) (contents-beyond [] rows t (ltb-false t.0 (type_count rows) f)) j in absurd z)
-
 -- ---- rows that hold the same table
 
 module _ (rows after : Words) (s : Same rows after) where

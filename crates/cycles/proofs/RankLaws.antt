@@ -181,9 +181,6 @@ advanced-on rows mid after middle next a b = record { same = same-on rows mid af
 pub advanced-given : (rows : Words) (next : ℕ) (t : TypeKey) (after : Words) (next' : ℕ) → Given rows next t after next' → Advanced rows after next'
 advanced-given rows next t after next' g = record { same = g.same; ranking = g.ranking }
 
-pub advanced-in : (rows mid : Words) (middle : ℕ) → Advanced rows mid middle → {n : ℕ} → n ≡ type_count rows → (i : ℕ) → i < n → i < type_count mid
-advanced-in rows mid middle a q i l = let e = same_count rows mid a.same in omega (arith, e, q, l)
-
 pub advanced-passed : (rows mid after last : Words) (next n middle next' : ℕ) → Cleared rows n mid → Passing mid next (type_count mid) after middle → Advanced after last next' → Same rows last
 advanced-passed rows mid after last next n middle next' c p a = same-on rows after last (same-on rows mid after c.same p.same) a.same
 

@@ -51,13 +51,6 @@ word-six k q = rw q
 
 -- ---- the last type
 
--- as the code finds it
-pub last_none : (rows : Words) {n : ℕ} → n ≡ type_count rows → n ≡ 0 → type_key 0 ≡ last_type rows
-last_none rows p e = let z : type_count rows - 1 ≡ 0 = omega arith in ap type_key (sym z)
-
-pub last_some : (rows : Words) {n : ℕ} → n ≡ type_count rows → type_key (n - 1) ≡ last_type rows
-last_some rows p = ap (λ x. type_key (x - 1)) p
-
 module _ (text : Bytes) (rows : Words) where
   pub no-types : empty (table_of text rows).types ≡ eqb (type_count rows) 0
   no-types = empty-length (table_of text rows).types ∙ ap (λ n. eqb n 0) (size-read text rows)

@@ -38,8 +38,7 @@ const PER_TYPE: u32 = MAX_PER_TYPE as u32;
 pub fn last(rows: &[u32]) -> TypeKey
     ensures { result ≡ last_type rows.now }
 {
-    let n = type_count(rows);
-    if n == 0 { TypeKey(0) } else { TypeKey(n - 1) }
+    TypeKey(type_count(rows).saturating_sub(1))
 }
 
 // The number of its kind, 0 where there is none.

@@ -24,6 +24,7 @@ fn read_lines(text: &[u8], rows: &mut [u32], from: usize) -> Result<(), Refusal>
 {
     let mut at = from;
     let mut line: u32 = 2;
+    // a `loop`, since where the next line begins is found on the way
     loop {
         let end = line_end(text, at);
         if end == text.len() {
@@ -33,9 +34,10 @@ fn read_lines(text: &[u8], rows: &mut [u32], from: usize) -> Result<(), Refusal>
             let reason = Reason::Form;
             return Err(Refusal { reason, line });
         }
-        if let Err(reason) = add_line(text, rows, Cursor::line(at, end), line) {
-            return Err(Refusal { reason, line });
-        }
+        add_line(text, rows, Cursor::line(at, end), line).map_err(|reason| Refusal {
+            reason,
+            line,
+        })?;
         at = end + 1;
         line += 1;
     }
