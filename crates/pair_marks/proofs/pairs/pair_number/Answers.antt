@@ -1,6 +1,5 @@
 use native.Mathlib.Omega.{arith}
-use Rattle.objects.specs.Bounds.{max_types}
-use Rattle.pair_marks.proofs.PairLaws.{pairs-up, pair-up, pair-down}
+use Rattle.pair_marks.proofs.PairLaws.{pair-up, pair-down}
 use Rattle.pair_marks.proofs.pairs.pair_number.Goals as goal
 
 pub returns-then-a-b : goal.returns-then-a-b

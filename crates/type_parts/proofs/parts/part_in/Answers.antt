@@ -1,4 +1,3 @@
-use native.Mathlib.Omega.{arith}
 use Rattle.type_parts.proofs.ReadLaws.{member-part, element-part}
 use Rattle.type_parts.proofs.parts.part_in.Goals as goal
 
