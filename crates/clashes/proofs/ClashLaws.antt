@@ -9,7 +9,7 @@ use native.Mathlib.Omega.{arith}
 use lib.ListN.{length, take}
 use borrow.Author.Tests.{eq-eqb, ne_eqb, not-false}
 use Rattle.objects.specs.declared.TypeKey.{TypeKey}
-use Rattle.objects.specs.declared.Stage.{Stage}
+use Rattle.std.specs.Prelude.{Some}
 use Rattle.objects.specs.Lists.{Bytes, any, In, Sorted}
 use Rattle.objects.specs.Table.{Table, Member, Kind, Named, type_key, obj_key, size, kind_number, is_iface, members_of, fields_of, has_type, has_package, kind_at}
 use Rattle.objects.specs.Rows.{Words, type_count, type_word, member_word, member_at, members_from, table_of}
@@ -141,7 +141,7 @@ module _ (text : Bytes) (rows : Words) (t : TypeKey) (h : t.0 < type_count rows)
     clash-on e = members-on (table_of text rows) (clashing (table_of text rows)) t _ i (member_at text rows (obj_key (first_read rows t + i))) counted (members-get text rows t h i _ l) (sym pb ∙ e)
 
     pub clash-stop : Laid rows → b ≡ true → {first : ℕ} → first ≡ first_read rows t → {at : ℕ} → at ≡ member_word rows (obj_key (first + i)) 7
-        → first_item (table_of text rows) (clashing (table_of text rows)) (members_left t (kind_at (table_of text rows) t) i) ≡ found (Stage.Bad at)
+        → first_item (table_of text rows) (clashing (table_of text rows)) (members_left t (kind_at (table_of text rows) t) i) ≡ found (Some at)
     unfolding found
     clash-stop laid e pf p =
         members-stop (table_of text rows) (clashing (table_of text rows)) t _ i (member_at text rows (obj_key (first_read rows t + i))) counted (members-get text rows t h i _ l) (sym pb ∙ e)

@@ -26,9 +26,8 @@ use obj::{below_id, is_blank, same_member};
 use objects::bounds::MAX_TYPES;
 use objects::kinds::{IFACE, NAMED, STRUCT};
 use objects::rows::{first_member, kind_number, member_total, member_word, type_count, type_word};
-use objects::{ObjKey, Stage, TypeKey};
+use objects::{ObjKey, TypeKey};
 use references::member_lines;
-use text::bytes::or;
 use text::hash::name_hash;
 
 pub mod marks; // which names were met
@@ -40,12 +39,10 @@ fn any_same(text: &[u8], rows: &[u32], m: ObjKey, first: u32, n: u32) -> bool
     requires { (has_package (table_of text.now rows.now) (member_at text.now rows.now m).pkg ≡ true) × PackagedFrom text.now rows.now first n × (first + n ≤ max_elements) × Ordered (table_of text.now rows.now) }
     ensures { result ≡ any (same_member (table_of text.now rows.now) (member_at text.now rows.now m)) (members_from text.now rows.now first n) }
 {
-    let mut i = 0;
-    while i < n {
+    for i in 0..n {
         if same_member(text, rows, m, ObjKey(first + i)) {
             return true;
         }
-        i += 1;
     }
     false
 }
@@ -55,11 +52,7 @@ fn repeats(text: &[u8], rows: &[u32], m: ObjKey, first: u32, n: u32) -> bool
     requires { (has_package (table_of text.now rows.now) (member_at text.now rows.now m).pkg ≡ true) × PackagedFrom text.now rows.now first n × (first + n ≤ max_elements) × Ordered (table_of text.now rows.now) }
     ensures { result ≡ not (is_blank (member_at text.now rows.now m).name) && any (same_member (table_of text.now rows.now) (member_at text.now rows.now m)) (members_from text.now rows.now first n) }
 {
-    if is_blank(text, rows, m) {
-        false
-    } else {
-        any_same(text, rows, m, first, n)
-    }
+    !is_blank(text, rows, m) && any_same(text, rows, m, first, n)
 }
 
 // "A named type's method differs from the fields of its struct."
@@ -70,11 +63,8 @@ fn in_fields(text: &[u8], rows: &[u32], m: ObjKey, u: TypeKey) -> bool
     if type_count(rows) <= u.0 {
         return false;
     }
-    if kind_number(rows, u) == STRUCT {
-        any_same(text, rows, m, first_member(rows, u), member_total(rows, u))
-    } else {
-        false
-    }
+    kind_number(rows, u) == STRUCT
+        && any_same(text, rows, m, first_member(rows, u), member_total(rows, u))
 }
 
 // ---- methods of an interface
@@ -84,11 +74,7 @@ fn falls(text: &[u8], rows: &[u32], first: u32, n: u32) -> bool
     requires { PackagedFrom text.now rows.now first (n + 1) × (first + n ≤ max_elements) }
     ensures { result ≡ not (ascends (table_of text.now rows.now) (members_from text.now rows.now first n) (member_at text.now rows.now (obj_key (first + n)))) }
 {
-    if n == 0 {
-        false
-    } else {
-        !below_id(text, rows, ObjKey(first + (n - 1)), ObjKey(first + n))
-    }
+    n != 0 && !below_id(text, rows, ObjKey(first + (n - 1)), ObjKey(first + n))
 }
 
 // ---- the lines of a type
@@ -101,11 +87,11 @@ fn member_clashes(text: &[u8], rows: &[u32], t: TypeKey, i: u32) -> bool
     let first = first_member(rows, t);
     let m = ObjKey(first + i);
     match kind_number(rows, t) {
-        9 => falls(text, rows, first, i),
-        10 => or(
-            repeats(text, rows, m, first, i),
-            in_fields(text, rows, m, TypeKey(type_word(rows, t, 1))),
-        ),
+        IFACE => falls(text, rows, first, i),
+        NAMED => {
+            repeats(text, rows, m, first, i)
+                || in_fields(text, rows, m, TypeKey(type_word(rows, t, 1)))
+        }
         _ => repeats(text, rows, m, first, i),
     }
 }
@@ -160,11 +146,7 @@ fn field_marked(rows: &[u32], marks: &[u32], t: TypeKey, h: u64) -> bool
     requires { h < hashes }
     ensures { result ≡ false → number_read rows.now t ≡ 10 → MarkedAt marks.now (place_of (fields_number (type_word rows.now t 1)) h) → ⊥ }
 {
-    if kind_number(rows, t) == NAMED {
-        marked(marks, place(fields_number(type_word(rows, t, 1)), h))
-    } else {
-        false
-    }
+    kind_number(rows, t) == NAMED && marked(marks, place(fields_number(type_word(rows, t, 1)), h))
 }
 
 // ---- the lines of a type
@@ -181,38 +163,37 @@ fn line_clashes(text: &[u8], rows: &[u32], marks: &mut [u32], t: TypeKey, i: u32
     let field = field_marked(rows, marks, t, h);
     let p = place(t.0, h);
     let own = meet(marks, p);
-    if or(own, field) {
-        member_clashes(text, rows, t, i)
-    } else {
-        false
-    }
+    let known = own || field;
+    known && member_clashes(text, rows, t, i)
 }
 
-fn first_line(text: &[u8], rows: &[u32], marks: &mut [u32], t: TypeKey) -> Stage
+fn first_line(text: &[u8], rows: &[u32], marks: &mut [u32], t: TypeKey) -> Option<u32>
     requires { Laid rows.now × Packaged text.now rows.now × (t.0 < type_count rows.now) × (bit_words ≤ length marks.old) × Seen text.now rows.now marks.old t 0 }
     ensures result_value { found result ≡ first_item (table_of text.now rows.now) (clashing (table_of text.now rows.now)) (lines_under t (kind_at (table_of text.now rows.now) t)) }
     ensures grows { Grows marks.old marks.new }
 {
     let first = first_member(rows, t);
-    let n = member_lines(rows, t);
-    let mut i = 0;
-    while i < n {
+    for i in 0..member_lines(rows, t) {
         if line_clashes(text, rows, marks, t, i) {
-            return Stage::Bad(member_word(rows, ObjKey(first + i), 7));
+            return Some(member_word(rows, ObjKey(first + i), 7));
         }
-        i += 1;
     }
-    Stage::Passed
+    None
 }
 
-fn first_clash(text: &[u8], rows: &[u32], marks: &mut [u32], done: &mut [u8], t: TypeKey) -> Stage
+fn first_clash(
+    text: &[u8],
+    rows: &[u32],
+    marks: &mut [u32],
+    done: &mut [u8],
+    t: TypeKey,
+) -> Option<u32>
     requires { Laid rows.now × Packaged text.now rows.now × (t.0 < type_count rows.now) × (bit_words ≤ length marks.old) × (max_types ≤ length done.old) × Ready text.now rows.now marks.old done.old }
     ensures result_value { found result ≡ first_item (table_of text.now rows.now) (clashing (table_of text.now rows.now)) (lines_under t (kind_at (table_of text.now rows.now) t)) }
     ensures ready { Ready text.now rows.now marks.new done.new }
 {
-    let n = member_lines(rows, t);
-    if n == 0 {
-        return Stage::Passed;
+    if member_lines(rows, t) == 0 {
+        return None;
     }
     prepare(text, rows, marks, done, t);
     first_line(text, rows, marks, t)
@@ -220,27 +201,20 @@ fn first_clash(text: &[u8], rows: &[u32], marks: &mut [u32], done: &mut [u8], t:
 
 // ---- the whole table
 
-fn first_of(text: &[u8], rows: &[u32], marks: &mut [u32], done: &mut [u8]) -> Stage
+fn first_of(text: &[u8], rows: &[u32], marks: &mut [u32], done: &mut [u8]) -> Option<u32>
     requires { Laid rows.now × Packaged text.now rows.now × (bit_words ≤ length marks.old) × (max_types ≤ length done.old) × Ready text.now rows.now marks.old done.old }
     ensures { found result ≡ first_item (table_of text.now rows.now) (clashing (table_of text.now rows.now)) (items (table_of text.now rows.now)) }
 {
-    let n = type_count(rows);
-    let mut t = 0;
-    while t < n {
-        match first_clash(text, rows, marks, done, TypeKey(t)) {
-            Stage::Passed => {
-                t += 1;
-            }
-            Stage::Bad(line) => {
-                return Stage::Bad(line);
-            }
+    for t in 0..type_count(rows) {
+        if let Some(line) = first_clash(text, rows, marks, done, TypeKey(t)) {
+            return Some(line);
         }
     }
-    Stage::Passed
+    None
 }
 
 // 9, of a table that passed 14 and 7
-pub fn clashing(text: &[u8], rows: &[u32]) -> Stage
+pub fn clashing(text: &[u8], rows: &[u32]) -> Option<u32>
     requires { Laid rows.now × (first_unordered (table_of text.now rows.now).packages ≡ none) × (first_item (table_of text.now rows.now) (lacking (table_of text.now rows.now)) (items (table_of text.now rows.now)) ≡ none) }
     ensures { found result ≡ first_item (table_of text.now rows.now) (clashing (table_of text.now rows.now)) (items (table_of text.now rows.now)) }
 {

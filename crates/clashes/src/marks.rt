@@ -69,8 +69,7 @@ fn set_bit(marks: &mut [u32], i: usize)
     requires { i / 32 < length marks.old }
     ensures { Grows marks.old marks.new × (bit_at marks.new i ≢ 0) }
 {
-    let w = marks[i / 32];
-    marks[i / 32] = w | (1u32 << (i % 32));
+    marks[i / 32] |= 1u32 << (i % 32);
 }
 
 // Whether the place has its two marks.
@@ -78,13 +77,7 @@ pub fn marked(marks: &[u32], p: u64) -> bool
     requires { p < hashes }
     ensures { result ≡ false → MarkedAt marks.now p → ⊥ }
 {
-    if bit(marks, high(p)) == 0 {
-        return false;
-    }
-    if bit(marks, low(p)) == 0 {
-        return false;
-    }
-    true
+    bit(marks, high(p)) != 0 && bit(marks, low(p)) != 0
 }
 
 fn mark(marks: &mut [u32], p: u64)
@@ -110,10 +103,8 @@ pub fn meet_all(text: &[u8], rows: &[u32], marks: &mut [u32], k: u32, first: u32
     requires { (bit_words ≤ length marks.old) × (k < numbers) × (first + n ≤ max_elements) }
     ensures { Noted marks.old k (members_from text.now rows.now first n) marks.new }
 {
-    let mut i: u32 = 0;
-    while i < n {
+    for i in 0..n {
         let h = name_hash(text, rows, ObjKey(first + i));
         let _ = meet(marks, place(k, h));
-        i += 1;
     }
 }

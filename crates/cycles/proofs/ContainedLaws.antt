@@ -1,6 +1,7 @@
 -- REFUSAL 10 from its parts: ranks given until each type without one waits for another, then the least type that contains itself (specs/Contained.antt).
 use mathlib.Core.Path.{◌≡◌, subst}
-use Rattle.objects.specs.declared.Stage.{Stage}
+use Rattle.std.specs.declared.option.Option as code
+use Rattle.std.specs.Prelude.{ℕ}
 use Rattle.objects.specs.Lists.{In}
 use Rattle.objects.specs.Rows.{Words}
 use Rattle.objects.specs.Types.{found}
@@ -11,7 +12,7 @@ use Rattle.cycles.specs.Contained.{Finds, Contained}
 use Rattle.cycles.proofs.ContentLaws.{inside-any}
 use Rattle.cycles.proofs.Acyclic.{all-ranked}
 
-pub contained : (rows after : Words) → Peeled rows after → (r : Stage) → Finds after r → Contained rows r after
+pub contained : (rows after : Words) → Peeled rows after → (r : code.Option ℕ) → Finds after r → Contained rows r after
 contained rows after p r f = record {
   line = λ text. subst (λ T. found r ≡ first_item T (containing T) (items T)) (p.same.held text) (f.line text);
   holds = p.same;

@@ -1,6 +1,6 @@
 -- What a type contains by value is what the rows say of it (specs/Contents.antt), whatever the text.
 use mathlib.Core.Path.{◌≡◌, refl, sym, ap, subst, ◌∙◌}
-use mathlib.Core.Bool.{cond}
+use mathlib.Core.Bool.{Bool, cond}
 use mathlib.Core.List.{[], map}
 use Prim.Native.Nat.{ℕ, ◌+◌, ◌<◌, ◌≤◌}
 use native.Mathlib.Omega.{arith}
@@ -132,3 +132,17 @@ module _ (rows : Words) (t : TypeKey) {k : ℕ} (q : k ≡ number_read rows t) w
       cases (eqb (type_word rows t 0) 6)
       (λ z. let w' : type_word rows t 4 + type_word rows t 5 ≤ element_count rows = rw z at w in omega arith)
       (λ z. let w' : type_word rows t 4 + type_word rows t 5 ≤ member_count_of rows = rw z at w in omega arith)
+
+-- a type contains no more than there may be elements
+pub total-few : (rows : Words) (t : TypeKey) → Laid rows → t.0 < type_count rows → content_total rows t ≤ max_elements
+unfolding content_total total_read end_of
+total-few rows t laid h =
+    let w = laid.within t h in
+    let m = laid.members in
+    let x = laid.elements in
+    let fields : type_word rows t 5 ≤ max_elements =
+    cases (eqb (type_word rows t 0) 6)
+    (λ z. let w' : type_word rows t 4 + type_word rows t 5 ≤ element_count rows = rw z at w in omega arith)
+    (λ z. let w' : type_word rows t 4 + type_word rows t 5 ≤ member_count_of rows = rw z at w in omega arith) in
+    let one : (b : Bool) → cond b 1 0 ≤ max_elements = λ b. cases b (λ e. rw e (omega arith)) (λ e. rw e (omega arith)) in
+    cases (eqb (number_read rows t) 8) (λ e. rw e fields) (λ e. rw e (cases (eqb (number_read rows t) 1) (λ f. rw f (omega arith)) (λ f. rw f (one (eqb (number_read rows t) 10)))))

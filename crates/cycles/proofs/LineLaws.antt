@@ -10,7 +10,7 @@ use lib.Dec.{eqb}
 use lib.ListN.{length, get_or}
 use borrow.Author.Tests.{eqb-true, eqb-false}
 use Rattle.objects.specs.declared.TypeKey.{TypeKey}
-use Rattle.objects.specs.declared.Stage.{Stage}
+use Rattle.std.specs.Prelude.{Some, None}
 use Rattle.objects.specs.Lists.{Bytes, In}
 use Rattle.objects.specs.Table.{Table, Member, Kind, type_key, same_type, size, members_of}
 use Rattle.objects.specs.Rows.{Words, type_count, type_word, table_of}
@@ -90,7 +90,7 @@ module _ (text : Bytes) (rows : Words) (w : Within rows) where
 
 -- ---- what the code answers
 
-bad-passed : (line : ℕ) → Stage.Bad line ≡ Stage.Passed → ⊥
+bad-passed : (line : ℕ) → Some line ≡ None → ⊥
 unfolding found
 bad-passed line e = some-ne-none line (ap found e)
 
@@ -102,7 +102,7 @@ module _ (rows : Words) (w : Within rows) where
       (λ e. subst (λ u. Back rows u → ⊥) (sym (key-eq t (type_key i) (eqb-true t.0 i e))) f)
       (λ e. let ne = eqb-false t.0 i e in clear t (omega arith))
 
-  pub finds-none : {n : ℕ} → n ≡ type_count rows → (i : ℕ) → n ≤ i → ((t : TypeKey) → t.0 < i → Back rows t → ⊥) → Finds rows Stage.Passed
+  pub finds-none : {n : ℕ} → n ≡ type_count rows → (i : ℕ) → n ≤ i → ((t : TypeKey) → t.0 < i → Back rows t → ⊥) → Finds rows None
   unfolding found
   finds-none q i l clear = record {
     line = λ text. sym (none_from (table_of text rows) 0 (table_of text rows).types (λ j k a b. let s = size-read text rows in back-no text rows w (type_key j) (clear (type_key j) (omega (arith, s, q, b, l))) k));
@@ -110,7 +110,7 @@ module _ (rows : Words) (w : Within rows) where
   }
 
   pub finds-some : {n : ℕ} → n ≡ type_count rows → (i : ℕ) → i < n → ((t : TypeKey) → t.0 < i → Back rows t → ⊥) → Back rows (type_key i) → {line : ℕ} → line ≡ type_word rows (type_key i) 6
-      → Finds rows (Stage.Bad line)
+      → Finds rows (Some line)
   unfolding found
   finds-some q i l clear b {line} p = record {
     line = λ text. ap some (p ∙ sym (type-line-read text rows (type_key i) 0 (omega (arith, q, l))))

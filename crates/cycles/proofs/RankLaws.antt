@@ -1,6 +1,8 @@
 -- Ranks given one after the other (specs/Ranking.antt): what holds after each step of the code.
 use mathlib.Core.Path.{◌≡◌, refl, sym, ap, subst, ◌∙◌}
-use mathlib.Core.Bool.{true, false}
+use mathlib.Core.Bool.{Bool, true, false, not}
+use Rattle.std.specs.Prelude.{Some, None, is_some}
+use Rattle.std.specs.declared.option.Option as code
 use mathlib.Core.Logic.{◌≢◌}
 use Prim.Native.Nat.{ℕ, suc, ◌+◌, ◌<◌, ◌≤◌}
 use native.Mathlib.Omega.{arith}
@@ -15,8 +17,8 @@ use Rattle.objects.specs.Laid.{Laid, RankPut}
 use Rattle.objects.proofs.ListLaws.{cases, clash}
 use Rattle.objects.proofs.KeyLaws.{key-eq}
 use Rattle.rules.specs.Library.{rank_read}
-use Rattle.cycles.specs.Contents.{inside, content_total, content_read, Within}
-use Rattle.cycles.specs.Ranking.{Same, ranked, Ranks, Ranking, Waits, Stuck, Cleared, AllRanked, Given, Passing, Advanced, Peeled}
+use Rattle.cycles.specs.Contents.{inside, content_read, Within}
+use Rattle.cycles.specs.Ranking.{Same, ranked, Ranks, Ranking, Waits, Stuck, Cleared, FirstWaiting, AllRanked, Given, Passing, Advanced, Peeled}
 use Rattle.cycles.proofs.CountLaws.{count-few, count_none, count-more}
 use Rattle.cycles.proofs.ContentLaws.{inside-has, inside-In, same-inside, same_count, same-on}
 
@@ -57,24 +59,17 @@ module _ (rows : Words) where
 -- ---- whether all contents have a rank
 
 module _ (rows : Words) (t : TypeKey) (h : t.0 < type_count rows) where
-  pub all_yes : {n : ℕ} → n ≡ content_total rows t → (i : ℕ) → n ≤ i → ((j : ℕ) → j < i → 0 < rank_read rows (content_read rows t j)) → AllRanked rows t true
-  all_yes q i l all = record {
-    yes = λ _ e j. let r = inside-In rows t h e j in subst (λ u. 0 < rank_read rows u) (sym r.2) (let z = r.1 in all r.0 (omega arith));
-    no = λ e. clash refl e;
-  }
-
-  pub all-no : {n : ℕ} → n ≡ content_total rows t → (i : ℕ) → i < n → {e : TypeKey} → e ≡ content_read rows t i → {r : ℕ} → r ≡ rank_read rows e → r ≡ 0 → AllRanked rows t false
-  all-no q i l {e} p {r} s z = record {
+  pub all-ranked : (r : code.Option ℕ) → FirstWaiting rows t 0 r → {b : Bool} → is_some r ≡ not b → AllRanked rows t b
+  all-ranked (Some i) w {b = true} e = clash (sym e) refl
+  all-ranked (Some i) w {b = false} e = record {
     yes = λ f. clash f refl;
-    no = λ _. (e, subst (λ u. In u (inside rows t)) (sym p) (inside-has rows t h i (omega arith)), sym s ∙ z);
+    no = λ _. (content_read rows t i, inside-has rows t h i w.0, w.1);
   }
-
-  pub all_more : (i : ℕ) → {e : TypeKey} → e ≡ content_read rows t i → {r : ℕ} → r ≡ rank_read rows e → (r ≡ 0 → ⊥)
-      → ((j : ℕ) → j < i → 0 < rank_read rows (content_read rows t j)) → (j : ℕ) → j < i + 1 → 0 < rank_read rows (content_read rows t j)
-  all_more i {e} p {r} s z all j l =
-      cases (eqb j i)
-      (λ f. let d : content_read rows t j ≡ e = ap (content_read rows t) (eqb-true j i f) ∙ sym p in subst (λ u. 0 < rank_read rows u) (sym d) (omega (arith, s, z)))
-      (λ f. let ne = eqb-false j i f in all j (omega arith))
+  all-ranked None all {b = true} e = record {
+    yes = λ _ u m. let r = inside-In rows t h u m in subst (λ x. 0 < rank_read rows x) (sym r.2) (all r.0 (omega arith) r.1);
+    no = λ f. clash (sym f) refl;
+  }
+  all-ranked None all {b = false} e = clash e refl
 
 -- ---- a type gets its rank
 

@@ -1,7 +1,8 @@
 -- What refusal 10 finds in rows, and what it leaves behind.
-use Rattle.std.specs.Prelude.{◌≡◌, ◌<◌}
+use Rattle.std.specs.Prelude.{◌≡◌, ℕ, ◌<◌}
 use Rattle.objects.specs.declared.TypeKey.{TypeKey}
-use Rattle.objects.specs.declared.Stage.{Stage}
+use Rattle.std.specs.declared.option.Option as code
+use Rattle.std.specs.Prelude.{None}
 use Rattle.objects.specs.Lists.{Bytes}
 use Rattle.objects.specs.Rows.{Words, type_count, table_of}
 use Rattle.objects.specs.Types.{found}
@@ -12,12 +13,12 @@ use Rattle.rules.specs.Library.{Ranked}
 use Rattle.cycles.specs.Contents.{Back}
 
 -- the stage finds the line of the least type that contains itself; where it passes, no type does
-pub record Finds (rows : Words) (r : Stage) : Type 0 where
+pub record Finds (rows : Words) (r : code.Option ℕ) : Type 0 where
   pub line : (text : Bytes) → found r ≡ first_item (table_of text rows) (containing (table_of text rows)) (items (table_of text rows))
-  pub clear : r ≡ Stage.Passed → (t : TypeKey) → t.0 < type_count rows → Back rows t → ⊥
+  pub clear : r ≡ None → (t : TypeKey) → t.0 < type_count rows → Back rows t → ⊥
 
 -- REFUSAL 10: the line is found, the table stays as it was, and where the stage passes ranks fall along contents.
-pub record Contained (rows : Words) (r : Stage) (after : Words) : Type 0 where
+pub record Contained (rows : Words) (r : code.Option ℕ) (after : Words) : Type 0 where
   pub line : (text : Bytes) → found r ≡ first_item (table_of text rows) (containing (table_of text rows)) (items (table_of text rows))
   pub holds : Holds after (λ text. table_of text rows)
-  pub ranked : r ≡ Stage.Passed → (text : Bytes) → Ranked text after
+  pub ranked : r ≡ None → (text : Bytes) → Ranked text after

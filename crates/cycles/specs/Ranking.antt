@@ -1,5 +1,6 @@
 -- Ranks while they are given: 0 is none yet, and each type that gets one gets the next, once all that it contains by value have theirs.
-use Rattle.std.specs.Prelude.{◌≡◌, Bool, true, false, ℕ, suc, ◌≤◌, ◌<◌, ltb}
+use Rattle.std.specs.Prelude.{◌≡◌, Bool, true, false, ℕ, suc, ◌≤◌, ◌<◌, ltb, Some, None}
+use Rattle.std.specs.declared.option.Option as code
 use Rattle.objects.specs.declared.TypeKey.{TypeKey}
 use Rattle.objects.specs.Lists.{In}
 use Rattle.objects.specs.Table.{type_key}
@@ -7,7 +8,7 @@ use Rattle.objects.specs.Rows.{Words, type_count, table_of}
 use Rattle.objects.specs.Laid.{Laid, Holds}
 use Rattle.rules.specs.Library.{rank_read}
 use Rattle.cycles.specs.Counts.{count}
-use Rattle.cycles.specs.Contents.{inside, Within}
+use Rattle.cycles.specs.Contents.{content_total, content_read, inside, Within}
 
 -- the rows hold the table that the others held
 abbrev pub Same : Words → Words → Type 0
@@ -43,6 +44,12 @@ Stuck rows n = (t : TypeKey) → t.0 < n → rank_read rows t ≡ 0 → Waits ro
 pub record Cleared (rows : Words) (n : ℕ) (after : Words) : Type 0 where
   pub same : Same rows after
   pub none : (t : TypeKey) → t.0 < n → rank_read after t ≡ 0
+
+-- the place of the first content of t, from one on, that has no rank
+abbrev pub FirstWaiting : Words → TypeKey → ℕ → code.Option ℕ → Type 0
+FirstWaiting rows t from (Some i) =
+    (i < content_total rows t) × (rank_read rows (content_read rows t i) ≡ 0) × ((j : ℕ) → from ≤ j → j < i → 0 < rank_read rows (content_read rows t j))
+FirstWaiting rows t from None = (j : ℕ) → from ≤ j → j < content_total rows t → 0 < rank_read rows (content_read rows t j)
 
 -- whether all that t contains has a rank
 pub record AllRanked (rows : Words) (t : TypeKey) (r : Bool) : Type 0 where

@@ -7,8 +7,8 @@ ghost use Rattle.objects.specs.Laid.{Laid};
 ghost use Rattle.cycles.specs.Ranking.{Ranking, Advanced};
 ghost use Rattle.cycles.specs.Climb.{climb_words};
 
-use crate::contents::{content, content_total};
-use crate::ranks::{give, rank};
+use crate::contents::content;
+use crate::ranks::{first_waiting, give, rank};
 use objects::TypeKey;
 use objects::bounds::{MAX_MEMBERS, MAX_TYPES};
 use objects::rows::{type_count, word};
@@ -30,40 +30,18 @@ pub struct Climb {
     pub next: u32,
 }
 
-// The place of the first content from one on that has no rank, or their number.
-fn waiting(rows: &[u32], t: TypeKey, from: u32) -> u32
-    requires { Laid rows.now × (t.0 < type_count rows.now) }
-{
-    let n = content_total(rows, t);
-    let mut i = from;
-    while i < n {
-        if rank(rows, content(rows, t, i)) == 0 {
-            return i;
-        }
-        i += 1;
-    }
-    n
-}
-
 // The way goes on to e, unless e was met.
 fn push(scratch: &mut [u32], top: usize, e: TypeKey) -> usize
     requires { (climb_words ≤ length scratch.old) × (top ≤ max_types) }
     ensures { result ≤ max_types }
 {
     let x = e.0 as usize;
-    if MAX_TYPES <= x {
+    if MAX_TYPES <= x || MAX_TYPES <= top || scratch[x] != 0 {
         return top;
     }
-    if MAX_TYPES <= top {
-        return top;
-    }
-    if scratch[x] == 0 {
-        scratch[x] = 1;
-        scratch[WAY_AT + top] = e.0;
-        top + 1
-    } else {
-        top
-    }
+    scratch[x] = 1;
+    scratch[WAY_AT + top] = e.0;
+    top + 1
 }
 
 // The last type of the way: the way goes on to its next content without rank, or, where there is none, the type gets a rank and the way goes back.
@@ -73,18 +51,18 @@ fn visit(rows: &mut [u32], scratch: &mut [u32], top: usize, next: u32, t: TypeKe
     ensures top_le_max_types { result.top ≤ max_types }
 {
     let at = LOOKED_AT + t.0 as usize;
-    let i = waiting(rows, t, scratch[at]);
-    if i < content_total(rows, t) {
-        scratch[at] = i + 1;
-        Climb {
-            top: push(scratch, top, content(rows, t, i)),
-            next,
+    match first_waiting(rows, t, scratch[at]) {
+        Some(i) => {
+            scratch[at] = i + 1;
+            Climb {
+                top: push(scratch, top, content(rows, t, i)),
+                next,
+            }
         }
-    } else {
-        Climb {
+        None => Climb {
             top: top - 1,
             next: give(rows, next, t),
-        }
+        },
     }
 }
 
@@ -108,15 +86,13 @@ fn climb_from(rows: &mut [u32], scratch: &mut [u32], next: u32, t: TypeKey) -> u
 {
     let mut after = next;
     let mut top = push(scratch, 0, t);
-    let mut left = MAX_STEPS;
-    while 0 < left {
+    for _ in 0..MAX_STEPS {
         if top == 0 {
             return after;
         }
         let c = step(rows, scratch, top, after);
         top = c.top;
         after = c.next;
-        left -= 1;
     }
     after
 }
@@ -136,12 +112,9 @@ fn climb_all(rows: &mut [u32], scratch: &mut [u32], next: u32) -> u32
     requires { Ranking rows.old next × (climb_words ≤ length scratch.old) }
     ensures { Advanced rows.old rows.new result }
 {
-    let n = type_count(rows);
     let mut after = next;
-    let mut t: u32 = 0;
-    while t < n {
+    for t in 0..type_count(rows) {
         after = climb_new(rows, scratch, after, TypeKey(t));
-        t += 1;
     }
     after
 }

@@ -4,7 +4,7 @@ ghost use Rattle.objects.specs.Rows.{type_count};
 ghost use Rattle.objects.specs.Laid.{Laid};
 ghost use Rattle.rules.specs.Library.{rank_read};
 ghost use Rattle.cycles.specs.Contents.{Refers};
-ghost use Rattle.cycles.specs.Ranking.{Ranking, Cleared, AllRanked, Given, Passing, Peeled};
+ghost use Rattle.cycles.specs.Ranking.{Ranking, Cleared, FirstWaiting, AllRanked, Given, Passing, Peeled};
 
 use crate::contents::{content, content_total};
 use objects::TypeKey;
@@ -22,12 +22,22 @@ fn clear(rows: &mut [u32])
     requires { Laid rows.old }
     ensures { Cleared rows.old (type_count rows.old) rows.new }
 {
-    let n = type_count(rows);
-    let mut t: u32 = 0;
-    while t < n {
+    for t in 0..type_count(rows) {
         put_rank(rows, TypeKey(t), 0);
-        t += 1;
     }
+}
+
+// The place of the first content of t, from one on, that has no rank.
+pub fn first_waiting(rows: &[u32], t: TypeKey, from: u32) -> Option<u32>
+    requires { Laid rows.now × (t.0 < type_count rows.now) }
+    ensures { FirstWaiting rows.now t from result }
+{
+    for i in from..content_total(rows, t) {
+        if rank(rows, content(rows, t, i)) == 0 {
+            return Some(i);
+        }
+    }
+    None
 }
 
 // Whether all that t contains has a rank.
@@ -35,16 +45,7 @@ fn all_ranked(rows: &[u32], t: TypeKey) -> bool
     requires { Laid rows.now × (t.0 < type_count rows.now) }
     ensures { AllRanked rows.now t result }
 {
-    let n = content_total(rows, t);
-    let mut i: u32 = 0;
-    while i < n {
-        let e = content(rows, t, i);
-        if rank(rows, e) == 0 {
-            return false;
-        }
-        i += 1;
-    }
-    true
+    first_waiting(rows, t, 0).is_none()
 }
 
 // The type gets the rank if it has none and may have it. Answers the next.
@@ -68,12 +69,9 @@ fn pass(rows: &mut [u32], next: u32) -> u32
     requires { Ranking rows.old next }
     ensures { Passing rows.old next (type_count rows.old) rows.new result }
 {
-    let n = type_count(rows);
     let mut after = next;
-    let mut t: u32 = 0;
-    while t < n {
+    for t in 0..type_count(rows) {
         after = give(rows, after, TypeKey(t));
-        t += 1;
     }
     after
 }

@@ -10,9 +10,9 @@ ghost use Rattle.cycles.specs.Contained.{Finds};
 
 use crate::contents::{content, content_total};
 use crate::ranks::rank;
+use objects::TypeKey;
 use objects::bounds::MAX_TYPES;
 use objects::rows::{type_count, type_word, word};
-use objects::{Stage, TypeKey};
 
 // A type that was not met is marked and goes to the end of the queue. Answers the new end.
 fn push(marks: &mut [u32], queue: &mut [u32], end: usize, e: TypeKey) -> usize
@@ -34,13 +34,10 @@ fn meet(rows: &[u32], marks: &mut [u32], queue: &mut [u32], end: usize, x: TypeK
     requires { (max_types ≤ length marks.old) × (max_types ≤ length queue.old) × Laid rows.now × Within rows.now × (x.0 < type_count rows.now) × Queued marks.old queue.old end }
     ensures { Meets rows.now x (content_total rows.now x) marks.old queue.old end marks.new queue.new result }
 {
-    let n = content_total(rows, x);
     let mut after = end;
-    let mut i: u32 = 0;
-    while i < n {
+    for i in 0..content_total(rows, x) {
         let e = content(rows, x, i);
         after = push(marks, queue, after, e);
-        i += 1;
     }
     after
 }
@@ -52,6 +49,7 @@ fn look(rows: &[u32], marks: &mut [u32], queue: &mut [u32], start: usize, t: Typ
 {
     let mut end = start;
     let mut done: usize = 0;
+    // a `while`, since the queue grows on the way
     while done < end {
         let x = word(queue, done);
         if x == t.0 {
@@ -79,27 +77,20 @@ fn on_cycle(rows: &[u32], t: TypeKey) -> bool
     requires { Ranks rows.now × (t.0 < type_count rows.now) }
     ensures { Decides (Back rows.now t) result }
 {
-    if rank(rows, t) == 0 {
-        leads_back(rows, t)
-    } else {
-        false
-    }
+    rank(rows, t) == 0 && leads_back(rows, t)
 }
 
 // The line of the least type that contains itself. A search is linear in the contents, and only a type without rank asks for one: in the worst case, where
 // nearly all types merely lead to a cycle, the whole is quadratic.
-pub fn first_back(rows: &[u32]) -> Stage
+pub fn first_back(rows: &[u32]) -> Option<u32>
     requires { Ranks rows.now }
     ensures { Finds rows.now result }
 {
-    let n = type_count(rows);
-    let mut t: u32 = 0;
-    while t < n {
+    for t in 0..type_count(rows) {
         let k = TypeKey(t);
         if on_cycle(rows, k) {
-            return Stage::Bad(type_word(rows, k, 6));
+            return Some(type_word(rows, k, 6));
         }
-        t += 1;
     }
-    Stage::Passed
+    None
 }

@@ -1,8 +1,8 @@
 -- What is said of the next input.
-use Rattle.std.specs.Prelude.{ℕ, ◌≤◌}
-use Rattle.frames.specs.declared.Frame.{Frame}
+use Rattle.std.specs.Prelude.{ℕ, ◌≤◌, Some, None}
+use Rattle.std.specs.declared.option.Option as code
 
 -- an input lies within a buffer of so many bytes
-abbrev pub Fits : ℕ → Frame → Type 0
-Fits room (Frame.Input n) = n ≤ room
-Fits room Frame.End = Unit {0}
+abbrev pub Fits : ℕ → code.Option ℕ → Type 0
+Fits room (Some n) = n ≤ room
+Fits room None = Unit {0}

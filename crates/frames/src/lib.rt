@@ -6,32 +6,21 @@ ghost use Rattle.frames.specs.Frames.{Fits};
 
 use objects::bounds::MAX_TEXT;
 use std::io;
-use std::io::{ErrorKind, Read};
+use std::io::{ErrorKind, Read, Write};
 
 // A buffer of so many bytes takes inputs that are longer than any that loads.
 pub const ROOM: usize = MAX_TEXT + 32;
 
-// The next input, by its length, or no further one.
-#[derive(Clone, Copy)]
-pub enum Frame {
-    Input(usize),
-    End,
-}
+// The inputs that are read; those behind them are not.
+const MAX_INPUTS: u32 = 10_000;
 
 fn digit(b: u8) -> usize
     ensures { result ≤ 9 }
 {
-    match b {
-        49 => 1,
-        50 => 2,
-        51 => 3,
-        52 => 4,
-        53 => 5,
-        54 => 6,
-        55 => 7,
-        56 => 8,
-        57 => 9,
-        _ => 0,
+    if b.is_ascii_digit() {
+        usize::from(b - b'0')
+    } else {
+        0
     }
 }
 
@@ -52,20 +41,36 @@ fn fill<R: Read>(from: &mut R, buf: &mut [u8]) -> io::Result<bool> {
     }
 }
 
-// Reads the next input to the front of the buffer. One that is cut short or has no room there ends them. An error is the reader's.
-pub fn next<R: Read>(from: &mut R, buf: &mut [u8]) -> io::Result<Frame>
+// Reads the next input to the front of the buffer, and answers its length. One that is cut short or has no room there ends them, and so does the end of what is
+// read. An error is the reader's.
+pub fn next<R: Read>(from: &mut R, buf: &mut [u8]) -> io::Result<Option<usize>>
     ensures { IfOk result (λ f. Fits (length buf.old) f) }
 {
     let mut head = [0u8; 6];
     if !fill(from, &mut head)? {
-        return Ok(Frame::End);
+        return Ok(None);
     }
     let n = number(&head);
-    if buf.len() < n {
-        return Ok(Frame::End);
+    if buf.len() < n || !fill(from, &mut buf[0..n])? {
+        return Ok(None);
     }
-    if !fill(from, &mut buf[0..n])? {
-        return Ok(Frame::End);
+    Ok(Some(n))
+}
+
+// Reads input after input into the buffer, and hands each to what is done with one, with what it writes to. The first error ends them.
+pub fn each<R: Read, W: Write, F: FnMut(&mut W, &[u8]) -> io::Result<()>>(
+    from: &mut R,
+    out: &mut W,
+    buf: &mut [u8],
+    mut one: F,
+) -> io::Result<()>
+    requires { F.IsAlwaysCallable one }
+{
+    for _ in 0..MAX_INPUTS {
+        let Some(n) = next(from, buf)? else {
+            return Ok(());
+        };
+        one(out, &buf[0..n])?;
     }
-    Ok(Frame::Input(n))
+    Ok(())
 }

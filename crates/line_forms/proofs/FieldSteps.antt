@@ -8,7 +8,8 @@ use native.Mathlib.Omega.{arith}
 use lib.ListN.{length}
 use Rattle.objects.specs.declared.TypeKey.{TypeKey}
 use Rattle.objects.specs.declared.PackageKey.{PackageKey}
-use Rattle.objects.specs.declared.«Package».{«Package»}
+use Rattle.std.specs.declared.option.Option as code
+use Rattle.std.specs.Prelude.{Some, None}
 use Rattle.objects.specs.Bounds.{max_reference}
 use Rattle.objects.specs.Lists.{Bytes, empty, when, mapped}
 use Rattle.objects.specs.Table.{type_key, package_key}
@@ -16,8 +17,6 @@ use Rattle.objects.specs.Rows.{bytes_at, package_meant}
 use Rattle.objects.proofs.ListLaws.{cases, clash}
 use Rattle.text.specs.declared.Cursor.{Cursor}
 use Rattle.text.specs.declared.Part.{Part}
-use Rattle.text.specs.declared.Num.{Num}
-use Rattle.text.specs.declared.Past.{Past}
 use Rattle.text.specs.Bytes.{ascii, same_bytes, is_name, is_blank, is_tag, number}
 use Rattle.text.specs.Readers.{field}
 use Rattle.text.specs.Cursors.{part, fields_left, exactly, part_read, num_read, past_read}
@@ -25,44 +24,41 @@ use Rattle.text.specs.Runs.{Exact}
 use Rattle.text.proofs.FieldLaws.{done-left}
 use Rattle.text.proofs.AnswerLaws.{num-on, num-out, part-on, part_out, past-on, past-out, none-some, passed, exactly-some, number-below, exact-within}
 use Rattle.rules.specs.Forms.{field_name, tag}
-use Rattle.line_forms.specs.declared.Small.{Small}
-use Rattle.line_forms.specs.declared.Piece.{Piece}
-use Rattle.line_forms.specs.declared.Packaged.{Packaged}
 use Rattle.line_forms.specs.declared.Typed.{Typed}
 use Rattle.line_forms.specs.Steps.{next, numbered, packaged, method_named, tagged, typed_rest}
 use Rattle.line_forms.specs.Forms.{small_read, piece_read, packaged_read, typed_read}
 
 -- ---- numbers
 
-module _ (s : Bytes) (max : ℕ) (fs : List Bytes) (r : Num) (p : num_read s r ≡ field (number max) fs) where
-  pub small_is : {v : ℕ} {c : Cursor} → r ≡ Num.Value v c → small_read s (Small.Value v c) ≡ numbered max fs
+module _ (s : Bytes) (max : ℕ) (fs : List Bytes) (r : code.Option (ℕ × Cursor)) (p : num_read s r ≡ field (number max) fs) where
+  pub small_is : {v : ℕ} {c : Cursor} → r ≡ Some (v, c) → small_read s (Some (v, c)) ≡ numbered max fs
   unfolding small_read numbered
   small_is q = sym (num-on s r p q)
 
-  pub small-wrong : r ≡ Num.Wrong → small_read s Small.Wrong ≡ numbered max fs
+  pub small-wrong : r ≡ None → small_read s None ≡ numbered max fs
   unfolding small_read numbered
   small-wrong q = sym (num-out s r p q)
 
-  pub number_fits : {v : ℕ} {c : Cursor} → r ≡ Num.Value v c → v ≤ max
+  pub number_fits : {v : ℕ} {c : Cursor} → r ≡ Some (v, c) → v ≤ max
   number_fits q = number-below max fs (num-on s r p q)
 
 -- ---- places
 
-module _ (s : Bytes) (p : Part) {from to : ℕ} {c : Cursor} (q : p ≡ Part.Is from to c) where
-  pub placed-is : piece_read s (Piece.Is from (to - from) c) ≡ part_read s p
+module _ (s : Bytes) (r : code.Option Part) {p : Part} (q : r ≡ Some p) where
+  pub placed-is : piece_read s (Some (record { at = p.from; len = p.to - p.from; rest = p.rest })) ≡ part_read s r
   unfolding piece_read part_read bytes_at part
   placed-is = rw q
 
   -- a part of no bytes
-  pub placed-empty : to ≤ from → piece_read s (Piece.Is 0 0 c) ≡ part_read s p
+  pub placed-empty : p.to ≤ p.from → piece_read s (Some (record { at = 0; len = 0; rest = p.rest })) ≡ part_read s r
   unfolding piece_read part_read bytes_at part
-  placed-empty h = let z : to - from ≡ 0 = omega arith in rw (q, z)
+  placed-empty h = let z : p.to - p.from ≡ 0 = omega arith in rw (q, z)
 
-  pub exact-is : Exact s p → Exact s (Part.Is from to c)
+  pub exact-is : Exact s r → Exact s (Some p)
   exact-is e = rw q at e
 
-  pub placed-within : Exact s p → from < to → to ≤ length s
-  placed-within e h = exact-within s from to c (exact-is e) h
+  pub placed-within : Exact s r → p.from < p.to → p.to ≤ length s
+  placed-within e h = exact-within s p (exact-is e) h
 
 -- ---- packages
 
@@ -70,7 +66,7 @@ no_word : (w b : Bytes) (fs : List Bytes) → exactly w (b ∷ fs) ≡ none → 
 unfolding exactly
 no_word w b fs h = cases (same_bytes b w) (λ e. none-some (sym (rw e at h))) (λ e. e)
 
-pub package-none : (s : Bytes) (fs : List Bytes) (r : Past) {c : Cursor} → past_read s r ≡ exactly (ascii "-") fs → r ≡ Past.To c → packaged_read s (Packaged.Is «Package».Absent c) ≡ packaged fs
+pub package-none : (s : Bytes) (fs : List Bytes) (r : code.Option Cursor) {c : Cursor} → past_read s r ≡ exactly (ascii "-") fs → r ≡ Some c → packaged_read s (Some (None, c)) ≡ packaged fs
 unfolding packaged_read packaged package_meant
 package-none s fs r p q = rw (exactly-some (ascii "-") fs (past-on s r p q))
 
@@ -98,12 +94,12 @@ no-package (b ∷ fs) w h = rw (no_word (ascii "-") b fs w) (go (number max_refe
     go none e = refl
     go (some n) e = none-some (sym e)
 
-module _ (s : Bytes) (fs : List Bytes) (w : Past) (r : Num) (o : past_read s w ≡ exactly (ascii "-") fs) (x : w ≡ Past.Wrong) (p : num_read s r ≡ field (number max_reference) fs) where
-  pub package-is : {v : ℕ} {c : Cursor} → r ≡ Num.Value v c → packaged_read s (Packaged.Is («Package».Is (package_key v)) c) ≡ packaged fs
+module _ (s : Bytes) (fs : List Bytes) (w : code.Option Cursor) (r : code.Option (ℕ × Cursor)) (o : past_read s w ≡ exactly (ascii "-") fs) (x : w ≡ None) (p : num_read s r ≡ field (number max_reference) fs) where
+  pub package-is : {v : ℕ} {c : Cursor} → r ≡ Some (v, c) → packaged_read s (Some (Some (package_key v), c)) ≡ packaged fs
   unfolding packaged_read package_meant
   package-is {v} {c} q = sym (package-some fs v (fields_left s c) (past-out s w o x) (num-on s r p q))
 
-  pub package-wrong : r ≡ Num.Wrong → packaged_read s Packaged.Wrong ≡ packaged fs
+  pub package-wrong : r ≡ None → packaged_read s None ≡ packaged fs
   unfolding packaged_read
   package-wrong q = sym (no-package fs (past-out s w o x) (num-out s r p q))
 
@@ -114,17 +110,17 @@ unfolding method_named
 no_name [] h = refl
 no_name (b ∷ fs) h = cases (is_name b) (λ e. none-some (sym (rw e at h))) (λ e. rw e)
 
-module _ (s : Bytes) (fs : List Bytes) (r : Part) (p : part_read s r ≡ field (λ b. when (is_name b) b) fs) where
-  pub method-wrong : r ≡ Part.Wrong → piece_read s Piece.Wrong ≡ method_named fs
+module _ (s : Bytes) (fs : List Bytes) (r : code.Option Part) (p : part_read s r ≡ field (λ b. when (is_name b) b) fs) where
+  pub method-wrong : r ≡ None → piece_read s None ≡ method_named fs
   unfolding piece_read
   method-wrong q = sym (no_name fs (part_out s r p q))
 
-  module _ {from to : ℕ} {c : Cursor} (q : r ≡ Part.Is from to c) {t : Bool} (b : t ≡ is_blank (part s from to)) where
-    pub method-blank : t ≡ true → piece_read s Piece.Wrong ≡ method_named fs
+  module _ {x : Part} (q : r ≡ Some x) {t : Bool} (b : t ≡ is_blank (part s x.from x.to)) where
+    pub method-blank : t ≡ true → piece_read s None ≡ method_named fs
     unfolding piece_read method_named
     method-blank e = let n = passed is_name fs (part-on s r p q) in rw (n.0, n.1, sym b ∙ e)
 
-    pub method-is : {y : Option (Bytes × List Bytes)} → t ≡ false → y ≡ part_read s (Part.Is from to c) → y ≡ method_named fs
+    pub method-is : {y : Option (Bytes × List Bytes)} → t ≡ false → y ≡ part_read s (Some x) → y ≡ method_named fs
     unfolding method_named part_read
     method-is e h = let n = passed is_name fs (part-on s r p q) in h ∙ sym (rw (n.0, n.1, sym b ∙ e))
 
@@ -168,6 +164,6 @@ bit-small fs {h} {rest} e =
     let w = number-below 1 b.1 d.2 in
     omega arith
 
-pub bit-fits : (s : Bytes) (fs : List Bytes) (r : Typed) {pkg : «Package»} {t bit : ℕ} {c : Cursor} → typed_read s r ≡ typed_rest fs → r ≡ Typed.Is pkg t bit c → bit ≤ 1
+pub bit-fits : (s : Bytes) (fs : List Bytes) (r : code.Option Typed) {x : Typed} → typed_read s r ≡ typed_rest fs → r ≡ Some x → x.bit ≤ 1
 unfolding typed_read
 bit-fits s fs r p q = bit-small fs (sym p ∙ ap (typed_read s) q)

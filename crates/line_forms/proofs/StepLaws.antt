@@ -18,6 +18,8 @@ use Rattle.text.specs.Readers.{Reader, ◌>>=◌, field, others, done}
 use Rattle.text.proofs.ByteLaws.{same_true}
 use Rattle.text.proofs.Gives.{Holds, number-max}
 use Rattle.rules.specs.Forms.{Line, type_line, member_line, type_ref, package_ref, flag_bit, direction, field_name, method_name, tag, kind_form, line_form, line_of}
+use Rattle.std.specs.declared.option.Option as code
+use Rattle.std.specs.Prelude.{None}
 use Rattle.line_forms.specs.declared.Form.{Form}
 use Rattle.line_forms.specs.Forms.{form_meant, form_read}
 use Rattle.line_forms.proofs.Chain.{read-meant}
@@ -318,9 +320,9 @@ unfolding line_of
 line-steps [] = none-line
 line-steps (l ∷ fs) = ap (mapped (λ p. p.0)) (letter-steps l fs)
 
-pub parsed : (s : Bytes) (fs : List Bytes) (r : Form) → form_read s r ≡ line_rest fs → form_meant s r ≡ line_of fs
+pub parsed : (s : Bytes) (fs : List Bytes) (r : code.Option Form) → form_read s r ≡ line_rest fs → form_meant s r ≡ line_of fs
 parsed s fs r h = sym (read-meant s r) ∙ ap (mapped (λ p. p.0)) h ∙ line-steps fs
 
-pub no-form : (s : Bytes) (fs : List Bytes) → line_rest fs ≡ none → form_meant s Form.Wrong ≡ line_of fs
+pub no-form : (s : Bytes) (fs : List Bytes) → line_rest fs ≡ none → form_meant s None ≡ line_of fs
 unfolding form_meant form_read
-no-form s fs h = parsed s fs Form.Wrong (sym h)
+no-form s fs h = parsed s fs None (sym h)

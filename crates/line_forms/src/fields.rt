@@ -6,76 +6,69 @@ ghost use Rattle.text.specs.Runs.{Exact};
 ghost use Rattle.line_forms.specs.Steps.{numbered, packaged, method_named, typed_rest};
 ghost use Rattle.line_forms.specs.Forms.{small_read, piece_read, packaged_read, typed_read};
 
-use crate::{Packaged, Piece, Small, Typed};
+use crate::{Piece, Typed};
+use objects::PackageKey;
 use objects::bounds::MAX_REFERENCE;
-use objects::{Package, PackageKey};
-use text::{Cursor, Num, Part, Past};
+use text::{Cursor, Part};
 
-pub fn small(s: &[u8], c: Cursor, max: u32) -> Small
+// A number of 32 bits, and the cursor behind it.
+pub fn small(s: &[u8], c: Cursor, max: u32) -> Option<(u32, Cursor)>
     ensures { small_read s.now result ≡ numbered max (fields_left s.now c) }
 {
-    match c.number(s, max as u64) {
-        Num::Value(v, d) => Small::Value(v as u32, d),
-        Num::Wrong => Small::Wrong,
-    }
+    let (v, d) = c.number(s, u64::from(max))?;
+    Some((v as u32, d))
 }
 
 // A part that was read, by its place and its length.
-pub fn placed(s: &[u8], p: Part) -> Piece
+pub fn placed(s: &[u8], p: Option<Part>) -> Option<Piece>
     requires { (length s.now ≤ max_text) × Exact s.now p }
     ensures { piece_read s.now result ≡ part_read s.now p }
 {
-    match p {
-        Part::Is(from, to, c) => {
-            if from < to {
-                Piece::Is(from as u32, (to - from) as u32, c)
-            } else {
-                Piece::Is(0, 0, c)
-            }
-        }
-        Part::Wrong => Piece::Wrong,
+    let p = p?;
+    if p.from < p.to {
+        Some(Piece {
+            at: p.from as u32,
+            len: (p.to - p.from) as u32,
+            rest: p.rest,
+        })
+    } else {
+        Some(Piece {
+            at: 0,
+            len: 0,
+            rest: p.rest,
+        })
     }
 }
 
 // "pkg is a number or `-` for none", whether or not the table has the number.
-pub fn package(s: &[u8], c: Cursor) -> Packaged
+pub fn package(s: &[u8], c: Cursor) -> Option<(Option<PackageKey>, Cursor)>
     ensures { packaged_read s.now result ≡ packaged (fields_left s.now c) }
 {
-    if let Past::To(d) = c.word(s, b"-") {
-        return Packaged::Is(Package::Absent, d);
+    if let Some(d) = c.word(s, b"-") {
+        return Some((None, d));
     }
-    match c.number(s, MAX_REFERENCE as u64) {
-        Num::Value(v, d) => Packaged::Is(Package::Is(PackageKey(v as u32)), d),
-        Num::Wrong => Packaged::Wrong,
-    }
+    let (v, d) = c.number(s, u64::from(MAX_REFERENCE))?;
+    Some((Some(PackageKey(v as u32)), d))
 }
 
 // "a method is never `_`"
-pub fn method_name(s: &[u8], c: Cursor) -> Piece
+pub fn method_name(s: &[u8], c: Cursor) -> Option<Piece>
     requires { length s.now ≤ max_text }
     ensures { piece_read s.now result ≡ method_named (fields_left s.now c) }
 {
-    let Part::Is(from, to, d) = c.name(s) else {
-        return Piece::Wrong;
-    };
-    if text::scan::blank(s, from, to) {
-        Piece::Wrong
+    let p = c.name(s)?;
+    if text::scan::blank(s, p.from, p.to) {
+        None
     } else {
-        placed(s, Part::Is(from, to, d))
+        placed(s, Some(p))
     }
 }
 
-pub fn typed(s: &[u8], c: Cursor) -> Typed
+pub fn typed(s: &[u8], c: Cursor) -> Option<Typed>
     ensures { typed_read s.now result ≡ typed_rest (fields_left s.now c) }
 {
-    let Packaged::Is(pkg, d) = package(s, c) else {
-        return Typed::Wrong;
-    };
-    let Small::Value(t, e) = small(s, d, MAX_REFERENCE) else {
-        return Typed::Wrong;
-    };
-    let Small::Value(bit, f) = small(s, e, 1) else {
-        return Typed::Wrong;
-    };
-    Typed::Is(pkg, t, bit, f)
+    let (pkg, d) = package(s, c)?;
+    let (t, e) = small(s, d, MAX_REFERENCE)?;
+    let (bit, rest) = small(s, e, 1)?;
+    Some(Typed { pkg, t, bit, rest })
 }

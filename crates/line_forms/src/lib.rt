@@ -4,35 +4,24 @@
 pub mod fields;
 pub mod forms;
 
-use objects::Package;
+use objects::PackageKey;
 use text::Cursor;
 
-// A number of 32 bits.
+// A field's place and length in the text, and the cursor behind it.
 #[derive(Clone, Copy)]
-pub enum Small {
-    Value(u32, Cursor),
-    Wrong,
+pub struct Piece {
+    pub at: u32,
+    pub len: u32,
+    pub rest: Cursor,
 }
 
-// A field's place and length in the text.
+// What F and M lines have alike behind the name: the package, the number of the type, and the bit.
 #[derive(Clone, Copy)]
-pub enum Piece {
-    Is(u32, u32, Cursor),
-    Wrong,
-}
-
-// "pkg is a number or `-` for none"
-#[derive(Clone, Copy)]
-pub enum Packaged {
-    Is(Package, Cursor),
-    Wrong,
-}
-
-// What F and M lines have alike behind the name: the package, the type, and the bit.
-#[derive(Clone, Copy)]
-pub enum Typed {
-    Is(Package, u32, u32, Cursor),
-    Wrong,
+pub struct Typed {
+    pub pkg: Option<PackageKey>,
+    pub t: u32,
+    pub bit: u32,
+    pub rest: Cursor,
 }
 
 // A line, by the numbers of its row. A tuple's elements are still to be read.
@@ -41,6 +30,5 @@ pub enum Form {
     Package(u32, u32),
     Type(u32, u32, u32, u32),
     Tuple(Cursor),
-    Member(u32, u32, Package, u32, u32, u32, u32),
-    Wrong,
+    Member(u32, u32, Option<PackageKey>, u32, u32, u32, u32),
 }

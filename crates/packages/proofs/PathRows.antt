@@ -6,7 +6,7 @@ use Prim.Native.Nat.{ℕ, ◌+◌, ◌-◌, ◌≤◌, ◌<◌}
 use native.Mathlib.Omega.{arith}
 use lib.ListN.{length, get_or, take, drop}
 use Rattle.objects.specs.declared.PackageKey.{PackageKey}
-use Rattle.objects.specs.declared.Stage.{Stage}
+use Rattle.std.specs.Prelude.{Some, None}
 use Rattle.objects.specs.Lists.{Bytes}
 use Rattle.objects.specs.Table.{package_key}
 use Rattle.objects.specs.Rows.{Words, package_count, package_word, bytes_at, path_read, table_of}
@@ -27,7 +27,7 @@ module _ (text : Bytes) (rows : Words) where
 
   -- from package i on: n are in the table, and the first of them has none before it
   module _ {n : ℕ} (pn : n ≡ package_count rows) (i : ℕ) where
-    pub from_end : n ≤ i → found_from (table_of text rows).packages i ≡ found Stage.Passed
+    pub from_end : n ≤ i → found_from (table_of text rows).packages i ≡ found None
     unfolding found
     from_end l = paths-end (table_of text rows).packages i (rw (package-count-read text rows, ← pn) l)
 
@@ -44,6 +44,6 @@ module _ (text : Bytes) (rows : Words) where
       pub from_on : b ≡ true → found_from (table_of text rows).packages i ≡ found_from (table_of text rows).packages (i + 1)
       from_on e = paths-on (table_of text rows).packages i there (compared ∙ e)
 
-      pub from-stop : b ≡ false → found_from (table_of text rows).packages i ≡ found (Stage.Bad (i + 2))
+      pub from-stop : b ≡ false → found_from (table_of text rows).packages i ≡ found (Some (i + 2))
       unfolding found
       from-stop e = paths-stop (table_of text rows).packages i there (compared ∙ e)

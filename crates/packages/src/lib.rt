@@ -9,9 +9,8 @@ ghost use Rattle.objects.specs.Laid.{Laid};
 ghost use Rattle.text.specs.Bytes.{below_bytes};
 ghost use Rattle.rules.specs.Stages.{first_unordered};
 
+use objects::PackageKey;
 use objects::rows::{package_count, package_word};
-use objects::{PackageKey, Stage};
-use text::Order;
 use text::compare::{order, span};
 
 // The path of a package, as it stands in the text.
@@ -33,26 +32,18 @@ fn ascends(text: &[u8], rows: &[u32], p: u32) -> bool
     let previous = p - 1;
     let before = path_of(text, rows, PackageKey(previous));
     let path = path_of(text, rows, PackageKey(p));
-    match order(before, path) {
-        Order::Less => true,
-        Order::Equal => false,
-        Order::Greater => false,
-    }
+    order(before, path).is_lt()
 }
 
 // The first P line that does not ascend. The first line of the text is no P line, so that package p stands on line p + 2.
-pub fn unordered(text: &[u8], rows: &[u32]) -> Stage
+pub fn unordered(text: &[u8], rows: &[u32]) -> Option<u32>
     requires { Laid rows.now }
     ensures { found result ≡ first_unordered (table_of text.now rows.now).packages }
 {
-    let n = package_count(rows);
-    let mut p = 1;
-    while p < n {
+    for p in 1..package_count(rows) {
         if !ascends(text, rows, p) {
-            let line = p + 2;
-            return Stage::Bad(line);
+            return Some(p + 2);
         }
-        p += 1;
     }
-    Stage::Passed
+    None
 }

@@ -5,7 +5,7 @@ use mathlib.Core.List.{List, [], ◌∷◌, ◌++◌}
 use Prim.Native.Nat.{ℕ, suc, ◌+◌, ◌-◌, ◌<◌, ◌≤◌}
 use native.Mathlib.Omega.{arith}
 use lib.Dec.{eqb, ltb}
-use borrow.Author.Tests.{eq-eqb, ne_eqb, eqb-true, lt-ltb}
+use borrow.Author.Tests.{ne_eqb, eqb-true, lt-ltb}
 use Rattle.objects.specs.declared.TypeKey.{TypeKey}
 use Rattle.objects.specs.declared.ObjKey.{ObjKey}
 use Rattle.objects.specs.Lists.{Bytes, every}
@@ -17,8 +17,6 @@ use Rattle.objects.proofs.BoolLaws.{and_yes}
 use Rattle.objects.proofs.PartLaws.{last_snoc}
 use Rattle.objects.proofs.RowLaws.{number-read, kind-beyond, under-read, bare-read, elements-more, member-type-meant, embedded-meant, method-meant, ptr-meant}
 use Rattle.rules.specs.Checks.{may_refer, smaller_tuple, ends_in_slice, may_name, type_allowed, may_embed, may_have, member_allowed}
-use Rattle.references.specs.declared.Test.{Test}
-use Rattle.references.specs.Tests.{passes}
 use Rattle.references.proofs.RowKinds.{there, tuple-word, tuple-row, func-row, struct_row, named-row}
 
 -- ---- readers that know where the table ends
@@ -74,9 +72,6 @@ module _ (T : Table) (t e : TypeKey) {k : ℕ} (p : k ≡ kind_number (kind_at T
   pub refer-other : (k ≡ 6 → ⊥) → (k ≡ 9 → ⊥) → (k ≡ 10 → ⊥) → ltb e.0 t.0 ≡ may_refer T t e
   refer-other a b c = cases (ltb e.0 t.0) (λ d. rw (is-not 6 a, is-not 9 b, is-not 10 c, d)) (λ d. rw (is-not 6 a, is-not 9 b, is-not 10 c, d))
 
-  pub tuple-smaller : {r : Bool} → r ≡ eqb k 6 && ltb e.0 t.0 → r ≡ smaller_tuple T t e
-  tuple-smaller q = q ∙ rw p
-
 -- a reference to a smaller number, by the word of its kind
 pub smaller-refers : (text : Bytes) (rows : Words) (t e : TypeKey) → t.0 < type_count rows → e.0 < t.0
     → {k : ℕ} → k ≡ type_word rows e 0 → not (eqb k 6) ≡ may_refer (table_of text rows) t e
@@ -84,16 +79,24 @@ smaller-refers text rows t e h l p =
     rw (lt-ltb e.0 t.0 l)
     (ap not (tuple-word rows e p ∙ ap (λ n. eqb n 6) (sym (number-read text rows e (omega arith)))) ∙ sym (and_yes _))
 
--- neither of two kinds: named or tuple, pointer or iface
-module _ (a b : ℕ) {k n : ℕ} (p : k ≡ n) where
-  pub neither-first : k ≡ a → false ≡ not (eqb n a || eqb n b)
-  neither-first q = rw (sym p ∙ q, eq-eqb a a refl)
+-- ---- tests that the code tries in turn
 
-  pub neither-second : k ≡ b → false ≡ not (eqb n a || eqb n b)
-  neither-second q = cases (eqb n a) (λ c. rw c) (λ c. rw (c, eq-eqb n b (sym p ∙ q)))
+-- `a && (not x || c)`
+pub by-first : {a x : Bool} (c : Bool) → a ≡ true → x ≡ false → not x ≡ a && (not x || c)
+by-first c p q = rw (p, q)
 
-  pub neither-other : (k ≡ a → ⊥) → (k ≡ b → ⊥) → true ≡ not (eqb n a || eqb n b)
-  neither-other q r = rw (ne_eqb n a (λ z. q (p ∙ z)), ne_eqb n b (λ z. r (p ∙ z)))
+pub by-second : {a x : Bool} (c : Bool) → a ≡ true → x ≡ true → c ≡ a && (not x || c)
+by-second c p q = rw (p, q)
+
+pub by-none : {a : Bool} (c : Bool) → a ≡ false → a ≡ a && c
+by-none c p = rw p
+
+-- both of two tests
+pub both-tried : {a b r : Bool} {A B : Bool} → a ≡ A → a ≡ true → b ≡ B → r ≡ b → r ≡ A && B
+both-tried p t q e = e ∙ q ∙ rw (sym p ∙ t)
+
+pub one-tried : {a r : Bool} {A : Bool} (B : Bool) → a ≡ A → a ≡ false → r ≡ a → r ≡ A && B
+one-tried B p f e = e ∙ f ∙ rw (sym p ∙ f)
 
 -- ---- a T line
 
@@ -122,37 +125,18 @@ tuple-there text rows t p pa e =
     let h = there text rows p (omega arith) in
     (h, sym (number-read text rows p h) ∙ six)
 
-module _ (text : Bytes) (rows : Words) (t : TypeKey) (h : t.0 < type_count rows) (seven : number_read rows t ≡ 7)
-    {p : ℕ} (pp : p ≡ type_word rows t 2) {a : Bool} (pa : a ≡ smaller_tuple (table_of text rows) t (type_key p)) where
-  abbrev Allows : Bool → Type 0
-  Allows r = r ≡ type_allowed (table_of text rows) t (kind_at (table_of text rows) t)
-
-  first-is : smaller_tuple (table_of text rows) t (type_key (type_word rows t 2)) ≡ a
-  first-is = rw (← pp) (sym pa)
-
-  pub func-row-first : a ≡ false → Allows false
-  func-row-first e = rw (func-row text rows t h seven, first-is, e)
-
-  module _ (ea : a ≡ true) {r : ℕ} (pr : r ≡ type_word rows t 3) {b : Bool} (pb : b ≡ smaller_tuple (table_of text rows) t (type_key r)) where
-    second_is : smaller_tuple (table_of text rows) t (type_key (type_word rows t 3)) ≡ b
-    second_is = rw (← pr) (sym pb)
-
-    pub func-row-second : b ≡ false → Allows false
-    func-row-second e = rw (func-row text rows t h seven, first-is, ea, second_is, e)
-
-    module _ (eb : b ≡ true) {v : ℕ} (pv : v ≡ type_word rows t 1) where
-      pub func-row-plain : (v ≡ 1 → ⊥) → Allows true
-      func-row-plain n = rw (func-row text rows t h seven, first-is, ea, second_is, eb, ne_eqb (type_word rows t 1) 1 (λ e. n (pv ∙ e)))
-
-      pub func-row-variadic : v ≡ 1 → {c : Bool} → c ≡ ends_in_slice (table_of text rows) (type_key p) → Allows c
-      func-row-variadic e pc = pc ∙ rw (func-row text rows t h seven, first-is, ea, second_is, eb, sym pv ∙ e, pp)
+pub func-allowed : (text : Bytes) (rows : Words) (t : TypeKey) → t.0 < type_count rows → number_read rows t ≡ 7
+    → {p r v : ℕ} → p ≡ type_word rows t 2 → r ≡ type_word rows t 3 → v ≡ type_word rows t 1
+    → {s : Bool} → s ≡ smaller_tuple (table_of text rows) t (type_key p) && smaller_tuple (table_of text rows) t (type_key r)
+    → s && (not (eqb v 1) || ends_in_slice (table_of text rows) (type_key p)) ≡ type_allowed (table_of text rows) t (kind_at (table_of text rows) t)
+func-allowed text rows t h seven {p} {r} {v} pp pr pv ps =
+    rw (ps, pp, pr, pv, func-row text rows t h seven)
 
 module _ (T : Table) (t : TypeKey) where
   pub named-allowed : {u : TypeKey} {ms : List Member} → kind_at T t ≡ Named u ms → {r : Bool} → r ≡ may_name T u → r ≡ type_allowed T t (kind_at T t)
   named-allowed q e = e ∙ rw q
 
-  pub others-allowed : (k : Kind) → (kind_number k ≡ 7 → ⊥) → (kind_number k ≡ 10 → ⊥) → every (passes T Test.Forbidden t) (refs k) ≡ type_allowed T t k
-  unfolding passes
+  pub others-allowed : (k : Kind) → (kind_number k ≡ 7 → ⊥) → (kind_number k ≡ 10 → ⊥) → every (may_refer T t) (refs k) ≡ type_allowed T t k
   others-allowed (Basic k) a b = refl
   others-allowed (Array n e) a b = and_yes _
   others-allowed (Slice e) a b = and_yes _
@@ -169,7 +153,7 @@ module _ (text : Bytes) (rows : Words) (t : TypeKey) (h : t.0 < type_count rows)
   pub named-is-allowed : k ≡ 10 → {w : ℕ} → w ≡ type_word rows t 1 → {r : Bool} → r ≡ may_name (table_of text rows) (type_key w) → r ≡ type_allowed (table_of text rows) t (kind_at (table_of text rows) t)
   named-is-allowed e q pr = named-allowed (table_of text rows) t (named-row text rows t h (sym p ∙ e)) (rw q at pr)
 
-  pub others-are-allowed : (k ≡ 7 → ⊥) → (k ≡ 10 → ⊥) → {r : Bool} → r ≡ every (passes (table_of text rows) Test.Forbidden t) (refs (kind_at (table_of text rows) t))
+  pub others-are-allowed : (k ≡ 7 → ⊥) → (k ≡ 10 → ⊥) → {r : Bool} → r ≡ every (may_refer (table_of text rows) t) (refs (kind_at (table_of text rows) t))
       → r ≡ type_allowed (table_of text rows) t (kind_at (table_of text rows) t)
   others-are-allowed a b pr =
       pr ∙ others-allowed (table_of text rows) t (kind_at (table_of text rows) t) (λ e. a (p ∙ sym (number-read text rows t h) ∙ e)) (λ e. b (p ∙ sym (number-read text rows t h) ∙ e))
@@ -231,13 +215,7 @@ module _ (text : Bytes) (rows : Words) (t : TypeKey) (m : ObjKey) {e : TypeKey} 
       (method-allowed (table_of text rows) t (kind_at (table_of text rows) t) (member_at text rows m).type (member_at text rows m).entity (method-meant text rows m ∙ sym pm ∙ y))
 
   module _ (y : b ≡ false) {x : Bool} (px : x ≡ embedded_read rows m) {a : Bool} (pa : a ≡ may_refer (table_of text rows) t e) where
-    by-field : a && (not x || may_embed (table_of text rows) e) ≡ member_allowed (table_of text rows) t (kind_at (table_of text rows) t) (member_at text rows m).type (member_at text rows m).entity
-    by-field =
+    pub line-field : a && (not x || may_embed (table_of text rows) e) ≡ member_allowed (table_of text rows) t (kind_at (table_of text rows) t) (member_at text rows m).type (member_at text rows m).entity
+    line-field =
         rw (pa, px, ← embedded-meant text rows m, pe, ← member-type-meant text rows m)
         (field-allowed (table_of text rows) t (kind_at (table_of text rows) t) (member_at text rows m).type (member_at text rows m).entity (method-meant text rows m ∙ sym pm ∙ y))
-
-    pub line-field : x ≡ false → Allowed a
-    line-field n = sym (and_yes a) ∙ (rw n at by-field)
-
-    pub line-embedded : x ≡ true → {c : Bool} → c ≡ may_embed (table_of text rows) e → {r : Bool} → r ≡ a && c → Allowed r
-    line-embedded n pc pr = pr ∙ rw pc (rw n at by-field)

@@ -7,7 +7,8 @@ use Prim.Native.Nat.{ℕ, ◌+◌, ◌<◌, ◌≤◌}
 use lib.ListN.{length, get_or}
 use Rattle.objects.specs.declared.TypeKey.{TypeKey}
 use Rattle.objects.specs.declared.ObjKey.{ObjKey}
-use Rattle.objects.specs.declared.Stage.{Stage}
+use Rattle.std.specs.declared.option.Option as code
+use Rattle.std.specs.Prelude.{Some, None}
 use Rattle.objects.specs.Lists.{Bytes}
 use Rattle.objects.specs.Table.{Member, Kind, type_key, obj_key, size, members_of, kind_at}
 use Rattle.objects.specs.Rows.{Words, type_count, member_count_of, type_word, member_word, member_at, table_of}
@@ -37,7 +38,7 @@ module _ (text : Bytes) (rows : Words) where
 module _ (text : Bytes) (rows : Words) (bad : Item → Bool) (t : TypeKey) (h : t.0 < type_count rows) where
   module _ {b : Bool} (pb : b ≡ bad (type_item t (kind_at (table_of text rows) t))) where
     pub type-fails : b ≡ true → {line : ℕ} → line ≡ type_word rows t 6
-        → found (Stage.Bad line) ≡ first_item (table_of text rows) bad (lines_of t (kind_at (table_of text rows) t))
+        → found (Some line) ≡ first_item (table_of text rows) bad (lines_of t (kind_at (table_of text rows) t))
     unfolding found
     type-fails e p = ap some (p ∙ sym (type-line text rows t _ h)) ∙ sym (lines-stop (table_of text rows) bad t _ (sym pb ∙ e))
 
@@ -48,7 +49,7 @@ module _ (text : Bytes) (rows : Words) (bad : Item → Bool) (t : TypeKey) (h : 
   -- ---- from its member i on: n are under it, from a first one on
 
   module _ {n : ℕ} (pn : n ≡ lines_read rows t) (i : ℕ) where
-    pub under-end : n ≤ i → first_item (table_of text rows) bad (members_left t (kind_at (table_of text rows) t) i) ≡ found Stage.Passed
+    pub under-end : n ≤ i → first_item (table_of text rows) bad (members_left t (kind_at (table_of text rows) t) i) ≡ found None
     unfolding found
     under-end l = members-end (table_of text rows) bad t _ i (rw (members-count text rows t h, ← pn) l)
 
@@ -68,7 +69,7 @@ module _ (text : Bytes) (rows : Words) (bad : Item → Bool) (t : TypeKey) (h : 
       under-on e = members-on (table_of text rows) bad t _ i (member_at text rows (obj_key (first + i))) counted (got _) (sym (pb _) ∙ e)
 
       pub under-stop : Laid rows → b ≡ true → {line : ℕ} → line ≡ member_word rows (obj_key (first + i)) 7
-          → first_item (table_of text rows) bad (members_left t (kind_at (table_of text rows) t) i) ≡ found (Stage.Bad line)
+          → first_item (table_of text rows) bad (members_left t (kind_at (table_of text rows) t) i) ≡ found (Some line)
       unfolding found
       under-stop laid e p =
           members-stop (table_of text rows) bad t _ i (member_at text rows (obj_key (first + i))) counted (got _) (sym (pb _) ∙ e)
@@ -77,18 +78,18 @@ module _ (text : Bytes) (rows : Words) (bad : Item → Bool) (t : TypeKey) (h : 
 -- ---- from type i on: n are in the table
 
 module _ (text : Bytes) (rows : Words) (bad : Item → Bool) {n : ℕ} (pn : n ≡ type_count rows) (i : ℕ) where
-  pub table-end : n ≤ i → first_item (table_of text rows) bad (types_left (table_of text rows) i) ≡ found Stage.Passed
+  pub table-end : n ≤ i → first_item (table_of text rows) bad (types_left (table_of text rows) i) ≡ found None
   unfolding found
   table-end l = types-end (table_of text rows) bad i (rw (size-read text rows, ← pn) l)
 
   there : i < n → i < size (table_of text rows)
   there l = rw (size-read text rows, ← pn) l
 
-  module _ (l : i < n) {r : Stage} (pr : found r ≡ first_item (table_of text rows) bad (lines_of (type_key i) (kind_at (table_of text rows) (type_key i)))) where
-    pub table_on : r ≡ Stage.Passed → first_item (table_of text rows) bad (types_left (table_of text rows) i) ≡ first_item (table_of text rows) bad (types_left (table_of text rows) (i + 1))
+  module _ (l : i < n) {r : code.Option ℕ} (pr : found r ≡ first_item (table_of text rows) bad (lines_of (type_key i) (kind_at (table_of text rows) (type_key i)))) where
+    pub table_on : r ≡ None → first_item (table_of text rows) bad (types_left (table_of text rows) i) ≡ first_item (table_of text rows) bad (types_left (table_of text rows) (i + 1))
     unfolding found
     table_on e = types-on (table_of text rows) bad i (there l) (sym pr ∙ ap found e)
 
-    pub table-stop : (line : ℕ) → r ≡ Stage.Bad line → first_item (table_of text rows) bad (types_left (table_of text rows) i) ≡ found (Stage.Bad line)
+    pub table-stop : (line : ℕ) → r ≡ Some line → first_item (table_of text rows) bad (types_left (table_of text rows) i) ≡ found (Some line)
     unfolding found
     table-stop line e = types-stop (table_of text rows) bad i (there l) line (sym pr ∙ ap found e)

@@ -8,15 +8,14 @@ ghost use Rattle.objects.specs.Laid.{Laid};
 ghost use Rattle.rules.specs.Checks.{may_refer, smaller_tuple, ends_in_slice, may_name, type_allowed, may_embed, may_have, member_allowed};
 ghost use Rattle.references.specs.Lines.{Says, SaysOf};
 
-use crate::Test;
 use crate::refs::refs_pass;
-use objects::kinds::{FUNC, NAMED, POINTER, SLICE, TUPLE};
+use crate::tests::Forbidden;
+use objects::kinds::{FUNC, IFACE, NAMED, POINTER, SLICE, TUPLE};
 use objects::rows::{
     element, first_member, has_ptr, is_embedded, is_method, kind_number, member_total, member_type,
     type_count, type_word,
 };
 use objects::{ObjKey, TypeKey};
-use text::bytes::both;
 
 // ---- readers that know where the table ends
 
@@ -60,9 +59,8 @@ pub fn may_refer(rows: &[u32], t: TypeKey, e: TypeKey) -> bool
     ensures { Says rows.now result (λ T. may_refer T t e) }
 {
     match kind_in(rows, e) {
-        6 => false,
-        9 => true,
-        10 => true,
+        TUPLE => false,
+        IFACE | NAMED => true,
         _ => e.0 < t.0,
     }
 }
@@ -71,7 +69,7 @@ pub fn may_refer(rows: &[u32], t: TypeKey, e: TypeKey) -> bool
 fn smaller_tuple(rows: &[u32], t: TypeKey, e: TypeKey) -> bool
     ensures { Says rows.now result (λ T. smaller_tuple T t e) }
 {
-    both(kind_in(rows, e) == TUPLE, e.0 < t.0)
+    kind_in(rows, e) == TUPLE && e.0 < t.0
 }
 
 // "the first ends in a slice", of a tuple p
@@ -81,10 +79,7 @@ fn ends_in_slice(rows: &[u32], p: TypeKey) -> bool
 {
     let first = first_member(rows, p);
     let n = member_total(rows, p);
-    if n == 0 {
-        return false;
-    }
-    kind_in(rows, element(rows, first + (n - 1))) == SLICE
+    n != 0 && kind_in(rows, element(rows, first + (n - 1))) == SLICE
 }
 
 // The T line of a func.
@@ -93,28 +88,16 @@ fn func_allowed(rows: &[u32], t: TypeKey) -> bool
     ensures { Says rows.now result (λ T. type_allowed T t (kind_at T t)) }
 {
     let p = TypeKey(type_word(rows, t, 2));
-    if !smaller_tuple(rows, t, p) {
-        return false;
-    }
-    if !smaller_tuple(rows, t, TypeKey(type_word(rows, t, 3))) {
-        return false;
-    }
-    if type_word(rows, t, 1) == 1 {
-        ends_in_slice(rows, p)
-    } else {
-        true
-    }
+    let r = TypeKey(type_word(rows, t, 3));
+    let variadic = type_word(rows, t, 1) == 1;
+    smaller_tuple(rows, t, p) && smaller_tuple(rows, t, r) && (!variadic || ends_in_slice(rows, p))
 }
 
 // "A named type's u is neither named nor tuple"
 fn may_name(rows: &[u32], u: TypeKey) -> bool
     ensures { Says rows.now result (λ T. may_name T u) }
 {
-    match kind_in(rows, u) {
-        6 => false,
-        10 => false,
-        _ => true,
-    }
+    !matches!(kind_in(rows, u), TUPLE | NAMED)
 }
 
 // The T line of t: a func and a named type have rules of their own.
@@ -123,9 +106,9 @@ pub fn type_allowed(rows: &[u32], t: TypeKey) -> bool
     ensures { Says rows.now result (λ T. type_allowed T t (kind_at T t)) }
 {
     match kind_number(rows, t) {
-        7 => func_allowed(rows, t),
-        10 => may_name(rows, TypeKey(type_word(rows, t, 1))),
-        _ => refs_pass(rows, Test::Forbidden, t),
+        FUNC => func_allowed(rows, t),
+        NAMED => may_name(rows, TypeKey(type_word(rows, t, 1))),
+        _ => refs_pass::<Forbidden>(rows, t),
     }
 }
 
@@ -135,11 +118,7 @@ pub fn type_allowed(rows: &[u32], t: TypeKey) -> bool
 fn concrete(rows: &[u32], u: TypeKey) -> bool
     ensures { Says rows.now result (λ T. not (is_pointer (kind_at T u) || is_iface (kind_at T u))) }
 {
-    match kind_in(rows, u) {
-        3 => false,
-        9 => false,
-        _ => true,
-    }
+    !matches!(kind_in(rows, u), POINTER | IFACE)
 }
 
 // "An embedded field's type is neither a named pointer type nor a pointer to a pointer, an interface, or a name of either."
@@ -147,8 +126,8 @@ fn may_embed(rows: &[u32], e: TypeKey) -> bool
     ensures { Says rows.now result (λ T. may_embed T e) }
 {
     match kind_in(rows, e) {
-        3 => concrete(rows, under_in(rows, bare_in(rows, e))),
-        10 => kind_in(rows, under_in(rows, e)) != POINTER,
+        POINTER => concrete(rows, under_in(rows, bare_in(rows, e))),
+        NAMED => kind_in(rows, under_in(rows, e)) != POINTER,
         _ => true,
     }
 }
@@ -159,8 +138,8 @@ fn may_have(rows: &[u32], t: TypeKey, ptr: bool) -> bool
     ensures { Says rows.now result (λ T. may_have T (kind_at T t) ptr) }
 {
     match kind_number(rows, t) {
-        9 => !ptr,
-        10 => concrete(rows, TypeKey(type_word(rows, t, 1))),
+        IFACE => !ptr,
+        NAMED => concrete(rows, TypeKey(type_word(rows, t, 1))),
         _ => true,
     }
 }
@@ -172,11 +151,7 @@ pub fn member_allowed(rows: &[u32], t: TypeKey, m: ObjKey) -> bool
 {
     let e = member_type(rows, m);
     if is_method(rows, m) {
-        let ptr = has_ptr(rows, m);
-        return both(kind_in(rows, e) == FUNC, may_have(rows, t, ptr));
+        return kind_in(rows, e) == FUNC && may_have(rows, t, has_ptr(rows, m));
     }
-    if !is_embedded(rows, m) {
-        return may_refer(rows, t, e);
-    }
-    both(may_refer(rows, t, e), may_embed(rows, e))
+    may_refer(rows, t, e) && (!is_embedded(rows, m) || may_embed(rows, e))
 }

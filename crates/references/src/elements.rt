@@ -1,28 +1,29 @@
 // The elements of a tuple, put to refusals 7 and 8. A table may be nearly all one tuple line, so each test has a loop of its own: what does not change is
 // read before it, and an element and its kind without a look at where the rows end.
-ghost use Rattle.std.specs.Prelude.{◌≡◌, ◌<◌, length};
-ghost use Rattle.objects.specs.Table.{has_type};
-ghost use Rattle.objects.specs.Rows.{type_count, type_word, element_at};
+ghost use Rattle.std.specs.Prelude.{◌≡◌, ◌<◌};
+ghost use Rattle.objects.specs.Lists.{Bytes, every};
+ghost use Rattle.objects.specs.Table.{has_type, type_key};
+ghost use Rattle.objects.specs.Rows.{type_count, type_word};
 ghost use Rattle.objects.specs.Laid.{Laid};
 ghost use Rattle.rules.specs.Checks.{may_refer};
-ghost use Rattle.references.specs.Lines.{Says, SaysEach};
+ghost use Rattle.references.specs.Lines.{Says, SaysEach, Elements};
 
 use crate::allowed::may_refer;
 use objects::TypeKey;
 use objects::bounds::{ROW_WORDS, TYPES_AT};
 use objects::kinds::TUPLE;
 use objects::rows::{first_member, member_total, type_count};
-use text::bytes::both;
 
 // ---- words that are there
 
-// An element.
-fn element_at(rows: &[u32], i: usize) -> TypeKey
-    requires { i < length rows.now }
-    ensures { result ≡ element_at rows.now i }
+// The words of a tuple's elements, the last first: elements stand from the last word downwards.
+fn element_words(rows: &[u32], t: TypeKey) -> &[u32]
+    requires { Laid rows.now × (t.0 < type_count rows.now) }
+    ensures { Elements rows.now t result.now }
 {
-    let at = rows.len() - 1 - i;
-    TypeKey(rows[at])
+    let end = rows.len() - first_member(rows, t) as usize;
+    let from = end - member_total(rows, t) as usize;
+    &rows[from..end]
 }
 
 // The word of a type's kind.
@@ -42,12 +43,10 @@ pub fn elements_within(rows: &[u32], t: TypeKey) -> bool
     ensures { SaysEach rows.now t result has_type }
 {
     let n = type_count(rows);
-    let first = first_member(rows, t) as usize;
-    let mut i = member_total(rows, t) as usize;
+    let words = element_words(rows, t);
     let mut all = true;
-    while 0 < i {
-        i -= 1;
-        all = both(element_at(rows, first + i).0 < n, all);
+    for e in words {
+        all &= *e < n;
     }
     all
 }
@@ -71,11 +70,9 @@ pub fn elements_allowed(rows: &[u32], t: TypeKey) -> bool
     requires { Laid rows.now × (t.0 < type_count rows.now) }
     ensures { SaysEach rows.now t result (λ T. may_refer T t) }
 {
-    let first = first_member(rows, t) as usize;
-    let mut i = member_total(rows, t) as usize;
-    while 0 < i {
-        i -= 1;
-        if !element_allowed(rows, t, element_at(rows, first + i)) {
+    let words = element_words(rows, t);
+    for e in words {
+        if !element_allowed(rows, t, TypeKey(*e)) {
             return false;
         }
     }

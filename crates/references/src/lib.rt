@@ -2,56 +2,24 @@
 // allowed there (8). One walk over the types and the members under each serves both tests.
 #![tactic(auto)]
 
-ghost use Rattle.std.specs.Prelude.{◌≡◌, ◌<◌, List};
-ghost use Rattle.objects.specs.Table.{Member, kind_at};
+ghost use Rattle.std.specs.Prelude.{◌≡◌, ◌<◌};
+ghost use Rattle.objects.specs.Table.{kind_at};
 ghost use Rattle.objects.specs.Rows.{type_count};
-ghost use Rattle.objects.specs.Types.{number_read, found};
+ghost use Rattle.objects.specs.Types.{found};
 ghost use Rattle.objects.specs.Laid.{Laid};
-ghost use Rattle.rules.specs.Checks.{type_item, member_item, items, lacking, forbidden};
+ghost use Rattle.rules.specs.Checks.{items, lacking, forbidden};
 ghost use Rattle.rules.specs.Stages.{first_item, lines_of, lines_under};
-ghost use Rattle.references.specs.Lines.{Says, SaysOf, lines_read};
-ghost use Rattle.references.specs.Tests.{fails};
+ghost use Rattle.references.specs.Lines.{Says, lines_read};
 
-use crate::allowed::{member_allowed, type_allowed};
-use crate::refs::{member_within, refs_pass};
+use crate::tests::{Forbidden, Lacking, Test};
 use objects::kinds::FUNC;
 use objects::rows::{first_member, kind_number, member_total, member_word, type_count, type_word};
-use objects::{ObjKey, Stage, TypeKey};
+use objects::{ObjKey, TypeKey};
 
+pub mod tests; // the two tests of a line
 pub mod refs; // what a line refers to
 pub mod elements; // a tuple's elements
 pub mod allowed; // what it may refer to
-
-// The test of refusal 7, or of 8.
-#[derive(Clone, Copy)]
-pub enum Test {
-    Lacking,
-    Forbidden,
-}
-
-// ---- one line
-
-// The T line of t fails.
-fn type_fails(rows: &[u32], test: Test, t: TypeKey) -> bool
-    requires { Laid rows.now × (t.0 < type_count rows.now) }
-    ensures { Says rows.now result (λ T. fails T test (type_item t (kind_at T t))) }
-{
-    match test {
-        Test::Lacking => !refs_pass(rows, Test::Lacking, t),
-        Test::Forbidden => !type_allowed(rows, t),
-    }
-}
-
-// The line of m, a member under t, fails. It does not matter which members stand above it.
-fn member_fails(rows: &[u32], test: Test, t: TypeKey, m: ObjKey) -> bool
-    requires { (t.0 < type_count rows.now) × (7 < number_read rows.now t) }
-    ensures { (above : List Member) → SaysOf rows.now m result (λ T x. fails T test (member_item t (kind_at T t) above x)) }
-{
-    match test {
-        Test::Lacking => !member_within(rows, m),
-        Test::Forbidden => !member_allowed(rows, t, m),
-    }
-}
 
 // ---- the lines of a type
 
@@ -67,68 +35,58 @@ pub fn member_lines(rows: &[u32], t: TypeKey) -> u32
 }
 
 // The first line under the T line of t that fails.
-fn first_member_line(rows: &[u32], test: Test, t: TypeKey) -> Stage
+fn first_member_line<X: Test>(rows: &[u32], t: TypeKey) -> Option<u32>
     requires { Laid rows.now × (t.0 < type_count rows.now) }
-    ensures { Says rows.now (found result) (λ T. first_item T (fails T test) (lines_under t (kind_at T t))) }
+    ensures { Says rows.now (found result) (λ T. first_item T (X.fails T) (lines_under t (kind_at T t))) }
 {
     let first = first_member(rows, t);
-    let n = member_lines(rows, t);
-    let mut i = 0;
-    while i < n {
+    for i in 0..member_lines(rows, t) {
         let m = ObjKey(first + i);
-        if member_fails(rows, test, t, m) {
-            return Stage::Bad(member_word(rows, m, 7));
+        if X::member_fails(rows, t, m) {
+            return Some(member_word(rows, m, 7));
         }
-        i += 1;
     }
-    Stage::Passed
+    None
 }
 
 // The first line of t that fails: its T line, or one under it.
-fn first_line_of(rows: &[u32], test: Test, t: TypeKey) -> Stage
+fn first_line_of<X: Test>(rows: &[u32], t: TypeKey) -> Option<u32>
     requires { Laid rows.now × (t.0 < type_count rows.now) }
-    ensures { Says rows.now (found result) (λ T. first_item T (fails T test) (lines_of t (kind_at T t))) }
+    ensures { Says rows.now (found result) (λ T. first_item T (X.fails T) (lines_of t (kind_at T t))) }
 {
-    if type_fails(rows, test, t) {
-        return Stage::Bad(type_word(rows, t, 6));
+    if X::type_fails(rows, t) {
+        return Some(type_word(rows, t, 6));
     }
-    first_member_line(rows, test, t)
+    first_member_line::<X>(rows, t)
 }
 
 // ---- the whole table
 
 // The first line of the table that fails.
-fn first_line(rows: &[u32], test: Test) -> Stage
+fn first_line<X: Test>(rows: &[u32]) -> Option<u32>
     requires { Laid rows.now }
-    ensures { Says rows.now (found result) (λ T. first_item T (fails T test) (items T)) }
+    ensures { Says rows.now (found result) (λ T. first_item T (X.fails T) (items T)) }
 {
-    let n = type_count(rows);
-    let mut t = 0;
-    while t < n {
-        match first_line_of(rows, test, TypeKey(t)) {
-            Stage::Passed => {
-                t += 1;
-            }
-            Stage::Bad(line) => {
-                return Stage::Bad(line);
-            }
+    for t in 0..type_count(rows) {
+        if let Some(line) = first_line_of::<X>(rows, TypeKey(t)) {
+            return Some(line);
         }
     }
-    Stage::Passed
+    None
 }
 
-// 7: "A line refers to a package or type number that the table lacks."
-pub fn lacking(rows: &[u32]) -> Stage
+// 7
+pub fn lacking(rows: &[u32]) -> Option<u32>
     requires { Laid rows.now }
     ensures { Says rows.now (found result) (λ T. first_item T (lacking T) (items T)) }
 {
-    first_line(rows, Test::Lacking)
+    first_line::<Lacking>(rows)
 }
 
-// 8: "A line refers to a kind of type not allowed there." It does not matter whether 7 was found.
-pub fn forbidden(rows: &[u32]) -> Stage
+// 8. It does not matter whether 7 was found.
+pub fn forbidden(rows: &[u32]) -> Option<u32>
     requires { Laid rows.now }
     ensures { Says rows.now (found result) (λ T. first_item T (forbidden T) (items T)) }
 {
-    first_line(rows, Test::Forbidden)
+    first_line::<Forbidden>(rows)
 }

@@ -8,7 +8,7 @@ use Rattle.clashes.proofs.any_same.Goals as goal
 
 pub loop-i-init : goal.loop-i-init
 loop-i-init c =
-    (any-start c.args.text.now c.args.rows.now c.args.first (same_member (table_of c.args.text.now c.args.rows.now) (member_at c.args.text.now c.args.rows.now c.args.m)), omega arith)
+    any-start c.args.text.now c.args.rows.now c.args.first (same_member (table_of c.args.text.now c.args.rows.now) (member_at c.args.text.now c.args.rows.now c.args.m))
 
 pub overflow_add-first : goal.overflow_add-first
 overflow_add-first c = omega (arith, c.requires.2)
@@ -22,8 +22,8 @@ returns-then-same_member c =
 
 pub loop-i-preserved : goal.loop-i-preserved
 loop-i-preserved c =
-    (any-on c.args.text.now c.args.rows.now c.args.first (same_member (table_of c.args.text.now c.args.rows.now) (member_at c.args.text.now c.args.rows.now c.args.m)) c.loop-i.i c.loop-i.invariant.0 (sym c.same_member.ensures ∙ c.if-same_member.false), omega arith)
+    any-on c.args.text.now c.args.rows.now c.args.first (same_member (table_of c.args.text.now c.args.rows.now) (member_at c.args.text.now c.args.rows.now c.args.m)) c.loop-i.i c.loop-i.invariant (sym c.same_member.ensures ∙ c.if-same_member.false)
 
 pub returns : goal.returns
 returns c =
-    sym (any-end c.args.text.now c.args.rows.now c.args.first (same_member (table_of c.args.text.now c.args.rows.now) (member_at c.args.text.now c.args.rows.now c.args.m)) c.loop-i.invariant.1 c.loop-i-test.false c.loop-i.invariant.0)
+    sym (any-end c.args.text.now c.args.rows.now c.args.first (same_member (table_of c.args.text.now c.args.rows.now) (member_at c.args.text.now c.args.rows.now c.args.m)) (omega arith) c.loop-i-test.false c.loop-i.invariant)

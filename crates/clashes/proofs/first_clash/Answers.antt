@@ -10,9 +10,9 @@ use Rattle.references.proofs.Walking.{under-end}
 use Rattle.clashes.proofs.SeenLaws.{ready-grown}
 use Rattle.clashes.proofs.first_clash.Goals as goal
 
-pub returns-then-n-eq0 : goal.returns-then-n-eq0
-returns-then-n-eq0 c =
-    record { result_value = sym (members-start (table_of c.args.text.now c.args.rows.now) (clashing (table_of c.args.text.now c.args.rows.now)) c.args.t (kind_at (table_of c.args.text.now c.args.rows.now) c.args.t) ∙ under-end c.args.text.now c.args.rows.now (clashing (table_of c.args.text.now c.args.rows.now)) c.args.t c.requires.2 c.member_lines-n.ensures 0 (omega (arith, c.if-n-eq0.true))); ready = c.requires.5 }
+pub returns-then-member_lines-eq0 : goal.returns-then-member_lines-eq0
+returns-then-member_lines-eq0 c =
+    record { result_value = sym (members-start (table_of c.args.text.now c.args.rows.now) (clashing (table_of c.args.text.now c.args.rows.now)) c.args.t (kind_at (table_of c.args.text.now c.args.rows.now) c.args.t) ∙ under-end c.args.text.now c.args.rows.now (clashing (table_of c.args.text.now c.args.rows.now)) c.args.t c.requires.2 c.member_lines.ensures 0 (omega (arith, c.if-member_lines-eq0.true))); ready = c.requires.5 }
 
 pub prepare-requires : goal.prepare-requires
 prepare-requires c = (c.requires.0, c.requires.3, c.requires.4, c.requires.5)

@@ -1,7 +1,6 @@
 -- `clashes::first_line` meets its contract. The invariant: what is found under t is found from its member i on, those before ascend in an interface, and
 -- they are marked elsewhere.
 use mathlib.Core.Path.{◌≡◌}
-use Prim.Native.Nat.{◌-◌}
 use lib.ListN.{length}
 use Rattle.objects.specs.Table.{kind_at}
 use Rattle.objects.specs.Rows.{table_of}
@@ -20,6 +19,3 @@ invariant-loop-i l =
     × (length l.marks ≡ length l.initial.marks)
     × Grows l.initial.marks l.marks
     × Seen l.text l.rows l.marks l.t l.i
-
-abbrev pub decreases-loop-i : goal.decreases-loop-i
-decreases-loop-i l = l.n - l.i

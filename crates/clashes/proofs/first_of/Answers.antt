@@ -14,16 +14,16 @@ loop-t-init c =
 
 pub first_clash-requires : goal.first_clash-requires
 first_clash-requires c =
-    (c.requires.0, c.requires.1, rw c.type_count-n.ensures at c.loop-t-test.true, search rules, search rules, c.loop-t.invariant.3)
+    (c.requires.0, c.requires.1, rw c.type_count-t-end.ensures at c.loop-t-test.true, search rules, search rules, c.loop-t.invariant.3)
 
 pub loop-t-preserved : goal.loop-t-preserved
 loop-t-preserved c =
-    (c.loop-t.invariant.0 ∙ table_on c.args.text.now c.args.rows.now (clashing (table_of c.args.text.now c.args.rows.now)) c.type_count-n.ensures _ c.loop-t-test.true (lines-clash _ _ _ c.first_clash.ensures.result_value) c.in-Passed.is, search rules, search rules, c.first_clash.ensures.ready)
+    (c.loop-t.invariant.0 ∙ table_on c.args.text.now c.args.rows.now (clashing (table_of c.args.text.now c.args.rows.now)) c.type_count-t-end.ensures _ c.loop-t-test.true (lines-clash _ _ _ c.first_clash.ensures.result_value) c.in_default.is, search rules, search rules, c.first_clash.ensures.ready)
 
-pub returns-in-Bad : goal.returns-in-Bad
-returns-in-Bad c =
-    sym (c.loop-t.invariant.0 ∙ table-stop c.args.text.now c.args.rows.now (clashing (table_of c.args.text.now c.args.rows.now)) c.type_count-n.ensures _ c.loop-t-test.true (lines-clash _ _ _ c.first_clash.ensures.result_value) _ c.in-Bad.is)
+pub returns-in-Some : goal.returns-in-Some
+returns-in-Some c =
+    sym (c.loop-t.invariant.0 ∙ table-stop c.args.text.now c.args.rows.now (clashing (table_of c.args.text.now c.args.rows.now)) c.type_count-t-end.ensures _ c.loop-t-test.true (lines-clash _ _ _ c.first_clash.ensures.result_value) _ c.in-Some.is)
 
 pub returns : goal.returns
 returns c =
-    sym (c.loop-t.invariant.0 ∙ table-end c.args.text.now c.args.rows.now (clashing (table_of c.args.text.now c.args.rows.now)) c.type_count-n.ensures _ c.loop-t-test.false)
+    sym (c.loop-t.invariant.0 ∙ table-end c.args.text.now c.args.rows.now (clashing (table_of c.args.text.now c.args.rows.now)) c.type_count-t-end.ensures _ c.loop-t-test.false)

@@ -1,6 +1,5 @@
 -- `clashes::first_of` meets its contract. The invariant: what is found in the table is found from type t on.
 use mathlib.Core.Path.{◌≡◌}
-use Prim.Native.Nat.{◌-◌}
 use lib.ListN.{length}
 use Rattle.objects.specs.Rows.{table_of}
 use Rattle.rules.specs.Checks.{items, clashing}
@@ -16,6 +15,3 @@ invariant-loop-t l =
     × (length l.marks ≡ length l.initial.marks)
     × (length l.done ≡ length l.initial.done)
     × Ready l.text l.rows l.marks l.done
-
-abbrev pub decreases-loop-t : goal.decreases-loop-t
-decreases-loop-t l = l.n - l.t

@@ -1,5 +1,6 @@
 -- `clashes::in_fields` meets its contract.
 use mathlib.Core.Path.{◌∙◌}
+use borrow.Author.Tests.{ne_eqb}
 use native.Mathlib.Omega.{arith}
 use Rattle.objects.specs.Rows.{member_at, table_of}
 use Rattle.rules.specs.Members.{same_member}
@@ -25,4 +26,4 @@ returns-then-kind_number-eq-STRUCT c =
 
 pub returns-else-kind_number-eq-STRUCT : goal.returns-else-kind_number-eq-STRUCT
 returns-else-kind_number-eq-STRUCT c =
-    fields-none c.args.text.now c.args.rows.now c.args.u (same_member (table_of c.args.text.now c.args.rows.now) (member_at c.args.text.now c.args.rows.now c.args.m)) c.type_count.ensures c.if-type_count-u.false c.kind_number.ensures c.if-kind_number-eq-STRUCT.false
+    ne_eqb c.kind_number.result 8 c.if-kind_number-eq-STRUCT.false ∙ fields-none c.args.text.now c.args.rows.now c.args.u (same_member (table_of c.args.text.now c.args.rows.now) (member_at c.args.text.now c.args.rows.now c.args.m)) c.type_count.ensures c.if-type_count-u.false c.kind_number.ensures c.if-kind_number-eq-STRUCT.false

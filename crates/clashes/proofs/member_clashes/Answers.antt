@@ -1,10 +1,17 @@
 -- `clashes::member_clashes` meets its contract.
 use Rattle.std.proofs.Common.{rules}
-use mathlib.Core.Path.{◌∙◌}
+use mathlib.Core.Path.{◌≡◌, refl, ◌∙◌}
+use mathlib.Core.Bool.{Bool, true, false, ◌||◌}
 use native.Mathlib.Omega.{arith}
 use Rattle.references.proofs.RowKinds.{lines_fit}
 use Rattle.clashes.proofs.ClashLaws.{packaged-at, packaged-before, packaged-with, clashes-iface, clashes-named, clashes-other}
 use Rattle.clashes.proofs.member_clashes.Goals as goal
+
+by-first : {a : Bool} (b : Bool) → a ≡ true → a ≡ a || b
+by-first b e = rw e
+
+by-second : {a : Bool} (b : Bool) → a ≡ false → b ≡ a || b
+by-second b e = rw e
 
 pub overflow_add-m : goal.overflow_add-m
 overflow_add-m c =
@@ -30,9 +37,11 @@ pub returns-in-9 : goal.returns-in-9
 returns-in-9 c =
     clashes-iface c.args.text.now c.args.rows.now c.args.t c.requires.2 c.args.i c.requires.3 c.requires.4 c.first_member-first.ensures c.kind_number.ensures c.in-9.is c.falls.ensures
 
-pub returns-in-10 : goal.returns-in-10
-returns-in-10 c =
-    c.or.ensures ∙ clashes-named c.args.text.now c.args.rows.now c.args.t c.requires.2 c.args.i c.requires.3 c.first_member-first.ensures c.repeats.ensures c.kind_number.ensures c.in-10.is c.type_word.ensures c.in_fields.ensures
+pub returns-then-repeats : goal.returns-then-repeats
+returns-then-repeats c = by-first _ c.if-repeats.true ∙ clashes-named c.args.text.now c.args.rows.now c.args.t c.requires.2 c.args.i c.requires.3 c.first_member-first.ensures c.repeats.ensures c.kind_number.ensures c.in-10.is refl refl
+
+pub returns-else-repeats : goal.returns-else-repeats
+returns-else-repeats c = by-second _ c.if-repeats.false ∙ clashes-named c.args.text.now c.args.rows.now c.args.t c.requires.2 c.args.i c.requires.3 c.first_member-first.ensures c.repeats.ensures c.kind_number.ensures c.in-10.is c.type_word.ensures c.in_fields.ensures
 
 pub returns-in_default : goal.returns-in_default
 returns-in_default c =

@@ -5,9 +5,9 @@ use Rattle.rules.specs.Members.{same_member}
 use Rattle.clashes.proofs.ClashLaws.{blank-repeats, others-repeat}
 use Rattle.clashes.proofs.repeats.Goals as goal
 
-pub returns-then-is_blank : goal.returns-then-is_blank
-returns-then-is_blank c =
-    blank-repeats _ (any (same_member (table_of c.args.text.now c.args.rows.now) (member_at c.args.text.now c.args.rows.now c.args.m)) (members_from c.args.text.now c.args.rows.now c.args.first c.args.n)) c.is_blank.ensures c.if-is_blank.true
+pub returns-else-not-is_blank : goal.returns-else-not-is_blank
+returns-else-not-is_blank c =
+    rw c.if-not-is_blank.false (blank-repeats _ (any (same_member (table_of c.args.text.now c.args.rows.now) (member_at c.args.text.now c.args.rows.now c.args.m)) (members_from c.args.text.now c.args.rows.now c.args.first c.args.n)) c.is_blank.ensures c.if-not-is_blank.false)
 
-pub returns-else-is_blank : goal.returns-else-is_blank
-returns-else-is_blank c = others-repeat _ c.is_blank.ensures c.if-is_blank.false c.any_same.ensures
+pub returns-then-not-is_blank : goal.returns-then-not-is_blank
+returns-then-not-is_blank c = others-repeat _ c.is_blank.ensures c.if-not-is_blank.true c.any_same.ensures

@@ -6,19 +6,16 @@ use Rattle.packages.proofs.PathRows.{from_on, from-stop, from_end}
 use Rattle.packages.proofs.unordered.Goals as goal
 
 pub loop-p-init : goal.loop-p-init
-loop-p-init c = (omega arith, paths-start _)
-
-pub ascends-requires : goal.ascends-requires
-ascends-requires c = c.loop-p.invariant.0
+loop-p-init c = paths-start _
 
 pub returns-then-not-ascends : goal.returns-then-not-ascends
 returns-then-not-ascends c =
-    sym (c.loop-p.invariant.1 ∙ from-stop _ _ c.package_count-n.ensures _ c.loop-p.invariant.0 c.loop-p-test.true c.ascends.ensures c.if-not-ascends.true)
+    sym (c.loop-p.invariant ∙ from-stop _ _ c.package_count-p-end.ensures _ (omega arith) c.loop-p-test.true c.ascends.ensures c.if-not-ascends.true)
 
 pub loop-p-preserved : goal.loop-p-preserved
 loop-p-preserved c =
-    (omega arith, c.loop-p.invariant.1 ∙ from_on _ _ c.package_count-n.ensures _ c.loop-p.invariant.0 c.loop-p-test.true c.ascends.ensures c.if-not-ascends.false)
+    c.loop-p.invariant ∙ from_on _ _ c.package_count-p-end.ensures _ (omega arith) c.loop-p-test.true c.ascends.ensures c.if-not-ascends.false
 
 pub returns : goal.returns
 returns c =
-    sym (c.loop-p.invariant.1 ∙ from_end _ _ c.package_count-n.ensures _ c.loop-p-test.false)
+    sym (c.loop-p.invariant ∙ from_end _ _ c.package_count-p-end.ensures _ c.loop-p-test.false)

@@ -5,7 +5,7 @@ use Rattle.clashes.proofs.MarkLaws.{noted-none, noted-on, noted-end}
 use Rattle.clashes.proofs.marks.meet_all.Goals as goal
 
 pub loop-i-init : goal.loop-i-init
-loop-i-init c = (search rules, omega arith, noted-none _ _ _ _ _)
+loop-i-init c = (search rules, noted-none _ _ _ _ _)
 
 pub overflow_add-first : goal.overflow_add-first
 overflow_add-first c = omega (arith, c.requires.2)
@@ -18,7 +18,7 @@ meet-requires c = (search rules, c.place.ensures.upper_bound)
 
 pub loop-i-preserved : goal.loop-i-preserved
 loop-i-preserved c =
-    (search rules, omega arith, noted-on _ _ _ _ _ c.name_hash-h.ensures.value c.place.ensures.value _ _ _ c.meet.ensures c.loop-i.invariant.2)
+    (search rules, noted-on _ _ _ _ _ c.name_hash-h.ensures.value c.place.ensures.value _ _ _ c.meet.ensures c.loop-i.invariant.1)
 
 pub returns : goal.returns
-returns c = noted-end _ _ _ _ _ _ c.loop-i.invariant.1 c.loop-i-test.false c.loop-i.invariant.2
+returns c = noted-end _ _ _ _ _ _ (omega arith) c.loop-i-test.false c.loop-i.invariant.1

@@ -1,6 +1,5 @@
 -- `clashes::marks::meet_all` meets its contract. The invariant: the first i names are marked.
 use mathlib.Core.Path.{◌≡◌}
-use Prim.Native.Nat.{◌-◌, ◌≤◌}
 use lib.ListN.{length}
 use Rattle.objects.specs.Rows.{members_from}
 use Rattle.clashes.specs.Marks.{Noted}
@@ -8,7 +7,4 @@ use Rattle.clashes.proofs.marks.meet_all.Given as goal
 
 abbrev pub invariant-loop-i : goal.invariant-loop-i
 invariant-loop-i l =
-    (length l.marks ≡ length l.initial.marks) × (l.i ≤ l.n) × Noted l.initial.marks l.k (members_from l.text l.rows l.first l.i) l.marks
-
-abbrev pub decreases-loop-i : goal.decreases-loop-i
-decreases-loop-i l = l.n - l.i
+    (length l.marks ≡ length l.initial.marks) × Noted l.initial.marks l.k (members_from l.text l.rows l.first l.i) l.marks

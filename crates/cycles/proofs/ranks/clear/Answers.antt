@@ -4,14 +4,14 @@ use Rattle.cycles.proofs.RankLaws.{clear-start, clear_in, clear-more, clear-end}
 use Rattle.cycles.proofs.ranks.clear.Goals as goal
 
 pub loop-t-init : goal.loop-t-init
-loop-t-init c = (search rules, omega arith, clear-start _ c.requires)
+loop-t-init c = (search rules, clear-start _ c.requires)
 
 pub put_rank-requires : goal.put_rank-requires
 put_rank-requires c =
-    (c.loop-t.invariant.2.same.laid, clear_in _ _ _ c.loop-t.invariant.2 c.type_count-n.ensures c.loop-t-test.true)
+    (c.loop-t.invariant.1.same.laid, clear_in _ _ _ c.loop-t.invariant.1 c.type_count-t-end.ensures c.loop-t-test.true)
 
 pub loop-t-preserved : goal.loop-t-preserved
-loop-t-preserved c = (search rules, omega arith, clear-more _ _ _ _ c.loop-t.invariant.2 c.put_rank.ensures)
+loop-t-preserved c = (search rules, clear-more _ _ _ _ c.loop-t.invariant.1 c.put_rank.ensures)
 
 pub returns : goal.returns
-returns c = clear-end _ _ _ c.loop-t.invariant.2 c.type_count-n.ensures (omega arith)
+returns c = clear-end _ _ _ c.loop-t.invariant.1 c.type_count-t-end.ensures (omega arith)

@@ -1,12 +1,8 @@
 use mathlib.Core.Path.{◌≡◌}
-use Prim.Native.Nat.{◌-◌, ◌≤◌}
 use lib.ListN.{length}
 use Rattle.cycles.specs.Ranking.{Passing}
 use Rattle.cycles.proofs.ranks.pass.Given as goal
 
 abbrev pub invariant-loop-t : goal.invariant-loop-t
 invariant-loop-t l =
-    (length l.rows ≡ length l.initial.rows) × (l.t ≤ l.n) × Passing l.initial.rows l.next l.t l.rows l.after
-
-abbrev pub decreases-loop-t : goal.decreases-loop-t
-decreases-loop-t l = l.n - l.t
+    (length l.rows ≡ length l.initial.rows) × Passing l.initial.rows l.next l.t l.rows l.after

@@ -3,18 +3,18 @@ use Rattle.cycles.proofs.LineLaws.{clear-more, finds-none, finds-some}
 use Rattle.cycles.proofs.search.first_back.Goals as goal
 
 pub loop-t-init : goal.loop-t-init
-loop-t-init c = (omega arith, λ u h. absurd (omega arith))
+loop-t-init c = λ u h. absurd (omega arith)
 
 pub on_cycle-requires : goal.on_cycle-requires
-on_cycle-requires c = (c.requires, omega (arith, c.type_count-n.ensures, c.loop-t-test.true))
+on_cycle-requires c = (c.requires, omega (arith, c.type_count-t-end.ensures, c.loop-t-test.true))
 
 pub returns-then-on_cycle : goal.returns-then-on_cycle
 returns-then-on_cycle c =
-    finds-some _ c.requires.within c.type_count-n.ensures _ c.loop-t-test.true c.loop-t.invariant.1 (c.on_cycle.ensures.yes c.if-on_cycle.true) c.type_word.ensures
+    finds-some _ c.requires.within c.type_count-t-end.ensures _ c.loop-t-test.true c.loop-t.invariant (c.on_cycle.ensures.yes c.if-on_cycle.true) c.type_word.ensures
 
 pub loop-t-preserved : goal.loop-t-preserved
 loop-t-preserved c =
-    (omega arith, clear-more _ c.requires.within _ c.loop-t.invariant.1 (c.on_cycle.ensures.no c.if-on_cycle.false))
+    clear-more _ c.requires.within _ c.loop-t.invariant (c.on_cycle.ensures.no c.if-on_cycle.false)
 
 pub returns : goal.returns
-returns c = finds-none _ c.requires.within c.type_count-n.ensures _ (omega arith) c.loop-t.invariant.1
+returns c = finds-none _ c.requires.within c.type_count-t-end.ensures _ (omega arith) c.loop-t.invariant

@@ -1,10 +1,7 @@
-use Prim.Native.Nat.{◌-◌, ◌<◌, ◌≤◌}
+use Prim.Native.Nat.{◌<◌}
 use Rattle.objects.specs.declared.TypeKey.{TypeKey}
 use Rattle.cycles.specs.Contents.{Back}
 use Rattle.cycles.proofs.search.first_back.Given as goal
 
 abbrev pub invariant-loop-t : goal.invariant-loop-t
-invariant-loop-t l = (l.t ≤ l.n) × ((u : TypeKey) → u.0 < l.t → Back l.rows u → ⊥)
-
-abbrev pub decreases-loop-t : goal.decreases-loop-t
-decreases-loop-t l = l.n - l.t
+invariant-loop-t l = (u : TypeKey) → u.0 < l.t → Back l.rows u → ⊥

@@ -1,30 +1,26 @@
 -- `line_forms::forms::func` meets its contract.
 use mathlib.Core.Path.{refl, sym, ◌∙◌}
-use Rattle.line_forms.proofs.Chain.{small-on, small-out, ended-yes, ended-no}
-use Rattle.line_forms.specs.Forms.{form_read, form_meant, unread}
+use Rattle.line_forms.proofs.Chain.{small-on, small-out, form-ended, unread-ended, form-out, unread-out}
 use Rattle.line_forms.specs.Steps.{func_rest}
+use Rattle.line_forms.specs.Forms.{form_meant, unread}
 use Rattle.line_forms.proofs.forms.func.Goals as goal
 
-pub returns-in_default : goal.returns-in_default
-unfolding form_read form_meant func_rest unread
-returns-in_default c = record { result_value = sym (small-out _ _ c.small.ensures c.in_default.is); result_value_2 = refl }
+pub returns-in_err-v : goal.returns-in_err-v
+unfolding func_rest
+returns-in_err-v c =
+    record { result_value = form-out _ c.from_residual.ensures (small-out _ _ c.small.ensures c.in_err-v.was); result_value_2 = unread-out _ c.from_residual.ensures }
 
-pub returns-in_default-small : goal.returns-in_default-small
-unfolding form_read form_meant func_rest unread
-returns-in_default-small c =
-    record { result_value = sym (small-on _ _ c.small.ensures c.in-Value.is ∙ small-out _ _ c.small-2.ensures c.in_default-small.is); result_value_2 = refl }
+pub returns-in_err-p : goal.returns-in_err-p
+unfolding func_rest
+returns-in_err-p c =
+    record { result_value = form-out _ c.from_residual-in_err-p.ensures (small-on _ _ c.small.ensures c.in_ok-v.was ∙ small-out _ _ c.small-2.ensures c.in_err-p.was); result_value_2 = unread-out _ c.from_residual-in_err-p.ensures }
 
-pub returns-in_default-small-2 : goal.returns-in_default-small-2
-unfolding form_read form_meant func_rest unread
-returns-in_default-small-2 c =
-    record { result_value = sym (small-on _ _ c.small.ensures c.in-Value.is ∙ small-on _ _ c.small-2.ensures c.in-Value-small.is ∙ small-out _ _ c.small-3.ensures c.in_default-small-2.is); result_value_2 = refl }
+pub returns-in_err-r : goal.returns-in_err-r
+unfolding func_rest
+returns-in_err-r c =
+    record { result_value = form-out _ c.from_residual-in_err-r.ensures (small-on _ _ c.small.ensures c.in_ok-v.was ∙ small-on _ _ c.small-2.ensures c.in_ok-p.was ∙ small-out _ _ c.small-3.ensures c.in_err-r.was); result_value_2 = unread-out _ c.from_residual-in_err-r.ensures }
 
-pub returns-then-done : goal.returns-then-done
-unfolding form_read form_meant func_rest unread
-returns-then-done c =
-    record { result_value = sym (small-on _ _ c.small.ensures c.in-Value.is ∙ small-on _ _ c.small-2.ensures c.in-Value-small.is ∙ small-on _ _ c.small-3.ensures c.in-Value-small-2.is ∙ ended-yes _ _ _ c.done.ensures c.if-done.true); result_value_2 = refl }
-
-pub returns-else-done : goal.returns-else-done
-unfolding form_read form_meant func_rest unread
-returns-else-done c =
-    record { result_value = sym (small-on _ _ c.small.ensures c.in-Value.is ∙ small-on _ _ c.small-2.ensures c.in-Value-small.is ∙ small-on _ _ c.small-3.ensures c.in-Value-small-2.is ∙ ended-no _ _ _ c.done.ensures c.if-done.false); result_value_2 = refl }
+pub returns : goal.returns
+unfolding form_meant unread func_rest
+returns c =
+    record { result_value = form-ended _ _ _ refl c.done.ensures c.then_some.ensures ∙ sym (small-on _ _ c.small.ensures c.in_ok-v.was ∙ small-on _ _ c.small-2.ensures c.in_ok-p.was ∙ small-on _ _ c.small-3.ensures c.in_ok-r.was); result_value_2 = unread-ended _ _ refl _ c.then_some.ensures }

@@ -1,20 +1,16 @@
 -- `line_forms::forms::one` meets its contract.
 use mathlib.Core.Path.{refl, sym, ◌∙◌}
-use Rattle.line_forms.proofs.Chain.{small-on, small-out, ended-yes, ended-no}
-use Rattle.line_forms.specs.Forms.{form_read, form_meant, unread}
+use Rattle.line_forms.proofs.Chain.{small-on, small-out, form-ended, unread-ended, form-out, unread-out}
 use Rattle.line_forms.specs.Steps.{one_rest}
+use Rattle.line_forms.specs.Forms.{form_meant, unread}
 use Rattle.line_forms.proofs.forms.one.Goals as goal
 
-pub returns-in_default : goal.returns-in_default
-unfolding form_read form_meant one_rest unread
-returns-in_default c = record { result_value = sym (small-out _ _ c.small.ensures c.in_default.is); result_value_2 = refl }
+pub returns-in_err-a : goal.returns-in_err-a
+unfolding one_rest
+returns-in_err-a c =
+    record { result_value = form-out _ c.from_residual.ensures (small-out _ _ c.small.ensures c.in_err-a.was); result_value_2 = unread-out _ c.from_residual.ensures }
 
-pub returns-then-done : goal.returns-then-done
-unfolding form_read form_meant one_rest unread
-returns-then-done c =
-    record { result_value = sym (small-on _ _ c.small.ensures c.in-Value.is ∙ ended-yes _ _ _ c.done.ensures c.if-done.true); result_value_2 = refl }
-
-pub returns-else-done : goal.returns-else-done
-unfolding form_read form_meant one_rest unread
-returns-else-done c =
-    record { result_value = sym (small-on _ _ c.small.ensures c.in-Value.is ∙ ended-no _ _ _ c.done.ensures c.if-done.false); result_value_2 = refl }
+pub returns : goal.returns
+unfolding form_meant unread one_rest
+returns c =
+    record { result_value = form-ended _ _ _ refl c.done.ensures c.then_some.ensures ∙ sym (small-on _ _ c.small.ensures c.in_ok-a.was); result_value_2 = unread-ended _ _ refl _ c.then_some.ensures }

@@ -1,9 +1,0 @@
--- `cycles::climb::waiting` meets its contract.
-use Prim.Native.Nat.{◌-◌}
-use Rattle.cycles.proofs.climb.waiting.Given as goal
-
-abbrev pub invariant-loop-i : goal.invariant-loop-i
-invariant-loop-i l = Unit {0}
-
-abbrev pub decreases-loop-i : goal.decreases-loop-i
-decreases-loop-i l = l.n - l.i
