@@ -16,11 +16,6 @@ use Rattle.pair_marks.specs.Classes.{OneClass, Rooted, Single, new_label, relabe
 
 -- ---- labels are numbered
 
-pub number_more : (l : List ℕ) (i : ℕ) → i < length l → ((k : ℕ) → k < i → get_or l k 0 ≡ k) → (k : ℕ) → k < i + 1 → get_or (set l i i) k 0 ≡ k
-number_more l i h z =
-    below_more (λ (k : ℕ). get_or (set l i i) k 0 ≡ k) i
-    (λ k lt. get_or-set_other l i k i 0 (λ e. omega arith) ∙ z k lt) (get_or-set_same l i i 0 h)
-
 -- each is then the number of its type
 pub rooted-single : (n : ℕ) (l : List ℕ) → n ≤ length l → Single l → Rooted n l
 rooted-single n l h s = record {
@@ -70,9 +65,6 @@ module _ (new old : ℕ) where
   -- the labels below i are new, the others old
   abbrev pub Changed : List ℕ → List ℕ → ℕ → Type 0
   Changed l₀ l i = ((k : ℕ) → k < i → get_or l k 0 ≡ new_label new old (get_or l₀ k 0)) × ((k : ℕ) → i ≤ k → get_or l k 0 ≡ get_or l₀ k 0)
-
-  pub changed-none : (l : List ℕ) → Changed l l 0
-  changed-none l = (λ k h. absurd (omega arith), λ k h. refl)
 
   pub changed-more : (l₀ l : List ℕ) (i v : ℕ) → i < length l → v ≡ new_label new old (get_or l i 0) → Changed l₀ l i → Changed l₀ (set l i v) (i + 1)
   changed-more l₀ l i v h e z = (

@@ -2,21 +2,12 @@
 use mathlib.Core.Path.{◌≡◌, refl, sym, ap, ◌∙◌, subst}
 use mathlib.Core.Bool.{false}
 use mathlib.Core.List.{List, ◌∷◌, ◌++◌}
-use Prim.Native.Nat.{ℕ, zero, suc, ◌+◌, ◌/◌, ◌<◌, ◌≤◌}
+use Prim.Native.Nat.{ℕ, zero, suc, ◌/◌, ◌≤◌}
 use native.Mathlib.Omega.{arith}
 use native.Mathlib.Nat.{zero-div}
-use lib.ListN.{length, get_or, set, take, drop, replicate, length-replicate, get_or-replicate, take-append-drop}
-use lib.Seq.{get_or-set_same, get_or-set_other, ext_get_or, length-take-le}
-use borrow.Author.Count.{below_more}
+use lib.ListN.{length, get_or, take, drop, replicate, take-append-drop}
+use lib.Seq.{length-take-le}
 use Rattle.pair_marks.specs.Marks.{bit_at, met}
-
-pub zero_more : (l : List ℕ) (i : ℕ) → i < length l → ((k : ℕ) → k < i → get_or l k 0 ≡ 0) → (k : ℕ) → k < i + 1 → get_or (set l i 0) k 0 ≡ 0
-zero_more l i h z =
-    below_more (λ (k : ℕ). get_or (set l i 0) k 0 ≡ 0) i
-    (λ k lt. get_or-set_other l i k 0 0 (λ e. omega arith) ∙ z k lt) (get_or-set_same l i 0 0 h)
-
-pub zero-all : (l : List ℕ) (n i : ℕ) → length l ≡ n → n ≤ i → ((k : ℕ) → k < i → get_or l k 0 ≡ 0) → l ≡ replicate n 0
-zero-all l n i e h z = ext_get_or 0 l (replicate n 0) (e ∙ sym (length-replicate n 0)) (λ k lt. z k (omega arith) ∙ sym (get_or-replicate n k 0 0 (omega arith)))
 
 pub get_or-zeros : (n k : ℕ) → ◌≡◌ {A = ℕ} (get_or (replicate n 0) k 0) 0
 get_or-zeros zero k = refl

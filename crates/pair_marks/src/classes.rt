@@ -10,10 +10,8 @@ pub fn number(labels: &mut [u32])
     requires { length labels.old ≤ max_types }
     ensures { Single labels.new }
 {
-    let mut i: usize = 0;
-    while i < labels.len() {
-        labels[i] = i as u32;
-        i += 1;
+    for (i, label) in labels.iter_mut().enumerate() {
+        *label = i as u32;
     }
 }
 
@@ -21,11 +19,9 @@ pub fn number(labels: &mut [u32])
 fn relabel(labels: &mut [u32], new: u32, old: u32)
     ensures { labels.new ≡ relabelled new old labels.old }
 {
-    let mut i: usize = 0;
-    while i < labels.len() {
-        let c = labels[i];
-        labels[i] = if c == old { new } else { c };
-        i += 1;
+    for label in labels.iter_mut() {
+        let c = *label;
+        *label = if c == old { new } else { c };
     }
 }
 

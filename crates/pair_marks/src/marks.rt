@@ -22,9 +22,5 @@ pub fn set_met(marks: &mut [u32], p: usize)
 pub fn clear(marks: &mut [u32])
     ensures { marks.new ≡ replicate (length marks.old) 0 }
 {
-    let mut i = 0;
-    while i < marks.len() {
-        marks[i] = 0;
-        i += 1;
-    }
+    marks.fill(0);
 }

@@ -2,7 +2,7 @@
 use mathlib.Core.Path.{◌≡◌, refl, sym, ap, ◌∙◌}
 use mathlib.Core.Bool.{cond}
 use mathlib.Core.List.{[], ◌∷◌, ◌++◌}
-use Prim.Native.Nat.{ℕ, zero, suc, ◌+◌, ◌-◌, ◌≤◌, ◌<◌}
+use Prim.Native.Nat.{ℕ, zero, suc, ◌+◌, ◌≤◌, ◌<◌}
 use native.Mathlib.Omega.{arith}
 use lib.Dec.{eqb, ltb, leb}
 use lib.ListN.{length, get_or, take, drop, set, length-map, length-append, drop_of_length-le, get_or-map}
@@ -24,7 +24,7 @@ use Rattle.print.proofs.LineLaws.{end_none, end-some}
 use Rattle.print.proofs.WrittenLaws.{written-more, written-nothing, written_byte, wrote-length, then-wrote, wrote_as}
 use Rattle.edits.specs.TableText.{type_bytes, line_body, line_of_type}
 use Rattle.objects.specs.Table.{dir_number, type_key}
-use Rattle.table_text.specs.Rows.{carried_number, carried_type, carried_kind, kind_words, word_starts, kind_word, number_counts, first_number, element_numbers, type_text}
+use Rattle.table_text.specs.Rows.{carried_number, carried_type, carried_kind, kind_word, number_counts, first_number, element_numbers, type_text}
 
 -- ---- parts
 
@@ -58,51 +58,6 @@ module _ (numbers : Words) (k a : ℕ) where
   pub first-high : k ≡ 5 → 2 ≤ a → 2 ≡ first_number numbers k a
   unfolding first_number dir_at
   first-high e h = rw (e, ne_eqb a 0 (λ z. omega arith), ne_eqb a 1 (λ z. omega arith))
-
-  pub first-yes : (k ≡ 5 → ⊥) → k ≡ 7 → a ≡ 1 → 1 ≡ first_number numbers k a
-  unfolding first_number
-  first-yes n e h = rw (e, h)
-
-  pub first-no : (k ≡ 5 → ⊥) → k ≡ 7 → (a ≡ 1 → ⊥) → 0 ≡ first_number numbers k a
-  unfolding first_number
-  first-no n e h = rw (e, ne_eqb a 1 h)
-
-  pub first-plain : (k ≡ 5 → ⊥) → (k ≡ 7 → ⊥) → k < 2 → a ≡ first_number numbers k a
-  unfolding first_number
-  first-plain n e h = rw (ne_eqb k 5 n, ne_eqb k 7 e, lt-ltb k 2 h)
-
-  pub first-carried : (k ≡ 5 → ⊥) → (k ≡ 7 → ⊥) → 2 ≤ k → {r : ℕ} → r ≡ carried_number numbers a → r ≡ first_number numbers k a
-  unfolding first_number
-  first-carried n e h q = rw (ne_eqb k 5 n, ne_eqb k 7 e, le-ltb k 2 h) q
-
--- ---- words
-
--- the words follow each other
-word-ordered : (k : ℕ) → k ≤ 10 → get_or word_starts k 0 ≤ get_or word_starts (suc k) 0
-word-ordered zero h = omega arith
-word-ordered (suc zero) h = omega arith
-word-ordered (suc (suc zero)) h = omega arith
-word-ordered (suc (suc (suc zero))) h = omega arith
-word-ordered (suc (suc (suc (suc zero)))) h = omega arith
-word-ordered (suc (suc (suc (suc (suc zero))))) h = omega arith
-word-ordered (suc (suc (suc (suc (suc (suc zero)))))) h = omega arith
-word-ordered (suc (suc (suc (suc (suc (suc (suc zero))))))) h = omega arith
-word-ordered (suc (suc (suc (suc (suc (suc (suc (suc zero)))))))) h = omega arith
-word-ordered (suc (suc (suc (suc (suc (suc (suc (suc (suc zero))))))))) h = omega arith
-word-ordered (suc (suc (suc (suc (suc (suc (suc (suc (suc (suc zero)))))))))) h = omega arith
-word-ordered (suc (suc (suc (suc (suc (suc (suc (suc (suc (suc (suc k))))))))))) h = absurd (omega arith)
-
--- from and end are where the word of kind k begins and where the next one does
-module _ (k from end : ℕ) (h : k ≤ 10) (p : from ≡ get_or word_starts k 0) (q : end ≡ get_or word_starts (k + 1) 0) where
-  after : end ≡ get_or word_starts (suc k) 0
-  after = q ∙ ap (λ n. get_or word_starts n 0) (add-one k)
-
-  pub kind-ordered : from ≤ end
-  kind-ordered = omega (arith, word-ordered k h, after, p)
-
-  pub kind-bytes : kind_word k ≡ bytes_at kind_words from (end - from)
-  unfolding kind_word
-  kind-bytes = rw (p, after)
 
 -- ---- a whole T line
 

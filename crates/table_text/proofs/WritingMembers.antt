@@ -27,26 +27,6 @@ pub end-wrote : (out : Bytes) (at : ℕ) → Wrote out at (10 ∷ []) (set out a
 end-wrote out at = byte-wrote (wrote_nothing (set out at 10) (at + 1))
 
 module _ (form : ℕ) where
-  pub letter-method : 1 < form → form_letter form ≡ ascii "M\t"
-  unfolding form_letter
-  letter-method h = rw (lt-ltb 1 form h)
-
-  pub letter-field : form ≤ 1 → form_letter form ≡ ascii "F\t"
-  unfolding form_letter
-  letter-field h = rw (le-ltb 1 form h)
-
-  pub flag-embedded : form ≡ 1 → 1 ≡ form_flag form
-  unfolding form_flag
-  flag-embedded e = rw e
-
-  pub flag-pointer : (form ≡ 1 → ⊥) → 2 < form → 1 ≡ form_flag form
-  unfolding form_flag
-  flag-pointer n h = rw (ne_eqb form 1 n, lt-ltb 2 form h)
-
-  pub flag-none : (form ≡ 1 → ⊥) → form ≤ 2 → 0 ≡ form_flag form
-  unfolding form_flag
-  flag-none n h = rw (ne_eqb form 1 n, le-ltb 2 form h)
-
   pub tag-method : (tag : Bytes) → 1 < form → form_tag form tag ≡ []
   unfolding form_tag
   tag-method tag h = rw (lt-ltb 1 form h)

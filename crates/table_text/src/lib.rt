@@ -35,10 +35,8 @@ fn put_members(
     ensures { Wrote out.old at (members_text numbers.now text.now rows.now first count) out.new result }
 {
     let mut i = at;
-    let mut j: u32 = 0;
-    while j < count {
+    for j in 0..count {
         i = put_member_line(out, i, text, rows, numbers, ObjKey(first + j));
-        j += 1;
     }
     i
 }
@@ -71,10 +69,8 @@ pub fn put_packages(out: &mut [u8], at: usize, text: &[u8], rows: &[u32]) -> usi
 {
     let count = package_count(rows);
     let mut i = at;
-    let mut j: u32 = 0;
-    while j < count {
+    for j in 0..count {
         i = put_package_line(out, i, text, rows, PackageKey(j));
-        j += 1;
     }
     i
 }
@@ -86,10 +82,8 @@ fn put_types(out: &mut [u8], at: usize, text: &[u8], rows: &[u32], numbers: &[u3
 {
     let count = type_count(rows);
     let mut i = at;
-    let mut j: u32 = 0;
-    while j < count {
+    for j in 0..count {
         i = put_type(out, i, text, rows, numbers, TypeKey(j));
-        j += 1;
     }
     i
 }

@@ -29,12 +29,10 @@ fn put_elements(
     ensures { Wrote out.old at (line_end (element_numbers numbers.now rows.now first count)) out.new result }
 {
     let mut i = at;
-    let mut j: u32 = 0;
-    while j < count {
+    for j in 0..count {
         let e = element(rows, first + j);
         let n = carried(numbers, e.0);
         i = put_field(out, i, n);
-        j += 1;
     }
     out[i] = 10;
     i + 1
@@ -52,10 +50,11 @@ pub fn put_type_line(out: &mut [u8], at: usize, rows: &[u32], numbers: &[u32], t
         let count = member_total(rows, t);
         return put_elements(out, i, rows, numbers, first, count);
     }
-    let mut line = [0u32; 3];
-    line[0] = first_number(numbers, k, type_word(rows, t, 1));
-    line[1] = carried(numbers, type_word(rows, t, 2));
-    line[2] = carried(numbers, type_word(rows, t, 3));
+    let line = [
+        first_number(numbers, k, type_word(rows, t, 1)),
+        carried(numbers, type_word(rows, t, 2)),
+        carried(numbers, type_word(rows, t, 3)),
+    ];
     let n = number_count(k);
     put_line(out, i, b"", &line, n)
 }

@@ -17,13 +17,25 @@ pub fn put_part(out: &mut [u8], at: usize, s: &[u8], from: usize, count: usize) 
     put_word(out, at, span(s, from, count))
 }
 
-// Where the word of kind k begins among the words.
-fn word_start(k: u32) -> usize
-    requires { k ≤ 11 }
-    ensures { result ≡ get_or word_starts k 0 }
+// `T` and the word of kind k.
+#[tactic(auto, unfolding(crate::specs::Rows::kind_word))]
+fn kind_word(k: u32) -> &'static [u8]
+    requires { k ≤ 10 }
+    ensures { result.now ≡ kind_word k }
 {
-    let starts: [usize; 12] = [0, 7, 14, 21, 30, 35, 41, 48, 54, 62, 69, 76];
-    starts[k as usize]
+    match k {
+        0 => b"T\tbasic",
+        1 => b"T\tarray",
+        2 => b"T\tslice",
+        3 => b"T\tpointer",
+        4 => b"T\tmap",
+        5 => b"T\tchan",
+        6 => b"T\ttuple",
+        7 => b"T\tfunc",
+        8 => b"T\tstruct",
+        9 => b"T\tiface",
+        _ => b"T\tnamed",
+    }
 }
 
 // How many numbers stand on the T line of kind k.
@@ -31,24 +43,16 @@ pub fn number_count(k: u32) -> usize
     requires { k ≤ 10 }
     ensures { result ≡ get_or number_counts k 0 }
 {
-    let counts: [usize; 11] = [1, 2, 1, 1, 2, 2, 0, 3, 0, 0, 1];
+    let counts = [1, 2, 1, 1, 2, 2, 0, 3, 0, 0, 1];
     counts[k as usize]
 }
 
-// `T` and the word of kind k.
+// The same, written.
 pub fn put_kind(out: &mut [u8], at: usize, k: u32) -> usize
     requires { (k ≤ 10) × (at + length (kind_word k) ≤ length out.old) }
     ensures { Wrote out.old at (kind_word k) out.new result }
 {
-    let from = word_start(k);
-    let end = word_start(k + 1);
-    put_part(
-        out,
-        at,
-        b"T\tbasicT\tarrayT\tsliceT\tpointerT\tmapT\tchanT\ttupleT\tfuncT\tstructT\tifaceT\tnamed",
-        from,
-        end - from,
-    )
+    put_word(out, at, kind_word(k))
 }
 
 // The number of type n by the lent numbers; one that they do not reach keeps its own.
@@ -60,25 +64,16 @@ pub fn carried(numbers: &[u32], n: u32) -> u32
 }
 
 // The first number of a T line of kind k, whose word in the row is a. The kinds before slice, basic and array, have a number there that is no type.
+#[tactic(auto, unfolding(crate::specs::Rows::first_number))]
 pub fn first_number(numbers: &[u32], k: u32, a: u32) -> u32
     ensures { result ≡ first_number numbers.now k a }
 {
-    if k == CHAN {
-        if a < 2 {
-            return a;
-        }
-        return 2;
+    match k {
+        CHAN => a.min(2),
+        FUNC => u32::from(a == 1),
+        _ if k < SLICE => a,
+        _ => carried(numbers, a),
     }
-    if k == FUNC {
-        if a == 1 {
-            return 1;
-        }
-        return 0;
-    }
-    if k < SLICE {
-        return a;
-    }
-    carried(numbers, a)
 }
 
 // The newline.
@@ -91,14 +86,12 @@ pub fn put_end(out: &mut [u8], at: usize) -> usize
 }
 
 // `F` or `M`, and a tab.
+#[tactic(auto, unfolding(crate::specs::Rows::form_letter))]
 pub fn put_letter(out: &mut [u8], at: usize, form: u32) -> usize
     requires { at + length (form_letter form) ≤ length out.old }
     ensures { Wrote out.old at (form_letter form) out.new result }
 {
-    if 1 < form {
-        return put_word(out, at, b"M\t");
-    }
-    put_word(out, at, b"F\t")
+    put_word(out, at, if 1 < form { b"M\t" } else { b"F\t" })
 }
 
 // A tab and a package, given by its number and one, 0 for none.
@@ -113,19 +106,15 @@ pub fn put_package(out: &mut [u8], at: usize, n: u32) -> usize
 }
 
 // 1 for an embedded field and for a pointer receiver.
+#[tactic(auto, unfolding(crate::specs::Rows::form_flag))]
 pub fn form_flag(form: u32) -> u32
     ensures { result ≡ form_flag form }
 {
-    if form == 1 {
-        return 1;
-    }
-    if 2 < form {
-        return 1;
-    }
-    0
+    u32::from(form == 1 || 2 < form)
 }
 
 // A tab and the tag of a field, if it has one.
+#[tactic(auto, unfolding(crate::specs::Rows::form_tag))]
 pub fn put_tag(
     out: &mut [u8],
     at: usize,
@@ -137,11 +126,8 @@ pub fn put_tag(
     requires { at + length (form_tag form (bytes_at text.now from count)) ≤ length out.old }
     ensures { Wrote out.old at (form_tag form (bytes_at text.now from count)) out.new result }
 {
-    if 1 < form {
-        return at;
-    }
     let tag = span(text, from, count);
-    if tag.len() == 0 {
+    if 1 < form || tag.is_empty() {
         return at;
     }
     out[at] = 9;

@@ -8,8 +8,7 @@ pub fn new_numbers(twins: &[u32], numbers: &mut [u32], count: u32) -> u32
     ensures { (result ≡ own_below twins.now count) × NewNumbers twins.now count numbers.new }
 {
     let mut left: u32 = 0;
-    let mut t: u32 = 0;
-    while t < count {
+    for t in 0..count {
         let u = twins[t as usize];
         if u == t {
             numbers[t as usize] = left;
@@ -18,7 +17,6 @@ pub fn new_numbers(twins: &[u32], numbers: &mut [u32], count: u32) -> u32
             let n = numbers[u as usize];
             numbers[t as usize] = n;
         }
-        t += 1;
     }
     left
 }

@@ -50,10 +50,8 @@ fn put_remaining(
 {
     let count = type_count(rows);
     let mut i = at;
-    let mut j: u32 = 0;
-    while j < count {
+    for j in 0..count {
         i = put_own(out, i, text, rows, twins, numbers, TypeKey(j));
-        j += 1;
     }
     i
 }

@@ -1,7 +1,7 @@
 -- What is known between rounds: identical types are together, and once a round changes nothing the labels are the least twins. What falls from round to round.
-use mathlib.Core.Path.{◌≡◌, refl, sym, ◌∙◌}
-use mathlib.Core.Bool.{Bool, true, false, cond}
-use Prim.Native.Nat.{ℕ, ◌+◌, ◌<◌, ◌≤◌}
+use mathlib.Core.Path.{◌≡◌, sym, ◌∙◌}
+use mathlib.Core.Bool.{Bool, true, false}
+use Prim.Native.Nat.{ℕ, ◌<◌, ◌≤◌}
 use native.Mathlib.Omega.{arith}
 use lib.ListN.{get_or, replicate}
 use Rattle.objects.specs.Lists.{Bytes}
@@ -13,7 +13,6 @@ use Rattle.rules.specs.Library.{Library}
 use Rattle.rules.proofs.Sounds.{library-sound}
 use Rattle.twins.specs.Labels.{Classed, Coarse, slack, Renewed, Twinned}
 use Rattle.twins.proofs.RoundLaws.{start-coarse, round-coarse, round-grows, settled}
-use Rattle.twins.proofs.SlackLaws.{slack-most}
 
 -- labels that are cleared
 pub cleared-coarse : (T : Table) (labels : Words) (n : ℕ) → labels ≡ replicate n 0 → Coarse T labels
@@ -25,10 +24,6 @@ coarse-same T a b e old = record {
   low = λ t h. omega (arith, e t h, old.low t h);
   kept = λ t u h k i. e t h ∙ old.kept t u h k i ∙ sym (e u k);
 }
-
--- how far from the end rounds are
-abbrev pub ahead : Words → ℕ → Bool → ℕ
-ahead labels n more = slack labels n + cond more 1 0
 
 module _ (text : Bytes) (rows : Words) (lib : Library text rows) (labels fresh after : Words) (n : ℕ) (more : Bool) (e : n ≡ type_count rows) (coarse : Coarse (table_of text rows) labels)
     (classed : Classed (table_of text rows) labels fresh (type_count rows)) (renewed : Renewed labels fresh after n more) where
@@ -53,9 +48,5 @@ module _ (text : Bytes) (rows : Words) (lib : Library text rows) (labels fresh a
   grows : (t : ℕ) → t < n → get_or labels t 0 ≤ get_or fresh t 0
   grows t h = round-grows T labels fresh coarse whole t (omega (arith, sized))
 
-  falls : (again : Bool) → more ≡ again → slack after n + cond again 1 0 < slack labels n + 1
-  falls true f = let less = renewed.moves f grows (λ t h. whole.low t (omega (arith, sized))) in omega arith
-  falls false f = let most = slack-most labels after n (λ t h. omega (arith, renewed.taken t h, grows t h)) in omega arith
-
-  pub next-falls : {was : Bool} → was ≡ true → ahead after n more < ahead labels n was
-  next-falls w = rw w (falls more refl)
+  pub next-falls : more ≡ true → slack after n < slack labels n
+  next-falls f = renewed.moves f grows (λ t h. whole.low t (omega (arith, sized)))

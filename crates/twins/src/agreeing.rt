@@ -23,14 +23,12 @@ fn same_parts(text: &[u8], rows: &[u32], labels: &[u32], x: TypeKey, y: TypeKey)
     let k = type_word(rows, y, 0);
     let first = first_member(rows, x);
     let second = first_member(rows, y);
-    let mut i: u32 = 0;
-    while i < n {
+    for i in 0..n {
         let p = part_in(rows, x, j, first, i);
         let q = part_in(rows, y, k, second, i);
         if labels[p.0 as usize] != labels[q.0 as usize] {
             return false;
         }
-        i += 1;
     }
     true
 }
@@ -41,11 +39,7 @@ pub fn agree(text: &[u8], rows: &[u32], labels: &[u32], x: TypeKey, y: TypeKey) 
     requires x_bound { (x.0 < type_count rows.now) × (y.0 < type_count rows.now) × (type_count rows.now ≤ length labels.now) }
     ensures { result ≡ agrees (table_of text.now rows.now) labels.now x y }
 {
-    if labels[x.0 as usize] != labels[y.0 as usize] {
-        return false;
-    }
-    if mismatch(text, rows, x, y) {
-        return false;
-    }
-    same_parts(text, rows, labels, x, y)
+    labels[x.0 as usize] == labels[y.0 as usize]
+        && !mismatch(text, rows, x, y)
+        && same_parts(text, rows, labels, x, y)
 }

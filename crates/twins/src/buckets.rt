@@ -22,7 +22,7 @@ fn mix(h: u64, x: u32) -> u64
     requires { h < hashes }
     ensures { (result ≡ mixed h x) × (result < hashes) }
 {
-    (h + x as u64) * 1_103_515 % HASHES
+    (h + u64::from(x)) * 1_103_515 % HASHES
 }
 
 // With the labels of the parts of t more.
@@ -35,11 +35,9 @@ fn mix_parts(text: &[u8], rows: &[u32], labels: &[u32], t: TypeKey, before: u64)
     let k = type_word(rows, t, 0);
     let first = first_member(rows, t);
     let mut h = before;
-    let mut i: u32 = 0;
-    while i < n {
+    for i in 0..n {
         let p = part_in(rows, t, k, first, i);
         h = mix(h, labels[p.0 as usize]);
-        i += 1;
     }
     h
 }
@@ -49,10 +47,7 @@ fn first_name(text: &[u8], rows: &[u32], t: TypeKey) -> u64
     requires { Library text.now rows.now × (t.0 < type_count rows.now) }
     ensures { (result ≡ first_name (members_of (kind_at (table_of text.now rows.now) t))) × (result < hashes) }
 {
-    if kind_number(rows, t) < STRUCT {
-        return 0;
-    }
-    if member_total(rows, t) == 0 {
+    if kind_number(rows, t) < STRUCT || member_total(rows, t) == 0 {
         return 0;
     }
     name_hash(text, rows, ObjKey(first_member(rows, t)))

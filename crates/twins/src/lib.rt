@@ -23,16 +23,8 @@ fn renew(labels: &mut [u32], fresh: &[u32], n: usize) -> bool
     ensures renewed { Renewed labels.old fresh.now labels.new n result }
     ensures labels_len_unchanged { length labels.new ≡ length labels.old }
 {
-    let mut changed = false;
-    let mut i: usize = 0;
-    while i < n {
-        let l = fresh[i];
-        if labels[i] != l {
-            changed = true;
-        }
-        labels[i] = l;
-        i += 1;
-    }
+    let changed = labels[..n] != fresh[..n];
+    labels[..n].copy_from_slice(&fresh[..n]);
     changed
 }
 
@@ -44,10 +36,11 @@ fn settle(text: &[u8], rows: &[u32], labels: &mut [u32], fresh: &mut [u32])
 {
     clear(labels);
     let n = type_count(rows) as usize;
-    let mut more = true;
-    while more {
+    loop {
         refine(text, rows, labels, fresh);
-        more = renew(labels, fresh, n);
+        if !renew(labels, fresh, n) {
+            return;
+        }
     }
 }
 

@@ -20,6 +20,7 @@ fn first_fit(text: &[u8], rows: &[u32], labels: &[u32], links: &[u32], from: u32
     ensures { Fit (table_of text.now rows.now) labels.now t.0 result }
 {
     let mut c = from;
+    // what links name, and no range
     while 0 < c {
         let u = c - 1;
         if agree(text, rows, labels, TypeKey(u), t) {
@@ -46,8 +47,7 @@ fn split(
     ensures fresh_len_unchanged { length fresh.new ≡ length fresh.old }
 {
     let n = type_count(rows);
-    let mut t: u32 = 0;
-    while t < n {
+    for t in 0..n {
         let b = bucket(text, rows, labels, TypeKey(t));
         let link = heads[b];
         let u = first_fit(text, rows, labels, links, link, TypeKey(t));
@@ -56,7 +56,6 @@ fn split(
         fresh[t as usize] = l;
         links[t as usize] = link;
         heads[b] = t + 1;
-        t += 1;
     }
 }
 

@@ -162,17 +162,3 @@ module _ (text : Bytes) (rows : Words) (lib : Library text rows) (t : TypeKey) (
 pub none-comparable : (text : Bytes) (rows : Words) (met : List ℕ) → met ≡ replicate (length met) 0 → MetComparable text rows met
 unfolding MetComparable
 none-comparable text rows met e t h z = absurd (z (ap (λ (l : List ℕ). get_or l t 0) e ∙ get_or-zeros (length met) t))
-
--- what the readers give once the row is known to say `con`
-module _ (rows : Words) (t : TypeKey) {ty con : «Type»} (e : ty ≡ type_read rows t) (f : ty ≡ con) where
-  pub may-as : may_compare_in con ≡ may_compare rows t
-  unfolding may_compare
-  may-as = ap may_compare_in (sym f ∙ e)
-
-  pub held-as : held_in con ≡ content_count rows t
-  unfolding content_count
-  held-as = ap held_in (sym f ∙ e)
-
-  pub content-as : (i : ℕ) → content_in rows con i ≡ content_at rows t i
-  unfolding content_at
-  content-as i = ap (λ k. content_in rows k i) (sym f ∙ e)

@@ -6,8 +6,9 @@ use mathlib.Core.Logic.{◌⊎◌, ◌≢◌}
 use Prim.Native.Nat.{ℕ, ◌+◌, ◌*◌, ◌/◌, ◌<◌, ◌≤◌}
 use native.Mathlib.Omega.{arith}
 use native.Mathlib.Nat.{le_trans}
+use lib.Dec.{eqb}
 use lib.ListN.{length, get_or}
-use borrow.Author.Tests.{not-true, not-false}
+use borrow.Author.Tests.{eqb-true, eqb-false, not-true, not-false}
 use Rattle.objects.specs.declared.TypeKey.{TypeKey}
 use Rattle.objects.specs.Bounds.{max_types, pair_words}
 use Rattle.objects.specs.Lists.{Bytes}
@@ -33,6 +34,15 @@ use Rattle.pair_marks.proofs.PairLaws.{pair-in}
 use Rattle.typ.proofs.Marked.{went-parts, taken-same, went-taken}
 use Rattle.typ.proofs.Entering.{went-off, well-open, went-open}
 use Rattle.typ.proofs.Passing.{Passed}
+
+-- ---- keys that are compared
+
+module _ {x y : TypeKey} {r : Bool} (e : r ≡ eqb x.0 y.0) where
+  pub one-key : r ≡ true → x.0 ≡ y.0
+  one-key h = eqb-true x.0 y.0 (sym e ∙ h)
+
+  pub two_keys : r ≡ false → x.0 ≢ y.0
+  two_keys h = eqb-false x.0 y.0 (sym e ∙ h)
 
 -- ---- told apart at once
 

@@ -1,8 +1,8 @@
 -- The types whose classes were not looked into are compared with the type that their label names, round after round; and the answer.
 use mathlib.Core.Path.{◌≡◌, refl, sym, ◌∙◌}
-use mathlib.Core.Bool.{Bool, true, false, not, cond}
+use mathlib.Core.Bool.{Bool, true, false, not}
 use mathlib.Core.List.{List}
-use mathlib.Core.Logic.{◌⊎◌, inl, inr, ◌≢◌}
+use mathlib.Core.Logic.{inl, inr, ◌≢◌}
 use Prim.Native.Nat.{ℕ, zero, suc, ◌+◌, ◌/◌, ◌<◌, ◌≤◌}
 use native.Mathlib.Omega.{arith}
 use native.Mathlib.Nat.{le_trans}
@@ -25,6 +25,7 @@ use Rattle.pair_marks.specs.Marks.{met, meet, unmet}
 use Rattle.pair_marks.specs.Classes.{OneClass, Single}
 use Rattle.pair_marks.specs.Pairs.{pair}
 use Rattle.typ.specs.Compared.{Clean, AllClean, Same, Well, AllMet, AllOne, Agree, Leads, PartsCompared, State, Turn}
+use Rattle.typ.specs.declared.opening.Round.{Round}
 use Rattle.pair_marks.proofs.Bits.{unmet-falls}
 use Rattle.pair_marks.proofs.JoinLaws.{rooted-single}
 use Rattle.typ.proofs.Marked.{agree_less, new-all}
@@ -57,19 +58,19 @@ module _ (T : Table) (x y : TypeKey) where
   -- ---- how a turn ends
 
   module _ (C : Type 0) (l l' c c' : List ℕ) where
-    pub turn-differ : (Same T x y → ⊥) → Turn T C l l' c c' x y 0
-    turn-differ d = record { small = omega arith; if-0 = λ _. d; if-1 = λ z. absurd (omega arith); if-2 = λ z. absurd (omega arith) }
+    pub turn-differ : (Same T x y → ⊥) → Turn T C l l' c c' x y Round.Apart
+    turn-differ d = record { if-apart = λ _. d; if-settled = λ z. absurd (cc); if-opened = λ z. absurd (cc) }
 
-    turn-opened : unmet l' < unmet l → State T l' c' x y → Turn T C l l' c c' x y 2
-    turn-opened h s = record { small = omega arith; if-0 = λ z. absurd (omega arith); if-1 = λ z. absurd (omega arith); if-2 = λ _. (h, s) }
+    turn-opened : unmet l' < unmet l → State T l' c' x y → Turn T C l l' c c' x y Round.Opened
+    turn-opened h s = record { if-apart = λ z. absurd (cc); if-settled = λ z. absurd (cc); if-opened = λ _. (h, s) }
 
-  turn-clean : (C : Type 0) (l c : List ℕ) → C → Turn T C l l c c x y 1
-  turn-clean C l c h = record { small = omega arith; if-0 = λ z. absurd (omega arith); if-1 = λ _. (refl, refl, h); if-2 = λ z. absurd (omega arith) }
+  turn-clean : (C : Type 0) (l c : List ℕ) → C → Turn T C l l c c x y Round.Settled
+  turn-clean C l c h = record { if-apart = λ z. absurd (cc); if-settled = λ _. (refl, refl, h); if-opened = λ z. absurd (cc) }
 
   -- ---- the type numbered i
 
   module _ (l c : List ℕ) (i : ℕ) (s : State T l c x y) (hi : i < size T) where
-    pub skip-own : get_or c i 0 ≡ i → Turn T (Clean l c i) l l c c x y 1
+    pub skip-own : get_or c i 0 ≡ i → Turn T (Clean l c i) l l c c x y Round.Settled
     unfolding Clean
     skip-own e = turn-clean (Clean l c i) l c (inl e)
 
@@ -80,7 +81,7 @@ module _ (T : Table) (x y : TypeKey) where
     abbrev this : TypeKey
     this = type_key i
 
-    pub skip-met : (p : ℕ) → p ≡ pair root this → (r : Bool) → r ≡ met l p → r ≡ true → Turn T (Clean l c i) l l c c x y 1
+    pub skip-met : (p : ℕ) → p ≡ pair root this → (r : Bool) → r ≡ met l p → r ≡ true → Turn T (Clean l c i) l l c c x y Round.Settled
     unfolding Clean
     skip-met p z r e h = turn-clean (Clean l c i) l c (inr (rw z at (sym e ∙ h)))
 
@@ -135,60 +136,56 @@ module _ (T : Table) (x y : TypeKey) where
           leads = λ k. went-all.leads (root-same k) (s.leads k);
         }
 
-        pub open-same : b ≡ true → Turn T (Clean l c i) l l' c c' x y 2
+        pub open-same : b ≡ true → Turn T (Clean l c i) l l' c c' x y Round.Opened
         open-same q = turn-opened (Clean l c i) l l' c c' falls (state q)
 
-        pub open-differ : b ≡ false → Turn T (Clean l c i) l l' c c' x y 0
+        pub open-differ : b ≡ false → Turn T (Clean l c i) l l' c c' x y Round.Apart
         open-differ q = turn-differ (Clean l c i) l l' c c' (λ k. w.differ-if q (root-same k))
 
   -- ---- the types in turn
 
-  -- the first i have been seen to, f as for a turn
-  pub record Turns (l l' c c' : List ℕ) (i f : ℕ) : Type 0 where
+  -- the first i have been seen to, and no pair of one class differs: f says whether one was put off
+  pub record Turns (l l' c c' : List ℕ) (i : ℕ) (f : Round) : Type 0 where
     pub state : State T l' c' x y
-    pub some : f ≡ 0 → ⊥
+    pub some : f ≡ Round.Apart → ⊥
     pub turn : Turn T ((k : ℕ) → k < i → Clean l c k) l l' c c' x y f
 
-  pub turns-none : (l c : List ℕ) → State T l c x y → Turns l l c c 0 1
-  turns-none l c s = record { state = s; some = λ z. absurd (omega arith); turn = turn-clean _ l c (λ k h. absurd (omega arith)) }
+  pub turns-none : (l c : List ℕ) → State T l c x y → Turns l l c c 0 Round.Settled
+  turns-none l c s = record { state = s; some = λ z. absurd (cc); turn = turn-clean _ l c (λ k h. absurd (omega arith)) }
 
-  is-one : (r : ℕ) → r ≤ 2 → (r ≡ 0 → ⊥) → (r ≡ 2 → ⊥) → r ≡ 1
-  is-one r a b c = omega arith
+  module _ (l m c d : List ℕ) (i : ℕ) where
+    fewer : (f : Round) → Turns l m c d i f → unmet m ≤ unmet l
+    fewer Round.Apart t = absurd (t.some refl)
+    fewer Round.Settled t = rw (t.turn.if-settled refl).0 (omega arith)
+    fewer Round.Opened t = omega (arith, (t.turn.if-opened refl).0)
 
-  is-two : (r : ℕ) → r ≤ 2 → (r ≡ 0 → ⊥) → (r ≡ 1 → ⊥) → r ≡ 2
-  is-two r a b c = omega arith
+    module _ (f : Round) (t : Turns l m c d i f) (l' c' : List ℕ) where
+      -- a pair that was put off is met
+      pub turns-opened : (r : Round) → Turn T (Clean m d i) m l' d c' x y r → r ≡ Round.Opened → Turns l l' c c' (i + 1) Round.Opened
+      turns-opened r u e =
+          let o = u.if-opened e in
+          record { state = o.1; some = λ z. absurd (cc); turn = turn-opened _ l l' c c' (omega (arith, fewer f t, o.0)) o.1 }
 
-  module _ (l m c d : List ℕ) (i f : ℕ) (t : Turns l m c d i f) where
-    fewer : unmet m ≤ unmet l
-    fewer =
-        cases (eqb f 1)
-        (λ e. rw (t.turn.if-1 (eqb-true f 1 e)).0 (omega arith))
-        (λ e. omega (arith, (t.turn.if-2 (is-two f t.turn.small t.some (eqb-false f 1 e))).0))
-
-    pub turns_more : (l' c' : List ℕ) (r f' : ℕ) → Turn T (Clean m d i) m l' d c' x y r → (r ≡ 0 → ⊥) → ((r ≡ 2) × (f' ≡ 2)) ⊎ ((r ≡ 2 → ⊥) × (f' ≡ f)) → Turns l l' c c' (i + 1) f'
-    turns_more l' c' r f' u n (inl e) =
-        let o = u.if-2 e.0 in
-        rw e.1 (record { state = o.1; some = λ z. absurd (omega arith); turn = turn-opened _ l l' c c' (omega (arith, fewer, o.0)) o.1 })
-    turns_more l' c' r f' u n (inr e) =
-        let o = u.if-1 (is-one r u.small n e.0) in
-        rw (e.1, o.0, o.1) (record {
-          state = t.state;
-          some = t.some;
-          turn = record {
-            small = t.turn.small;
-            if-0 = t.turn.if-0;
-            if-1 = λ z. let k = t.turn.if-1 z in (k.0, k.1, below_more (λ (j : ℕ). Clean l c j) i k.2 (rw (k.0, k.1) at o.2));
-            if-2 = t.turn.if-2;
-          };
-        })
+      -- there was none
+      pub turns-settled : (r : Round) → Turn T (Clean m d i) m l' d c' x y r → r ≡ Round.Settled → Turns l l' c c' (i + 1) f
+      turns-settled r u e =
+          let o = u.if-settled e in
+          rw (o.0, o.1) (record {
+            state = t.state;
+            some = t.some;
+            turn = record {
+              if-apart = t.turn.if-apart;
+              if-settled = λ z. let k = t.turn.if-settled z in (k.0, k.1, below_more (λ (j : ℕ). Clean l c j) i k.2 (rw (k.0, k.1) at o.2));
+              if-opened = t.turn.if-opened;
+            };
+          })
 
     -- all have been
-    pub turns-all : size T ≤ i → Turn T (AllClean T l c) l m c d x y f
-    turns-all h = record {
-      small = t.turn.small;
-      if-0 = t.turn.if-0;
-      if-1 = λ z. let k = t.turn.if-1 z in (k.0, k.1, λ j lt. k.2 j (le_trans lt h));
-      if-2 = t.turn.if-2;
+    pub turns-all : (f : Round) → Turns l m c d i f → size T ≤ i → Turn T (AllClean T l c) l m c d x y f
+    turns-all f t h = record {
+      if-apart = t.turn.if-apart;
+      if-settled = λ z. let k = t.turn.if-settled z in (k.0, k.1, λ j lt. k.2 j (le_trans lt h));
+      if-opened = t.turn.if-opened;
     }
 
   -- ---- the answers
@@ -220,37 +217,5 @@ module _ (T : Table) (x y : TypeKey) where
               same-trans T (suc n) a r b (same_turn T (suc n) r a (named-same (suc n) met-same a ha)) (rw o (named-same (suc n) met-same b hb)),
         )
 
-    agreed : Sound T → true ≡ identical T x y
+    pub agreed : Sound T → true ≡ identical T x y
     agreed h = sym ((identical-steps T h x y).1 (λ n. (s.same_if n (all-agree n)).0))
-
-  -- the answer of the last round
-  answered : Sound T → (l l' c c' : List ℕ) (r : ℕ) → State T l c x y → Turn T (AllClean T l c) l l' c c' x y r → (r ≡ 2 → ⊥) → eqb r 1 ≡ identical T x y
-  answered h l l' c c' r s t n =
-      cases (eqb r 1)
-      (λ e. e ∙ agreed l c s (t.if-1 (eqb-true r 1 e)).2 h)
-      (λ e. e ∙ differed h (t.if-0 (none t.small (eqb-false r 1 e) n)))
-    where
-      none : r ≤ 2 → (r ≡ 1 → ⊥) → (r ≡ 2 → ⊥) → r ≡ 0
-      none a b c = omega arith
-
-  -- ---- round after round
-
-  -- a round is to follow, or r is the answer
-  pub record Rounds (l c : List ℕ) (r : ℕ) : Type 0 where
-    pub state : r ≡ 2 → State T l c x y
-    pub answer : (r ≡ 2 → ⊥) → eqb r 1 ≡ identical T x y
-
-  pub rounds-none : (l c : List ℕ) → State T l c x y → Rounds l c 2
-  rounds-none l c s = record { state = λ _. s; answer = λ n. absurd (n refl) }
-
-  pub rounds-more : Sound T → (l l' c c' : List ℕ) (r : ℕ) → State T l c x y → Turn T (AllClean T l c) l l' c c' x y r → Rounds l' c' r
-  rounds-more h l l' c c' r s t = record { state = λ e. (t.if-2 e).1; answer = answered h l l' c c' r s t }
-
-  -- what falls: the pairs not met, and nothing is left when no round is to follow
-  unfoldable pub left : List ℕ → ℕ → ℕ
-  left l r = cond (eqb r 2) (suc (unmet l)) 0
-
-  pub left-falls : (l l' c c' : List ℕ) (r r' : ℕ) → r ≡ 2 → Turn T (AllClean T l c) l l' c c' x y r' → left l' r' < left l r
-  unfolding left
-  left-falls l l' c c' r r' e t =
-      rw e (cases (eqb r' 2) (λ q. rw q (omega (arith, (t.if-2 (eqb-true r' 2 q)).0))) (λ q. rw q (omega arith)))

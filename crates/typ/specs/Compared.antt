@@ -7,6 +7,7 @@ use Rattle.objects.specs.Table.{Table, size, type_key}
 use Rattle.rules.specs.Identity.{mismatch}
 use Rattle.rules.specs.StepIdentity.{same_in}
 use Rattle.type_parts.specs.Parts.{pair_of}
+use Rattle.typ.specs.declared.opening.Round.{Round}
 use Rattle.pair_marks.specs.Pairs.{pair}
 use Rattle.pair_marks.specs.Marks.{met, meet, unmet}
 use Rattle.pair_marks.specs.Classes.{OneClass, Rooted, Joined}
@@ -88,12 +89,11 @@ module _ (T : Table) where
     pub same_if : (n : ℕ) → Agree n l c → (same_in T n x y ≡ true) × AllMet (suc n) l
     pub leads : Same x y → (n : ℕ) → Agree n l c
 
-  -- types have been seen to: 0 where a pair of one class differs, and so x and y; 1 where nothing was put off, which is C; 2 where a pair was, and is met now
-  pub record Turn (C : Type 0) (l l' c c' : List ℕ) (x y : TypeKey) (r : ℕ) : Type 0 where
-    pub small : r ≤ 2
-    pub if-0 : r ≡ 0 → Same x y → ⊥
-    pub if-1 : r ≡ 1 → (l' ≡ l) × (c' ≡ c) × C
-    pub if-2 : r ≡ 2 → (unmet l' < unmet l) × State l' c' x y
+  -- types have been seen to: a pair of one class differs, and so x and y; or nothing was put off, which is C; or a pair was, and is met now
+  pub record Turn (C : Type 0) (l l' c c' : List ℕ) (x y : TypeKey) (r : Round) : Type 0 where
+    pub if-apart : r ≡ Round.Apart → Same x y → ⊥
+    pub if-settled : r ≡ Round.Settled → (l' ≡ l) × (c' ≡ c) × C
+    pub if-opened : r ≡ Round.Opened → (unmet l' < unmet l) × State l' c' x y
 
   -- nothing is put off
   abbrev pub AllClean : List ℕ → List ℕ → Type 0

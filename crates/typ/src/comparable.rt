@@ -13,63 +13,43 @@ use pair_marks::marks::clear;
 use type_parts::basic::BasicType;
 
 // Comparable if all is that it contains by value.
+#[tactic(auto, unfolding(crate::specs::Contents::may_compare, crate::specs::Contents::may_compare_in))]
 pub fn may_compare(rows: &[u32], t: TypeKey) -> bool
     ensures { result ≡ may_compare rows.now t }
 {
     let ty = type_of(rows, t);
     match ty {
-        Type::Basic(k) => k != BasicType::UNTYPED_NIL.0,
-        Type::Array(_, _) => true,
-        Type::Slice(_) => false,
-        Type::Pointer(_) => true,
-        Type::Map(_, _) => false,
-        Type::Chan(_, _) => true,
-        Type::Tuple(_, _) => false,
-        Type::Func(_, _, _) => false,
-        Type::Struct(_, _) => true,
-        Type::Iface(_, _) => true,
-        Type::Named(_, _, _) => true,
+        Type::Basic(k) => BasicType(k) != BasicType::UNTYPED_NIL,
+        Type::Array(..) | Type::Pointer(_) | Type::Chan(..) => true,
+        Type::Struct(..) | Type::Iface(..) | Type::Named(..) => true,
+        Type::Slice(_) | Type::Map(..) | Type::Tuple(..) | Type::Func(..) => false,
     }
 }
 
 // How many types it contains by value.
+#[tactic(auto, unfolding(crate::specs::Contents::content_count, crate::specs::Contents::held_in))]
 pub fn content_count(rows: &[u32], t: TypeKey) -> u32
     ensures { result ≡ content_count rows.now t }
 {
     let ty = type_of(rows, t);
     match ty {
-        Type::Basic(_) => 0,
-        Type::Array(_, _) => 1,
-        Type::Slice(_) => 0,
-        Type::Pointer(_) => 0,
-        Type::Map(_, _) => 0,
-        Type::Chan(_, _) => 0,
-        Type::Tuple(_, _) => 0,
-        Type::Func(_, _, _) => 0,
+        Type::Array(..) | Type::Named(..) => 1,
         Type::Struct(_, n) => n,
-        Type::Iface(_, _) => 0,
-        Type::Named(_, _, _) => 1,
+        _ => 0,
     }
 }
 
 // The i-th of them.
+#[tactic(auto, unfolding(crate::specs::Contents::content_at, crate::specs::Contents::content_in))]
 pub fn content_at(rows: &[u32], t: TypeKey, i: u32) -> TypeKey
     requires { first_read rows.now t + i < word_values }
     ensures { result ≡ content_at rows.now t i }
 {
     let ty = type_of(rows, t);
     match ty {
-        Type::Basic(_) => TypeKey(0),
-        Type::Array(_, e) => e,
-        Type::Slice(_) => TypeKey(0),
-        Type::Pointer(_) => TypeKey(0),
-        Type::Map(_, _) => TypeKey(0),
-        Type::Chan(_, _) => TypeKey(0),
-        Type::Tuple(_, _) => TypeKey(0),
-        Type::Func(_, _, _) => TypeKey(0),
+        Type::Array(_, e) | Type::Named(e, ..) => e,
         Type::Struct(first, _) => member_type(rows, ObjKey(first + i)),
-        Type::Iface(_, _) => TypeKey(0),
-        Type::Named(u, _, _) => u,
+        _ => TypeKey(0),
     }
 }
 
@@ -90,13 +70,11 @@ fn comparable_impl(text: &[u8], rows: &[u32], met: &mut [u32], t: TypeKey) -> bo
         return false;
     }
     let n = content_count(rows, t);
-    let mut i: u32 = 0;
-    while i < n {
+    for i in 0..n {
         let e = content_at(rows, t, i);
         if !comparable_impl(text, rows, met, e) {
             return false;
         }
-        i += 1;
     }
     met[at] = 1;
     true

@@ -13,7 +13,7 @@ ghost use Rattle.typ.specs.Depth.{open_levels, deepest, Within, PartsWithin};
 ghost use Rattle.pair_marks.specs.Pairs.{pair};
 ghost use Rattle.typ.specs.Compared.{Entered, Well, Compared, PartsCompared, AtOnce};
 
-use crate::opening::open_round;
+use crate::opening::{Round, open_round};
 use objects::TypeKey;
 use objects::bounds::MAX_TYPES;
 use objects::kinds::IFACE;
@@ -34,10 +34,7 @@ fn known(marks: &[u32], labels: &[u32], x: TypeKey, y: TypeKey) -> bool
     ensures one_class { result ≡ true → OneClass labels.now x y ⊎ (met marks.now (pair x y) ≡ true) }
     ensures y_value { result ≡ false → met marks.now (pair x y) ≡ false }
 {
-    if labels[x.0 as usize] == labels[y.0 as usize] {
-        return true;
-    }
-    is_met(marks, pair_number(x, y))
+    labels[x.0 as usize] == labels[y.0 as usize] || is_met(marks, pair_number(x, y))
 }
 
 // The pair of x and y, of kind k, is met, if it is to be opened now: a pair of interfaces below DEEP levels is put off. Interfaces are joined either way, so that
@@ -84,7 +81,7 @@ pub fn identical_impl(
     ensures compared { Compared (table_of text.now rows.now) marks.old marks.new labels.old labels.new x y result }
     ensures at_once { AtOnce (table_of text.now rows.now) marks.old marks.new labels.old labels.new x y result }
 {
-    if x.0 == y.0 {
+    if x == y {
         return true;
     }
     if known(marks, labels, x, y) {
@@ -123,14 +120,12 @@ pub fn identical_impl_o(
     let k = type_word(rows, y, 0);
     let first = first_member(rows, x);
     let second = first_member(rows, y);
-    let mut i: u32 = 0;
-    while i < n {
+    for i in 0..n {
         let p = part_in(rows, x, j, first, i);
         let q = part_in(rows, y, k, second, i);
         if !identical_impl(text, rows, marks, labels, p, q, level) {
             return false;
         }
-        i += 1;
     }
     true
 }
@@ -139,10 +134,7 @@ pub fn identical_impl_o(
 fn unlike(rows: &[u32], p: TypeKey, q: TypeKey) -> bool
     ensures { result ≡ true → same_numbers rows.now p q ≡ false }
 {
-    if p.0 == q.0 {
-        return false;
-    }
-    !kin(rows, p, q)
+    p != q && !kin(rows, p, q)
 }
 
 // Types x and y, which nothing but their parts tells apart, have parts that are unlike. This looks one level deep and takes no marks, so that none need be
@@ -153,14 +145,12 @@ fn apart(text: &[u8], rows: &[u32], x: TypeKey, y: TypeKey) -> bool
     ensures { result ≡ true → identical (table_of text.now rows.now) x y ≡ false }
 {
     let n = part_count(rows, x);
-    let mut i: u32 = 0;
-    while i < n {
+    for i in 0..n {
         let p = part_at(rows, x, i);
         let q = part_at(rows, y, i);
         if unlike(rows, p, q) {
             return true;
         }
-        i += 1;
     }
     false
 }
@@ -184,11 +174,13 @@ fn decide_by(
     if !identical_impl_o(text, rows, marks, labels, x, y, 0) {
         return false;
     }
-    let mut r: u32 = 2;
-    while r == 2 {
-        r = open_round(text, rows, marks, labels, x, y);
+    loop {
+        match open_round(text, rows, marks, labels, x, y) {
+            Round::Apart => return false,
+            Round::Settled => return true,
+            Round::Opened => {}
+        }
     }
-    r == 1
 }
 
 // The same with labels of its own, one for each type of the table.
@@ -226,13 +218,10 @@ pub fn identical(text: &[u8], rows: &[u32], marks: &mut [u32], x: TypeKey, y: Ty
     ensures value { result ≡ identical (table_of text.now rows.now) x y }
     ensures marks_unchanged { marks.new ≡ marks.old }
 {
-    if x.0 == y.0 {
+    if x == y {
         return true;
     }
-    if mismatch(text, rows, x, y) {
-        return false;
-    }
-    if apart(text, rows, x, y) {
+    if mismatch(text, rows, x, y) || apart(text, rows, x, y) {
         return false;
     }
     let words = pair_words(type_count(rows) as usize);

@@ -12,8 +12,18 @@ use objects::rows::type_count;
 use pair_marks::marks::{is_met, set_met};
 use pair_marks::pairs::pair_number;
 
-// The type numbered i is compared with the one that its label names: 1 where there is nothing to compare, 2 where the two are alike so far, and 0 where they
-// differ, and so x and y.
+// What one type or a round of all types has shown.
+#[derive(Clone, Copy, PartialEq, Eq)]
+pub enum Round {
+    // two types of one class differ, and so x and y
+    Apart,
+    // nothing was put off
+    Settled,
+    // a pair that was put off is met now, and alike so far
+    Opened,
+}
+
+// The type numbered i is compared with the one that its label names.
 fn open_at(
     text: &[u8],
     rows: &[u32],
@@ -22,7 +32,7 @@ fn open_at(
     x: TypeKey,
     y: TypeKey,
     i: u32,
-) -> u32
+) -> Round
     requires library { Library text.now rows.now }
     requires i_bound { (i < type_count rows.now) × (pair_words (type_count rows.now) ≤ length marks.old) }
     requires state { State (table_of text.now rows.now) marks.old labels.old x y }
@@ -30,17 +40,17 @@ fn open_at(
 {
     let root = labels[i as usize];
     if root == i {
-        return 1;
+        return Round::Settled;
     }
     let p = pair_number(TypeKey(root), TypeKey(i));
     if is_met(marks, p) {
-        return 1;
+        return Round::Settled;
     }
     set_met(marks, p);
     if identical_impl_o(text, rows, marks, labels, TypeKey(root), TypeKey(i), 0) {
-        2
+        Round::Opened
     } else {
-        0
+        Round::Apart
     }
 }
 
@@ -52,24 +62,20 @@ pub fn open_round(
     labels: &mut [u32],
     x: TypeKey,
     y: TypeKey,
-) -> u32
+) -> Round
     requires library { Library text.now rows.now }
     requires rows_in_bounds { pair_words (type_count rows.now) ≤ length marks.old }
     requires state { State (table_of text.now rows.now) marks.old labels.old x y }
     ensures { Turn (table_of text.now rows.now) (AllClean (table_of text.now rows.now) marks.old labels.old) marks.old marks.new labels.old labels.new x y result }
 {
     let n = type_count(rows);
-    let mut found: u32 = 1;
-    let mut i: u32 = 0;
-    while i < n {
-        let r = open_at(text, rows, marks, labels, x, y, i);
-        if r == 0 {
-            return 0;
+    let mut found = Round::Settled;
+    for i in 0..n {
+        match open_at(text, rows, marks, labels, x, y, i) {
+            Round::Apart => return Round::Apart,
+            Round::Settled => {}
+            Round::Opened => found = Round::Opened,
         }
-        if r == 2 {
-            found = 2;
-        }
-        i += 1;
     }
     found
 }

@@ -8,7 +8,7 @@ use Prim.Native.Nat.{ℕ, ◌+◌, ◌<◌, ◌≤◌}
 use native.Mathlib.Omega.{arith}
 use lib.Dec.{eqb}
 use lib.ListN.{length, get_or}
-use borrow.Author.Tests.{eqb-true, eqb-false, eq-eqb, not-true}
+use borrow.Author.Tests.{eqb-true, eqb-false, eq-eqb}
 use Rattle.objects.specs.declared.TypeKey.{TypeKey}
 use Rattle.objects.specs.Lists.{Bytes}
 use Rattle.objects.specs.Table.{Table, Member, obj_key, kind_number, members_of, kind_at}
@@ -53,9 +53,9 @@ module _ (text : Bytes) (rows : Words) (x y : TypeKey) (hx : x.0 < type_count ro
       and_i (eq-eqb (number_read rows x) (number_read rows y) (sym (number-read text rows x hx) ∙ k ∙ number-read text rows y hy))
       (eq-eqb (own_read rows x) (own_read rows y) (sym (own-read text rows x hx) ∙ o ∙ own-read text rows y hy))
 
-  pub numbers-mismatch : (r : Bool) → r ≡ same_numbers rows x y → not r ≡ true → true ≡ mismatch (table_of text rows) (pair_of x y)
+  pub numbers-mismatch : (r : Bool) → r ≡ same_numbers rows x y → r ≡ false → true ≡ mismatch (table_of text rows) (pair_of x y)
   numbers-mismatch r e h =
-      told (table_of text rows) x y (λ f. let m = match-common (table_of text rows) x y f in clash (agree-numbers m.0 m.1) (sym e ∙ not-true r h))
+      told (table_of text rows) x y (λ f. let m = match-common (table_of text rows) x y f in clash (agree-numbers m.0 m.1) (sym e ∙ h))
 
 -- ---- members
 

@@ -1,11 +1,11 @@
 -- What is read off a member's row is what the rules say of it: its tag, and whether two members are called alike.
 use mathlib.Core.Path.{◌≡◌, refl, sym, ap, ◌∙◌}
-use mathlib.Core.Bool.{Bool, true, false, cond, not, ◌&&◌, beq}
+use mathlib.Core.Bool.{Bool, true, false, cond, ◌&&◌, beq}
 use Prim.Native.Nat.{ℕ, ◌+◌, ◌<◌, ◌≤◌}
 use native.Mathlib.Omega.{arith}
 use lib.Dec.{ltb}
 use lib.ListN.{take, drop}
-use borrow.Author.Tests.{lt-ltb, not-true, not-false}
+use borrow.Author.Tests.{lt-ltb}
 use Rattle.objects.specs.declared.TypeKey.{TypeKey}
 use Rattle.objects.specs.declared.ObjKey.{ObjKey}
 use Rattle.objects.specs.Lists.{Bytes}
@@ -60,18 +60,18 @@ module _ (text : Bytes) (rows : Words) where
         ≡ same_member (table_of text rows) (member_at text rows m) (member_at text rows n) && beq (embedded_read rows m) (embedded_read rows n) && same_bytes (tag_at m) (tag_at n)
     alike_is = rw (embedded-meant text rows m, embedded-meant text rows n, tag_read text rows m, tag_read text rows n)
 
-    pub alike-other : (r : Bool) → r ≡ same_member (table_of text rows) (member_at text rows m) (member_at text rows n) → not r ≡ true
+    pub alike-other : (r : Bool) → r ≡ same_member (table_of text rows) (member_at text rows m) (member_at text rows n) → r ≡ false
         → false ≡ alike_member (table_of text rows) (member_at text rows m) (member_at text rows n)
-    alike-other r e z = sym (alike_is ∙ rw (sym e ∙ not-true r z))
+    alike-other r e z = sym (alike_is ∙ rw (sym e ∙ z))
 
-    pub alike-embedded : (r a b : Bool) → r ≡ same_member (table_of text rows) (member_at text rows m) (member_at text rows n) → not r ≡ false
-        → a ≡ embedded_read rows m → b ≡ embedded_read rows n → not (beq a b) ≡ true → false ≡ alike_member (table_of text rows) (member_at text rows m) (member_at text rows n)
-    alike-embedded r a b e z p q d = sym (alike_is ∙ rw (sym e ∙ not-false r z, ← p, ← q, not-true (beq a b) d))
+    pub alike-embedded : (r a b : Bool) → r ≡ same_member (table_of text rows) (member_at text rows m) (member_at text rows n) → r ≡ true
+        → a ≡ embedded_read rows m → b ≡ embedded_read rows n → beq a b ≡ false → false ≡ alike_member (table_of text rows) (member_at text rows m) (member_at text rows n)
+    alike-embedded r a b e z p q d = sym (alike_is ∙ rw (sym e ∙ z, ← p, ← q, d))
 
-    pub alike-tags : (r a b s : Bool) → r ≡ same_member (table_of text rows) (member_at text rows m) (member_at text rows n) → not r ≡ false
-        → a ≡ embedded_read rows m → b ≡ embedded_read rows n → not (beq a b) ≡ false → s ≡ same_bytes (tag_at m) (tag_at n)
+    pub alike-tags : (r a b s : Bool) → r ≡ same_member (table_of text rows) (member_at text rows m) (member_at text rows n) → r ≡ true
+        → a ≡ embedded_read rows m → b ≡ embedded_read rows n → beq a b ≡ true → s ≡ same_bytes (tag_at m) (tag_at n)
         → s ≡ alike_member (table_of text rows) (member_at text rows m) (member_at text rows n)
-    alike-tags r a b s e z p q d f = f ∙ sym (alike_is ∙ rw (sym e ∙ not-false r z, ← p, ← q, not-false (beq a b) d))
+    alike-tags r a b s e z p q d f = f ∙ sym (alike_is ∙ rw (sym e ∙ z, ← p, ← q, d))
 
 -- the i-th member of a struct or an interface has a package of the table, or none
 pub member-packaged : (text : Bytes) (rows : Words) → Library text rows → (x : TypeKey) → x.0 < type_count rows → (k i a : ℕ) → k ≡ number_read rows x → 8 ≤ k → i < part_count rows x → a ≡ first_read rows x

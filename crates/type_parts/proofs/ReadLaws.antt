@@ -93,10 +93,6 @@ module _ (rows : Words) (t : TypeKey) {ty con : «Type»} (e : ty ≡ type_read 
   unfolding own_read
   own-as = ap (own_in t) (sym f ∙ e)
 
-  pub count-as : count_in con ≡ part_count rows t
-  unfolding part_count
-  count-as = ap count_in (sym f ∙ e)
-
   pub part-as : (i : ℕ) → part_in rows con i ≡ part_at rows t i
   unfolding part_at
   part-as i = ap (λ k. part_in rows k i) (sym f ∙ e)

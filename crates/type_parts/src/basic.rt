@@ -3,7 +3,7 @@ ghost use Rattle.std.specs.Prelude.{◌≡◌};
 ghost use Rattle.rules.specs.Identity.{real_type};
 
 // "`T basic k` (0 to 27, the order of `BasicType`)"
-#[derive(Clone, Copy)]
+#[derive(Clone, Copy, PartialEq, Eq)]
 pub struct BasicType(pub u32);
 
 impl BasicType {
@@ -67,10 +67,10 @@ impl BasicType {
     pub fn real_type(self) -> BasicType
         ensures { result.0 ≡ real_type self.0 }
     {
-        if self.0 == BasicType::BYTE.0 {
+        if self == BasicType::BYTE {
             return BasicType::UINT8;
         }
-        if self.0 == BasicType::RUNE.0 {
+        if self == BasicType::RUNE {
             return BasicType::INT32;
         }
         self

@@ -2,9 +2,10 @@
 // apart whatever their parts are.
 ghost use Rattle.std.specs.Prelude.{◌≡◌, true, ◌⊎◌, ◌+◌, ◌<◌};
 ghost use Rattle.objects.specs.Bounds.{word_values};
-ghost use Rattle.objects.specs.Rows.{type_word, type_count, table_of, member_at};
+ghost use Rattle.objects.specs.Rows.{bytes_at, type_word, member_word, type_count, table_of, member_at};
 ghost use Rattle.objects.specs.Types.{first_read};
 ghost use Rattle.objects.specs.Table.{dir_number, has_package, members_of, kind_at};
+ghost use Rattle.text.specs.Bytes.{same_bytes};
 ghost use Rattle.rules.specs.Sound.{Ordered};
 ghost use Rattle.rules.specs.Identity.{alike_member, alike, mismatch};
 ghost use Rattle.rules.specs.Library.{Library};
@@ -26,40 +27,30 @@ use text::compare::same_part;
 fn dir_number(d: Dir) -> u32
     ensures { result ≡ dir_number d }
 {
-    match d {
-        Dir::Both => 0,
-        Dir::Send => 1,
-        Dir::Receive => 2,
-    }
+    d as u32
 }
 
 // Struct and iface: a part is a member's type.
 fn has_members(kind: u32) -> bool
     ensures { result ≡ true → (kind ≡ 8) ⊎ (kind ≡ 9) }
 {
-    if kind == STRUCT {
-        return true;
-    }
-    kind == IFACE
+    kind == STRUCT || kind == IFACE
 }
 
 // The number that belongs to a type beside its kind, its parts and its members, whatever the kind is.
+#[tactic(auto, unfolding(crate::specs::Parts::own_read, crate::specs::Parts::own_in))]
 fn own_of(rows: &[u32], t: TypeKey) -> u32
     ensures { result ≡ own_read rows.now t }
 {
     let ty = type_of(rows, t);
     match ty {
         Type::Basic(k) => BasicType(k).real_type().0,
-        Type::Array(n, _) => n,
-        Type::Slice(_) => 0,
-        Type::Pointer(_) => 0,
-        Type::Map(_, _) => 0,
+        Type::Slice(_) | Type::Pointer(_) | Type::Map(..) => 0,
         Type::Chan(d, _) => dir_number(d),
-        Type::Tuple(_, n) => n,
-        Type::Func(v, _, _) => if v { 1 } else { 0 },
-        Type::Struct(_, n) => n,
-        Type::Iface(_, n) => n,
-        Type::Named(_, _, _) => t.0,
+        Type::Func(v, ..) => u32::from(v),
+        Type::Array(n, _) => n,
+        Type::Tuple(_, n) | Type::Struct(_, n) | Type::Iface(_, n) => n,
+        Type::Named(..) => t.0,
     }
 }
 
@@ -68,53 +59,39 @@ pub fn own_number(rows: &[u32], t: TypeKey) -> u32
     ensures { result ≡ own_read rows.now t }
 {
     let k = type_word(rows, t, 0);
-    if has_members(k) {
-        return member_total(rows, t);
-    }
-    if k == TUPLE {
+    if has_members(k) || k == TUPLE {
         return member_total(rows, t);
     }
     own_of(rows, t)
 }
 
 // How many types it is made of.
+#[tactic(auto, unfolding(crate::specs::Parts::part_count, crate::specs::Parts::count_in))]
 pub fn part_count(rows: &[u32], t: TypeKey) -> u32
     ensures { result ≡ part_count rows.now t }
 {
     let ty = type_of(rows, t);
     match ty {
-        Type::Basic(_) => 0,
-        Type::Array(_, _) => 1,
-        Type::Slice(_) => 1,
-        Type::Pointer(_) => 1,
-        Type::Map(_, _) => 2,
-        Type::Chan(_, _) => 1,
-        Type::Tuple(_, n) => n,
-        Type::Func(_, _, _) => 2,
-        Type::Struct(_, n) => n,
-        Type::Iface(_, n) => n,
-        Type::Named(_, _, _) => 0,
+        Type::Basic(_) | Type::Named(..) => 0,
+        Type::Array(..) | Type::Slice(_) | Type::Pointer(_) | Type::Chan(..) => 1,
+        Type::Map(..) | Type::Func(..) => 2,
+        Type::Tuple(_, n) | Type::Struct(_, n) | Type::Iface(_, n) => n,
     }
 }
 
 // The i-th of them, whatever the kind is.
+#[tactic(auto, unfolding(crate::specs::Parts::part_at, crate::specs::Parts::part_in))]
 fn part_of(rows: &[u32], t: TypeKey, i: u32) -> TypeKey
     requires { first_read rows.now t + i < word_values }
     ensures { result ≡ part_at rows.now t i }
 {
     let ty = type_of(rows, t);
     match ty {
-        Type::Basic(_) => TypeKey(0),
-        Type::Array(_, e) => e,
-        Type::Slice(e) => e,
-        Type::Pointer(e) => e,
-        Type::Map(k, e) => if i == 0 { k } else { e },
-        Type::Chan(_, e) => e,
+        Type::Basic(_) | Type::Named(..) => TypeKey(0),
+        Type::Array(_, e) | Type::Slice(e) | Type::Pointer(e) | Type::Chan(_, e) => e,
+        Type::Map(a, b) | Type::Func(_, a, b) => if i == 0 { a } else { b },
         Type::Tuple(first, _) => element(rows, first + i),
-        Type::Func(_, p, r) => if i == 0 { p } else { r },
-        Type::Struct(first, _) => member_type(rows, ObjKey(first + i)),
-        Type::Iface(first, _) => member_type(rows, ObjKey(first + i)),
-        Type::Named(_, _, _) => TypeKey(0),
+        Type::Struct(first, _) | Type::Iface(first, _) => member_type(rows, ObjKey(first + i)),
     }
 }
 
@@ -167,22 +144,25 @@ fn tag_length(rows: &[u32], m: ObjKey) -> u32
     }
 }
 
-// One identity, both embedded or neither, one tag: "tags count".
-fn alike(text: &[u8], rows: &[u32], m: ObjKey, n: ObjKey) -> bool
-    requires { (has_package (table_of text.now rows.now) (member_at text.now rows.now m).pkg ≡ true) × (has_package (table_of text.now rows.now) (member_at text.now rows.now n).pkg ≡ true) × Ordered (table_of text.now rows.now) }
-    ensures { result ≡ alike_member (table_of text.now rows.now) (member_at text.now rows.now m) (member_at text.now rows.now n) }
+// "tags count"
+fn same_tag(text: &[u8], rows: &[u32], m: ObjKey, n: ObjKey) -> bool
+    ensures { result ≡ same_bytes (bytes_at text.now (member_word rows.now m 5) (tag_length rows.now m)) (bytes_at text.now (member_word rows.now n 5) (tag_length rows.now n)) }
 {
-    if !same_member(text, rows, m, n) {
-        return false;
-    }
-    if is_embedded(rows, m) != is_embedded(rows, n) {
-        return false;
-    }
     let ma = member_word(rows, m, 5);
     let ml = tag_length(rows, m);
     let na = member_word(rows, n, 5);
     let nl = tag_length(rows, n);
     same_part(text, ma as usize, ml as usize, na as usize, nl as usize)
+}
+
+// One identity, both embedded or neither, one tag.
+fn alike(text: &[u8], rows: &[u32], m: ObjKey, n: ObjKey) -> bool
+    requires { (has_package (table_of text.now rows.now) (member_at text.now rows.now m).pkg ≡ true) × (has_package (table_of text.now rows.now) (member_at text.now rows.now n).pkg ≡ true) × Ordered (table_of text.now rows.now) }
+    ensures { result ≡ alike_member (table_of text.now rows.now) (member_at text.now rows.now m) (member_at text.now rows.now n) }
+{
+    same_member(text, rows, m, n)
+        && is_embedded(rows, m) == is_embedded(rows, n)
+        && same_tag(text, rows, m, n)
 }
 
 // ---- two types
@@ -191,10 +171,7 @@ fn alike(text: &[u8], rows: &[u32], m: ObjKey, n: ObjKey) -> bool
 pub fn kin(rows: &[u32], x: TypeKey, y: TypeKey) -> bool
     ensures { result ≡ same_numbers rows.now x y }
 {
-    if kind_number(rows, x) != kind_number(rows, y) {
-        return false;
-    }
-    own_number(rows, x) == own_number(rows, y)
+    kind_number(rows, x) == kind_number(rows, y) && own_number(rows, x) == own_number(rows, y)
 }
 
 // The members of x and y at the same places are called alike. Their types are not looked at.
@@ -209,13 +186,10 @@ fn called_alike(text: &[u8], rows: &[u32], x: TypeKey, y: TypeKey) -> bool
     let n = part_count(rows, x);
     let first = first_member(rows, x);
     let second = first_member(rows, y);
-    let mut left = n;
-    while 0 < left {
-        let i = n - left;
+    for i in 0..n {
         if !alike(text, rows, ObjKey(first + i), ObjKey(second + i)) {
             return false;
         }
-        left -= 1;
     }
     true
 }
@@ -227,8 +201,5 @@ pub fn mismatch(text: &[u8], rows: &[u32], x: TypeKey, y: TypeKey) -> bool
     requires x_bound { (x.0 < type_count rows.now) × (y.0 < type_count rows.now) }
     ensures { result ≡ mismatch (table_of text.now rows.now) (pair_of x y) }
 {
-    if !kin(rows, x, y) {
-        return true;
-    }
-    !called_alike(text, rows, x, y)
+    !(kin(rows, x, y) && called_alike(text, rows, x, y))
 }

@@ -1,7 +1,6 @@
 -- `put_members` meets its contract.
 -- the line of member i
 use mathlib.Core.Path.{◌∙◌}
-use native.Mathlib.Omega.{arith}
 use Rattle.print.proofs.WrittenLaws.{wrote-length}
 use Rattle.table_text.proofs.Loops.{next-room, next-wrote, next_place, all-wrote}
 use Rattle.table_text.proofs.put_members.Invariants.{lines}
@@ -11,7 +10,7 @@ pub put_member_line-i-requires : goal.put_member_line-i-requires
 put_member_line-i-requires c =
     next-room (lines c.args.numbers.now c.args.text.now c.args.rows.now) c.args.first c.args.count
     c.loop-j.j c.loop-j-test.true c.args.out.now _ _ c.loop-j.out
-    c.loop-j.invariant.1 c.requires.1 c.loop-j.invariant.3
+    c.loop-j.invariant.1 c.requires.1 c.loop-j.invariant.2
 
 pub loop-j-preserved : goal.loop-j-preserved
 loop-j-preserved c = (
@@ -20,12 +19,11 @@ loop-j-preserved c = (
       c.loop-j.j c.loop-j-test.true c.put_member_line-i.ensures,
   next_place (lines c.args.numbers.now c.args.text.now c.args.rows.now) c.args.first c.args.count
       c.loop-j.j c.loop-j-test.true _ c.put_member_line-i.ensures c.loop-j.invariant.1,
-  omega arith,
-  wrote-length c.put_member_line-i.ensures ∙ c.loop-j.invariant.3,
+  wrote-length c.put_member_line-i.ensures ∙ c.loop-j.invariant.2,
 )
 
 pub shape_of-out : goal.shape_of-out
-shape_of-out c = c.loop-j.invariant.3
+shape_of-out c = c.loop-j.invariant.2
 
 pub returns : goal.returns
 returns c =

@@ -1,7 +1,6 @@
 -- `put_packages` meets its contract.
 -- the lines of number i
 use mathlib.Core.Path.{◌∙◌}
-use native.Mathlib.Omega.{arith}
 use Rattle.objects.specs.Rows.{package_count}
 use Rattle.print.proofs.WrittenLaws.{wrote-length}
 use Rattle.table_text.proofs.Loops.{zero_room, zero-wrote, zero-place, zero-all}
@@ -12,7 +11,7 @@ pub put_package_line-i-requires : goal.put_package_line-i-requires
 put_package_line-i-requires c =
     zero_room (lines c.args.text.now c.args.rows.now) (package_count c.args.rows.now) c.package_count-count.ensures
     c.loop-j.j c.loop-j-test.true c.args.out.now _ _ c.loop-j.out
-    c.loop-j.invariant.1 c.requires c.loop-j.invariant.3
+    c.loop-j.invariant.1 c.requires c.loop-j.invariant.2
 
 pub loop-j-preserved : goal.loop-j-preserved
 loop-j-preserved c = (
@@ -22,12 +21,11 @@ loop-j-preserved c = (
   zero-place (lines c.args.text.now c.args.rows.now) (package_count c.args.rows.now)
       c.package_count-count.ensures c.loop-j.j c.loop-j-test.true _ c.put_package_line-i.ensures
       c.loop-j.invariant.1,
-  omega arith,
-  wrote-length c.put_package_line-i.ensures ∙ c.loop-j.invariant.3,
+  wrote-length c.put_package_line-i.ensures ∙ c.loop-j.invariant.2,
 )
 
 pub shape_of-out : goal.shape_of-out
-shape_of-out c = c.loop-j.invariant.3
+shape_of-out c = c.loop-j.invariant.2
 
 pub returns : goal.returns
 returns c =

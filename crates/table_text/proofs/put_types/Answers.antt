@@ -1,7 +1,6 @@
 -- `put_types` meets its contract.
 -- the lines of number i
 use mathlib.Core.Path.{◌∙◌}
-use native.Mathlib.Omega.{arith}
 use Rattle.objects.specs.Table.{type_key}
 use Rattle.objects.specs.Rows.{type_count}
 use Rattle.print.proofs.WrittenLaws.{wrote-length}
@@ -14,7 +13,7 @@ put_type-i-requires c = (
   c.requires.0 (type_key c.loop-j.j) (less_as c.type_count-count.ensures c.loop-j-test.true),
   zero_room (lines c.args.numbers.now c.args.text.now c.args.rows.now) (type_count c.args.rows.now)
       c.type_count-count.ensures c.loop-j.j c.loop-j-test.true c.args.out.now _ _
-      c.loop-j.out c.loop-j.invariant.1 c.requires.1 c.loop-j.invariant.3,
+      c.loop-j.out c.loop-j.invariant.1 c.requires.1 c.loop-j.invariant.2,
 )
 
 pub loop-j-preserved : goal.loop-j-preserved
@@ -25,12 +24,11 @@ loop-j-preserved c = (
   zero-place (lines c.args.numbers.now c.args.text.now c.args.rows.now) (type_count c.args.rows.now)
       c.type_count-count.ensures c.loop-j.j c.loop-j-test.true _ c.put_type-i.ensures
       c.loop-j.invariant.1,
-  omega arith,
-  wrote-length c.put_type-i.ensures ∙ c.loop-j.invariant.3,
+  wrote-length c.put_type-i.ensures ∙ c.loop-j.invariant.2,
 )
 
 pub shape_of-out : goal.shape_of-out
-shape_of-out c = c.loop-j.invariant.3
+shape_of-out c = c.loop-j.invariant.2
 
 pub returns : goal.returns
 returns c =

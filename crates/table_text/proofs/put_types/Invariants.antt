@@ -1,7 +1,7 @@
 -- `put_types` meets its contract.
 -- the lines of number i
 use mathlib.Core.Path.{◌≡◌}
-use Prim.Native.Nat.{ℕ, ◌+◌, ◌-◌, ◌≤◌}
+use Prim.Native.Nat.{ℕ, ◌+◌}
 use lib.ListN.{length}
 use Rattle.objects.specs.Lists.{Bytes}
 use Rattle.objects.specs.Table.{type_key}
@@ -17,7 +17,4 @@ lines numbers text rows i = type_lines_text numbers text rows (type_key i)
 abbrev pub invariant-loop-j : goal.invariant-loop-j
 invariant-loop-j l =
     (written l.initial.out l.at (left_from (lines l.numbers l.text l.rows) 0 (type_count l.rows) 0) ≡ written l.out l.i (left_from (lines l.numbers l.text l.rows) 0 (type_count l.rows) l.j))
-    × (l.i + length (left_from (lines l.numbers l.text l.rows) 0 (type_count l.rows) l.j) ≡ l.at + length (left_from (lines l.numbers l.text l.rows) 0 (type_count l.rows) 0)) × (l.j ≤ l.count) × (length l.out ≡ length l.initial.out)
-
-abbrev pub decreases-loop-j : goal.decreases-loop-j
-decreases-loop-j l = l.count - l.j
+    × (l.i + length (left_from (lines l.numbers l.text l.rows) 0 (type_count l.rows) l.j) ≡ l.at + length (left_from (lines l.numbers l.text l.rows) 0 (type_count l.rows) 0)) × (length l.out ≡ length l.initial.out)

@@ -1,36 +1,34 @@
--- `settle` meets its contract. The invariant: identical types have one label, and once no round changes a label they are the least twins.
+-- `settle` meets its contract.
 use mathlib.Core.Path.{refl, ◌∙◌}
 use native.Mathlib.Omega.{arith}
 use lib.ListN.{length}
-use Rattle.objects.proofs.ListLaws.{clash}
 use Rattle.twins.proofs.SettleLaws.{cleared-coarse, next-coarse, next-twinned, next-falls}
 use Rattle.twins.proofs.settle.Goals as goal
 
-pub loop-more-init : goal.loop-more-init
-loop-more-init c =
-    (refl, refl, cleared-coarse _ _ (length c.args.labels.now) c.clear.ensures, λ f. clash refl f)
+pub loop-n-init : goal.loop-n-init
+loop-n-init c = (refl, refl, cleared-coarse _ _ (length c.args.labels.now) c.clear.ensures)
 
 pub refine-requires : goal.refine-requires
 refine-requires c =
-    record { library = c.requires.library; rows_in_bounds = (omega (arith, c.requires.rows_in_bounds.0, c.clear.auto.marks, c.loop-more.invariant.0), omega (arith, c.requires.rows_in_bounds.1, c.loop-more.invariant.1)) }
+    record { library = c.requires.library; rows_in_bounds = (omega (arith, c.requires.rows_in_bounds.0, c.clear.auto.marks, c.loop-n.invariant.0), omega (arith, c.requires.rows_in_bounds.1, c.loop-n.invariant.1)) }
 
-pub renew-more-requires : goal.renew-more-requires
-renew-more-requires c = (
-  omega (arith, c.type_count-n.ensures, c.requires.rows_in_bounds.0, c.clear.auto.marks, c.loop-more.invariant.0),
-  omega (arith, c.type_count-n.ensures, c.requires.rows_in_bounds.1, c.refine.ensures.fresh_len_unchanged, c.loop-more.invariant.1),
+pub renew-requires : goal.renew-requires
+renew-requires c = (
+  omega (arith, c.type_count-n.ensures, c.requires.rows_in_bounds.0, c.clear.auto.marks, c.loop-n.invariant.0),
+  omega (arith, c.type_count-n.ensures, c.requires.rows_in_bounds.1, c.refine.ensures.fresh_len_unchanged, c.loop-n.invariant.1),
 )
 
-pub loop-more-smaller : goal.loop-more-smaller
-loop-more-smaller c =
-    next-falls _ _ c.requires.library _ _ _ _ _ c.type_count-n.ensures c.loop-more.invariant.2 c.refine.ensures.classed c.renew-more.ensures.renewed c.loop-more-test.true
+pub loop-n-smaller : goal.loop-n-smaller
+loop-n-smaller c =
+    next-falls _ _ c.requires.library _ _ _ _ _ c.type_count-n.ensures c.loop-n.invariant.2 c.refine.ensures.classed c.renew.ensures.renewed c.if-not-renew.false
 
-pub loop-more-preserved : goal.loop-more-preserved
-loop-more-preserved c = (
-  c.renew-more.ensures.labels_len_unchanged ∙ c.loop-more.invariant.0,
-  c.refine.ensures.fresh_len_unchanged ∙ c.loop-more.invariant.1,
-  next-coarse _ _ c.requires.library _ _ _ _ _ c.type_count-n.ensures c.loop-more.invariant.2 c.refine.ensures.classed c.renew-more.ensures.renewed,
-  next-twinned _ _ c.requires.library _ _ _ _ _ c.type_count-n.ensures c.loop-more.invariant.2 c.refine.ensures.classed c.renew-more.ensures.renewed,
+pub loop-n-preserved : goal.loop-n-preserved
+loop-n-preserved c = (
+  c.renew.ensures.labels_len_unchanged ∙ c.loop-n.invariant.0,
+  c.refine.ensures.fresh_len_unchanged ∙ c.loop-n.invariant.1,
+  next-coarse _ _ c.requires.library _ _ _ _ _ c.type_count-n.ensures c.loop-n.invariant.2 c.refine.ensures.classed c.renew.ensures.renewed,
 )
 
-pub returns : goal.returns
-returns c = c.loop-more.invariant.3 c.loop-more-test.false
+pub returns-then-not-renew : goal.returns-then-not-renew
+returns-then-not-renew c =
+    next-twinned _ _ c.requires.library _ _ _ _ _ c.type_count-n.ensures c.loop-n.invariant.2 c.refine.ensures.classed c.renew.ensures.renewed c.if-not-renew.true

@@ -32,8 +32,7 @@ loop-j-preserved c = (
         c.loop-j-test.true
         (c.carried-n.ensures ∙ ap (λ (e : TypeKey). carried_number c.args.numbers.now e.0) c.element-e.ensures),
   ),
-  omega arith,
-  wrote-length c.put_field-i.ensures ∙ c.loop-j.invariant.3,
+  wrote-length c.put_field-i.ensures ∙ c.loop-j.invariant.2,
 )
 
 pub bounds-out-i : goal.bounds-out-i
@@ -53,7 +52,7 @@ overflow_add-result c =
     )
 
 pub shape_of-out : goal.shape_of-out
-shape_of-out c = simp length-set c.loop-j.invariant.3
+shape_of-out c = simp length-set c.loop-j.invariant.2
 
 pub returns : goal.returns
 returns c =

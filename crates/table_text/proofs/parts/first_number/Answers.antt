@@ -1,23 +1,13 @@
 -- `first_number` meets its contract.
+use mathlib.Core.Path.{◌≡◌, ◌∙◌}
 use native.Mathlib.Omega.{arith}
-use Rattle.table_text.proofs.Writing.{first-low, first-high, first-yes, first-no, first-plain, first-carried}
+use native.Mathlib.Decide.{dec_lt}
+use Rattle.table_text.proofs.Writing.{first-low, first-high}
 use Rattle.table_text.proofs.parts.first_number.Goals as goal
 
-pub returns-then-a-lt2 : goal.returns-then-a-lt2
-returns-then-a-lt2 c = first-low _ _ _ c.if-k-eq-CHAN.true c.if-a-lt2.true
-
-pub returns-then-k-eq-CHAN : goal.returns-then-k-eq-CHAN
-returns-then-k-eq-CHAN c = first-high _ _ _ c.if-k-eq-CHAN.true c.if-a-lt2.false
-
-pub returns-then-a-eq1 : goal.returns-then-a-eq1
-returns-then-a-eq1 c = first-yes _ _ _ c.if-k-eq-CHAN.false c.if-k-eq-FUNC.true c.if-a-eq1.true
-
-pub returns-then-k-eq-FUNC : goal.returns-then-k-eq-FUNC
-returns-then-k-eq-FUNC c = first-no _ _ _ c.if-k-eq-CHAN.false c.if-k-eq-FUNC.true c.if-a-eq1.false
-
-pub returns-then-k-lt-SLICE : goal.returns-then-k-lt-SLICE
-returns-then-k-lt-SLICE c = first-plain _ _ _ c.if-k-eq-CHAN.false c.if-k-eq-FUNC.false (omega arith)
-
-pub returns : goal.returns
-returns c =
-    first-carried _ _ _ c.if-k-eq-CHAN.false c.if-k-eq-FUNC.false c.if-k-lt-SLICE.false c.carried.ensures
+pub returns-in-5 : goal.returns-in-5
+returns-in-5 c =
+    elim (dec_lt c.args.a 2) [
+      | yes l ↦ let e : c.min.result ≡ c.args.a = omega arith in e ∙ first-low _ _ _ c.in-5.is l
+      | no l ↦ let e : c.min.result ≡ 2 = omega arith in e ∙ first-high _ _ _ c.in-5.is (omega arith)
+    ]

@@ -9,11 +9,11 @@ use Rattle.tidy.proofs.numbers.new_numbers.Goals as goal
 use Rattle.tidy.proofs.numbers.new_numbers.Goals.{then-u-t, else-u-t}
 
 pub loop-t-init : goal.loop-t-init
-loop-t-init c = (omega arith, refl, unfold own_below in refl, λ k h. absurd (omega arith))
+loop-t-init c = (refl, unfold own_below in refl, λ k h. absurd (omega arith))
 
 pub overflow_add-left : goal.overflow_add-left
 overflow_add-left c =
-    omega (arith, own-few c.args.twins.now c.loop-t.t, c.loop-t.invariant.2, c.loop-t-test.true)
+    omega (arith, own-few c.args.twins.now c.loop-t.t, c.loop-t.invariant.1, c.loop-t-test.true)
 
 pub overflow_cast-n : goal.overflow_cast-n
 overflow_cast-n c =
@@ -25,27 +25,25 @@ offset_bounds-numbers-u c =
 
 pub bounds-numbers-u : goal.bounds-numbers-u
 bounds-numbers-u c =
-    omega (arith, (c.requires.2 c.loop-t.t c.loop-t-test.true).0, c.loop-t-test.true, c.loop-t.invariant.1)
+    omega (arith, (c.requires.2 c.loop-t.t c.loop-t-test.true).0, c.loop-t-test.true, c.loop-t.invariant.0)
 
 pub loop-t-preserved : goal.loop-t-preserved
 loop-t-preserved c =
     let lower = c.requires.2 c.loop-t.t c.loop-t-test.true in
     elim c.if-u-t.branch [
       | then-u-t w ↦ (
-        omega arith,
         ap length w.numbers-is ∙ simp length-set (omega arith),
-        w.left-is ∙ rw c.loop-t.invariant.2 (sym (own-more c.args.twins.now c.loop-t.t w.if-u-t.true)),
-        rw w.numbers-is (numbers-own c.args.twins.now c.loop-t.numbers c.loop-t.t _ (omega arith) c.loop-t.invariant.3 w.if-u-t.true c.loop-t.invariant.2),
+        w.left-is ∙ rw c.loop-t.invariant.1 (sym (own-more c.args.twins.now c.loop-t.t w.if-u-t.true)),
+        rw w.numbers-is (numbers-own c.args.twins.now c.loop-t.numbers c.loop-t.t _ (omega arith) c.loop-t.invariant.2 w.if-u-t.true c.loop-t.invariant.1),
       )
       | else-u-t w ↦ (
-        omega arith,
         ap length w.numbers-is ∙ simp length-set (omega arith),
-        w.left-is ∙ c.loop-t.invariant.2 ∙ sym (own_same c.args.twins.now c.loop-t.t w.if-u-t.false),
-        rw w.numbers-is (numbers-other c.args.twins.now c.loop-t.numbers c.loop-t.t _ (omega arith) c.loop-t.invariant.3 (less_other lower.0 w.if-u-t.false) lower.1 refl),
+        w.left-is ∙ c.loop-t.invariant.1 ∙ sym (own_same c.args.twins.now c.loop-t.t w.if-u-t.false),
+        rw w.numbers-is (numbers-other c.args.twins.now c.loop-t.numbers c.loop-t.t _ (omega arith) c.loop-t.invariant.2 (less_other lower.0 w.if-u-t.false) lower.1 refl),
       )
     ]
 
 pub returns : goal.returns
 returns c =
-    let e : c.loop-t.t ≡ c.args.count = omega (arith, c.loop-t.invariant.0, c.loop-t-test.false) in
-    (c.loop-t.invariant.2 ∙ ap (own_below c.args.twins.now) e, λ t h. c.loop-t.invariant.3 t (omega arith))
+    let e : c.loop-t.t ≡ c.args.count = omega (arith, c.loop-t-test.false) in
+    (c.loop-t.invariant.1 ∙ ap (own_below c.args.twins.now) e, λ t h. c.loop-t.invariant.2 t (omega arith))

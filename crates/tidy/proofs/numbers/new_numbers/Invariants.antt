@@ -7,7 +7,4 @@ use Rattle.tidy.proofs.numbers.new_numbers.Given as goal
 
 abbrev pub invariant-loop-t : goal.invariant-loop-t
 invariant-loop-t l =
-    (l.t ≤ l.count) × (length l.numbers ≡ length l.initial.numbers) × (l.left ≡ own_below l.twins l.t) × NewNumbers l.twins l.t l.numbers
-
-abbrev pub decreases-loop-t : goal.decreases-loop-t
-decreases-loop-t l = l.count - l.t
+    (length l.numbers ≡ length l.initial.numbers) × (l.left ≡ own_below l.twins l.t) × NewNumbers l.twins l.t l.numbers

@@ -15,7 +15,7 @@ put_own-i-requires c =
     let all = type_count c.args.rows.now in (
       omega (arith, c.type_count-count.ensures, c.loop-j-test.true, c.requires.1),
       c.requires.0 (type_key c.loop-j.j) (less_as c.type_count-count.ensures c.loop-j-test.true),
-      zero_room each all c.type_count-count.ensures c.loop-j.j c.loop-j-test.true c.args.out.now _ _ c.loop-j.out c.loop-j.invariant.1 c.requires.2 c.loop-j.invariant.3,
+      zero_room each all c.type_count-count.ensures c.loop-j.j c.loop-j-test.true c.args.out.now _ _ c.loop-j.out c.loop-j.invariant.1 c.requires.2 c.loop-j.invariant.2,
     )
 
 pub loop-j-preserved : goal.loop-j-preserved
@@ -24,12 +24,11 @@ loop-j-preserved c =
     let all = type_count c.args.rows.now in (
       c.loop-j.invariant.0 ∙ zero-wrote each all c.type_count-count.ensures c.loop-j.j c.loop-j-test.true c.put_own-i.ensures,
       zero-place each all c.type_count-count.ensures c.loop-j.j c.loop-j-test.true _ c.put_own-i.ensures c.loop-j.invariant.1,
-      omega arith,
-      wrote-length c.put_own-i.ensures ∙ c.loop-j.invariant.3,
+      wrote-length c.put_own-i.ensures ∙ c.loop-j.invariant.2,
     )
 
 pub shape_of-out : goal.shape_of-out
-shape_of-out c = c.loop-j.invariant.3
+shape_of-out c = c.loop-j.invariant.2
 
 pub returns : goal.returns
 returns c =

@@ -18,7 +18,4 @@ abbrev pub invariant-loop-j : goal.invariant-loop-j
 invariant-loop-j l =
     (written l.initial.out l.at (left_from (lines l.text l.rows l.twins l.numbers) 0 (type_count l.rows) 0) ≡ written l.out l.i (left_from (lines l.text l.rows l.twins l.numbers) 0 (type_count l.rows) l.j))
     × (l.i + length (left_from (lines l.text l.rows l.twins l.numbers) 0 (type_count l.rows) l.j) ≡ l.at + length (left_from (lines l.text l.rows l.twins l.numbers) 0 (type_count l.rows) 0))
-    × (l.j ≤ l.count) × (length l.out ≡ length l.initial.out)
-
-abbrev pub decreases-loop-j : goal.decreases-loop-j
-decreases-loop-j l = l.count - l.j
+    × (length l.out ≡ length l.initial.out)

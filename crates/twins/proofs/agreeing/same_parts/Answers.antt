@@ -1,12 +1,11 @@
 -- `same_parts` meets its contract. The invariant: the parts before `i` have one label each.
-use Rattle.std.proofs.Common.{rules}
 use native.Mathlib.Omega.{arith}
 use Rattle.type_parts.proofs.KinLaws.{peers-kin, left-place, right-place, left-inside, right-inside}
 use Rattle.twins.proofs.ReadingLaws.{parts-together, together-more, parts-apart}
 use Rattle.twins.proofs.agreeing.same_parts.Goals as goal
 
 pub loop-i-init : goal.loop-i-init
-loop-i-init c = (search rules, λ m h. absurd (omega arith))
+loop-i-init c = λ m h. absurd (omega arith)
 
 pub part_in-p-requires : goal.part_in-p-requires
 part_in-p-requires c =
@@ -40,8 +39,8 @@ returns-then-labels-p c =
 
 pub loop-i-preserved : goal.loop-i-preserved
 loop-i-preserved c =
-    (omega arith, together-more _ _ c.args.labels.now _ _ c.requires.peers.0 _ c.loop-i.invariant.1 c.part_in-p.ensures c.part_in-q.ensures c.if-labels-p.false)
+    together-more _ _ c.args.labels.now _ _ c.requires.peers.0 _ c.loop-i.invariant c.part_in-p.ensures c.part_in-q.ensures c.if-labels-p.false
 
 pub returns : goal.returns
 returns c =
-    parts-together _ _ _ _ _ c.requires.peers.0 _ _ c.part_count-n.ensures c.loop-i-test.false c.loop-i.invariant.1
+    parts-together _ _ _ _ _ c.requires.peers.0 _ _ c.part_count-n.ensures c.loop-i-test.false c.loop-i.invariant

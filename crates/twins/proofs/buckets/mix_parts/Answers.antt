@@ -1,5 +1,4 @@
 -- `mix_parts` meets its contract. The invariant: `h` has the labels of the parts before `i`.
-use Rattle.std.proofs.Common.{rules}
 use mathlib.Core.Path.{ap}
 use native.Mathlib.Omega.{arith}
 use Rattle.objects.specs.declared.TypeKey.{TypeKey}
@@ -10,7 +9,7 @@ use Rattle.twins.proofs.buckets.mix_parts.Goals as goal
 
 pub loop-i-init : goal.loop-i-init
 loop-i-init c =
-    (search rules, c.requires.t_bound.2, mixed-none c.args.text.now _ _ c.requires.t_bound.0 _ _)
+    (c.requires.t_bound.2, mixed-none c.args.text.now _ _ c.requires.t_bound.0 _ _)
 
 pub part_in-p-requires : goal.part_in-p-requires
 part_in-p-requires c =
@@ -24,12 +23,12 @@ bounds-labels-p c =
 
 pub mix-h-requires : goal.mix-h-requires
 mix-h-requires c =
-    c.loop-i.invariant.1
+    c.loop-i.invariant.0
 
 pub loop-i-preserved : goal.loop-i-preserved
 loop-i-preserved c =
-    (omega arith, c.mix-h.ensures.1, mixed-more c.args.text.now _ _ c.requires.t_bound.0 _ _ _ c.loop-i.invariant.2 c.part_in-p.ensures c.mix-h.ensures.0)
+    (c.mix-h.ensures.1, mixed-more c.args.text.now _ _ c.requires.t_bound.0 _ _ _ c.loop-i.invariant.1 c.part_in-p.ensures c.mix-h.ensures.0)
 
 pub returns : goal.returns
 returns c =
-    (mixed-all _ _ _ c.requires.t_bound.0 _ _ _ c.loop-i.i c.part_count-n.ensures (omega (arith, c.loop-i.invariant.0)) c.loop-i.invariant.2, c.loop-i.invariant.1)
+    (mixed-all _ _ _ c.requires.t_bound.0 _ _ _ c.loop-i.i c.part_count-n.ensures (omega arith) c.loop-i.invariant.1, c.loop-i.invariant.0)

@@ -1,6 +1,5 @@
 -- `split` meets its contract. The invariant: the types before `t` have their fresh labels and links, and the chains begin with the last of them.
 use mathlib.Core.Path.{◌≡◌}
-use Prim.Native.Nat.{◌-◌, ◌≤◌}
 use lib.ListN.{length}
 use Rattle.objects.specs.Rows.{table_of}
 use Rattle.twins.specs.Labels.{Classed}
@@ -9,8 +8,5 @@ use Rattle.twins.proofs.rounds.split.Given as goal
 
 abbrev pub invariant-loop-t : goal.invariant-loop-t
 invariant-loop-t l =
-    (l.t ≤ l.n) × (length l.fresh ≡ length l.initial.fresh) × (length l.heads ≡ length l.initial.heads) × (length l.links ≡ length l.initial.links)
+    (length l.fresh ≡ length l.initial.fresh) × (length l.heads ≡ length l.initial.heads) × (length l.links ≡ length l.initial.links)
     × Classed (table_of l.text l.rows) l.labels l.fresh l.t × Linked (table_of l.text l.rows) l.labels l.links l.t × Headed (table_of l.text l.rows) l.labels l.heads l.t
-
-abbrev pub decreases-loop-t : goal.decreases-loop-t
-decreases-loop-t l = l.n - l.t

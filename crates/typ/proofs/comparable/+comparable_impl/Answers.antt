@@ -21,7 +21,7 @@ returns-then-not-may_compare t c =
 
 pub loop-i-init : goal.loop-i-init
 loop-i-init t c =
-    (search rules, search rules, c.requires.met_comparable, λ k h. absurd (omega arith))
+    (search rules, c.requires.met_comparable, λ k h. absurd (omega arith))
 
 pub content_at-e-requires : goal.content_at-e-requires
 content_at-e-requires t c =
@@ -35,9 +35,9 @@ comparable_impl-requires t c = (
     (
       (
         content-inside _ _ c.requires.library _ c.requires.t_bound.0 _ c.content_count-n.ensures _ c.loop-i-test.true _ c.content_at-e.ensures,
-        omega (arith, c.loop-i.invariant.1, c.requires.t_bound.1),
+        omega (arith, c.loop-i.invariant.0, c.requires.t_bound.1),
       ),
-      c.loop-i.invariant.2,
+      c.loop-i.invariant.1,
     ),
   ),
 )
@@ -48,8 +48,8 @@ returns-then-not-comparable_impl t c =
 
 pub loop-i-preserved : goal.loop-i-preserved
 loop-i-preserved t c =
-    (search rules, search rules, c.comparable_impl.ensures.sound, below_more (λ (k : ℕ). comparable (table_of c.args.text.now c.args.rows.now) (content_at c.args.rows.now c.args.t k) ≡ true) _ c.loop-i.invariant.3 (content-is _ _ c.requires.library _ c.requires.t_bound.0 _ c.content_count-n.ensures _ c.loop-i-test.true _ c.content_at-e.ensures _ _ c.comparable_impl.ensures (ap not c.if-not-comparable_impl.false)))
+    (search rules, c.comparable_impl.ensures.sound, below_more (λ (k : ℕ). comparable (table_of c.args.text.now c.args.rows.now) (content_at c.args.rows.now c.args.t k) ≡ true) _ c.loop-i.invariant.2 (content-is _ _ c.requires.library _ c.requires.t_bound.0 _ c.content_count-n.ensures _ c.loop-i-test.true _ c.content_at-e.ensures _ _ c.comparable_impl.ensures (ap not c.if-not-comparable_impl.false)))
 
 pub returns : goal.returns
 returns t c =
-    let e = all-passed _ _ c.requires.library _ c.requires.t_bound.0 _ _ _ c.may_compare.ensures (ap not c.if-not-may_compare.false) c.content_count-n.ensures c.loop-i-test.false c.loop-i.invariant.3 in record { judged = sym e; sound = now-met _ _ c.requires.library _ c.requires.t_bound.0 _ c.loop-i.invariant.2 e }
+    let e = all-passed _ _ c.requires.library _ c.requires.t_bound.0 _ _ _ c.may_compare.ensures (ap not c.if-not-may_compare.false) c.content_count-n.ensures c.loop-i-test.false c.loop-i.invariant.2 in record { judged = sym e; sound = now-met _ _ c.requires.library _ c.requires.t_bound.0 _ c.loop-i.invariant.1 e }

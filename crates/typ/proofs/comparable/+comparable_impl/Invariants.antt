@@ -1,5 +1,5 @@
 -- What falls is how many types have a smaller rank than the one that is judged: fewer than there are types.
-use Rattle.std.proofs.Common.{◌≡◌, ◌-◌, ◌≤◌, length}
+use Rattle.std.proofs.Common.{◌≡◌, length}
 use Rattle.typ.specs.Contents.{MetComparable}
 use Rattle.typ.proofs.Lower.{lower}
 use Rattle.typ.proofs.ContentLaws.{Passed}
@@ -9,7 +9,4 @@ abbrev pub decreases-comparable_impl : goal.decreases-comparable_impl
 decreases-comparable_impl l = lower l.rows.now l.t
 
 abbrev pub invariant-loop-i : goal.invariant-loop-i
-invariant-loop-i l = (l.i ≤ l.n) × (length l.met ≡ length l.initial.met) × MetComparable l.text l.rows l.met × Passed l.text l.rows l.t l.i
-
-abbrev pub decreases-loop-i : goal.decreases-loop-i
-decreases-loop-i l = l.n - l.i
+invariant-loop-i l = (length l.met ≡ length l.initial.met) × MetComparable l.text l.rows l.met × Passed l.text l.rows l.t l.i

@@ -10,24 +10,27 @@ use Rattle.rules.proofs.Sounds.{library-sound}
 use Rattle.type_parts.proofs.KinLaws.{peers-of}
 use Rattle.pair_marks.proofs.Zero.{zero-front, front-back}
 use Rattle.pair_marks.proofs.PairLaws.{words_more, words_of}
-use Rattle.typ.proofs.Cycle.{mismatch-apart}
+use Rattle.typ.proofs.Cycle.{one-key, mismatch-apart}
 use Rattle.typ.proofs.Top.{selfsame, differed}
 use Rattle.typ.proofs.identical.identical.Goals as goal
+use Rattle.typ.proofs.identical.identical.Goals.{then-mismatch-via-then-mismatch, then-mismatch-via-else-mismatch+then-apart}
 
-pub returns-then-x-y : goal.returns-then-x-y
-returns-then-x-y c =
-    record { value = selfsame _ _ _ (library-sound c.requires.library) c.if-x-y.true; marks_unchanged = refl }
+pub returns-then-eq : goal.returns-then-eq
+returns-then-eq c =
+    record { value = selfsame _ _ _ (library-sound c.requires.library) (one-key c.eq.ensures c.if-eq.true); marks_unchanged = refl }
 
 pub returns-then-mismatch : goal.returns-then-mismatch
-returns-then-mismatch c =
-    record { value = differed _ _ _ (library-sound c.requires.library) (mismatch-apart _ _ _ _ c.mismatch.ensures c.if-mismatch.true); marks_unchanged = refl }
+returns-then-mismatch c = record {
+  value = elim c.then-mismatch.branch [
+    | then-mismatch-via-then-mismatch w ↦ differed _ _ _ (library-sound c.requires.library) (mismatch-apart _ _ _ _ c.mismatch.ensures w.if-mismatch.true)
+    | then-mismatch-via-else-mismatch+then-apart w ↦ sym (w.apart.ensures w.if-apart.true)
+  ];
+  marks_unchanged = refl;
+}
 
 -- past the test of what is no part the two types are peers
 pub apart-requires : goal.apart-requires
 apart-requires c = record { library = c.requires.library; peers = (peers-of _ _ _ _ c.requires.x_bound.0 c.requires.x_bound.1 c.mismatch.ensures c.if-mismatch.false) }
-
-pub returns-then-apart : goal.returns-then-apart
-returns-then-apart c = record { value = sym (c.apart.ensures c.if-apart.true); marks_unchanged = refl }
 
 -- the marks of the table's pairs are among those lent
 pub slice_bounds-settle-end : goal.slice_bounds-settle-end

@@ -1,14 +1,20 @@
-use Rattle.std.proofs.Common.{ap, not}
-use Rattle.type_parts.proofs.MemberRead.{spans-same, alike-other, alike-embedded, alike-tags}
+use mathlib.Core.Path.{sym, ◌∙◌}
+use Rattle.objects.proofs.ListLaws.{clash}
+use Rattle.type_parts.proofs.MemberRead.{alike-other, alike-embedded, alike-tags}
 use Rattle.type_parts.proofs.parts.alike.Goals as goal
-
-pub returns-then-not-same_member : goal.returns-then-not-same_member
-returns-then-not-same_member c = alike-other _ _ _ _ _ c.same_member.ensures (ap not c.if-not-same_member.true)
+use Rattle.type_parts.proofs.parts.alike.Goals.{then-same_member, else-same_member}
 
 pub returns-then-is_embedded : goal.returns-then-is_embedded
 returns-then-is_embedded c =
-    alike-embedded _ _ _ _ _ _ _ c.same_member.ensures (ap not c.if-not-same_member.false) c.is_embedded.ensures c.is_embedded-2.ensures c.if-is_embedded.true
+    elim c.if-same_member.branch [
+      | then-same_member w ↦ alike-tags _ _ _ _ _ _ _ _ c.same_member.ensures w.if-same_member.true w.is_embedded.ensures w.is_embedded-then-same_member.ensures (sym w.value-is ∙ c.if-is_embedded.true) c.same_tag.ensures
+      | else-same_member w ↦ absurd (clash c.if-is_embedded.true (w.value-is ∙ w.if-same_member.false))
+    ]
 
-pub returns : goal.returns
-returns c =
-    alike-tags _ _ _ _ _ _ _ _ c.same_member.ensures (ap not c.if-not-same_member.false) c.is_embedded.ensures c.is_embedded-2.ensures c.if-is_embedded.false (spans-same _ c.member_word-ma.ensures c.tag_length-ml.ensures c.member_word-na.ensures c.tag_length-nl.ensures c.same_part.ensures)
+pub returns-else-is_embedded : goal.returns-else-is_embedded
+returns-else-is_embedded c =
+    c.if-is_embedded.false
+    ∙ elim c.if-same_member.branch [
+      | then-same_member w ↦ alike-embedded _ _ _ _ _ _ _ c.same_member.ensures w.if-same_member.true w.is_embedded.ensures w.is_embedded-then-same_member.ensures (sym w.value-is ∙ c.if-is_embedded.false)
+      | else-same_member w ↦ alike-other _ _ _ _ _ c.same_member.ensures w.if-same_member.false
+    ]
