@@ -38,13 +38,9 @@ pub fn lent_for(rows: &[u32], line: &[u8]) -> Need
     ensures { (text : Bytes) → result ≡ need_of (question_of (table_of text rows.now) line.now) }
 {
     match question(rows, line) {
-        Ask::S(_, _, _, _, _) => Need::Walk,
+        Ask::S(..) | Ask::N(..) => Need::Walk,
         Ask::M(_) => Need::Set,
-        Ask::N(_, _, _) => Need::Walk,
-        Ask::I(_, _) => Need::Nothing,
-        Ask::C(_) => Need::Nothing,
-        Ask::V => Need::Nothing,
-        Ask::Wrong => Need::Nothing,
+        Ask::I(..) | Ask::C(_) | Ask::V | Ask::Wrong => Need::Nothing,
     }
 }
 
@@ -75,14 +71,10 @@ pub fn answered(
             words,
             line,
             answer,
-            Name {
-                at: at,
-                len: len,
-                pkg: pkg,
-            },
+            Name { at, len, pkg },
             Operand {
                 typ: t,
-                addressable: addressable,
+                addressable,
             },
         ),
         Ask::M(t) => ask_m(text, rows, walk, hits, words, answer, t),

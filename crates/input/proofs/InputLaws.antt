@@ -10,6 +10,7 @@ use lib.Dec.{eqb}
 use lib.ListN.{length, get_or, take, drop, length-drop, length-take, take-append-drop, drop_of_length-le}
 use lib.Seq.{take_all, take-nil, take-suc, drop-drop, drop-cons}
 use borrow.Author.Tests.{eqb-true, eq-eqb, ne_eqb, not-false}
+use Rattle.std.specs.Prelude.{Some, None}
 use Rattle.objects.specs.Lists.{Bytes}
 use Rattle.text.specs.Bytes.{ascii, same_bytes}
 use Rattle.text.specs.Lines.{split, pieces}
@@ -20,8 +21,6 @@ use Rattle.text.proofs.LineEnds.{line-run, pieces-at, line-within}
 use Rattle.text.proofs.RunLaws.{run-left}
 use Rattle.rules.specs.AskedAll.{questions_of, question_lines}
 use Rattle.rules.specs.Typeask.{Input, input_of, put_line}
-use Rattle.input.specs.declared.Parts.{Parts}
-use Rattle.input.specs.declared.Next.{Next}
 use Rattle.input.specs.Parts.{questions_at, parts_meant, next_meant}
 
 -- bytes in front of the table
@@ -100,14 +99,14 @@ module _ (s : Bytes) (at : ℕ) (within : at ≤ length s) {end : ℕ} (p : end 
 
   -- ---- the ways through `split`
 
-  pub split-whole : end ≡ length s → front (take at s) (input_of (pieces (drop at s))) ≡ parts_meant s Parts.Whole
+  pub split-whole : end ≡ length s → front (take at s) (input_of (pieces (drop at s))) ≡ parts_meant s None
   unfolding front input_of parts_meant
   split-whole e =
       let t : take at s ++ part s at end ≡ s = ap (λ l. take at s ++ l) (part-last e) ∙ take-append-drop at s in
       rw (piece-last e, t)
 
   module _ (n : end ≡ length s → ⊥) {t : Bool} (q : t ≡ same_bytes (part s at end) (ascii "Q")) where
-    pub split-until : t ≡ true → front (take at s) (input_of (pieces (drop at s))) ≡ parts_meant s (Parts.Until at (end + 1))
+    pub split-until : t ≡ true → front (take at s) (input_of (pieces (drop at s))) ≡ parts_meant s (Some (at, end + 1))
     unfolding front parts_meant questions_at question_lines
     split-until e =
         let r = pieces-first (drop (end + 1) s) in
@@ -131,7 +130,7 @@ module _ (s : Bytes) (at : ℕ) (within : at ≤ length s) {end : ℕ} (p : end 
 
   -- ---- the ways through `next_question`
 
-  pub next-on : end < length s → questions_at s at ≡ next_meant s at (Next.Is end (end + 1))
+  pub next-on : end < length s → questions_at s at ≡ next_meant s at (Some (end, end + 1))
   unfolding questions_at question_lines next_meant
   next-on h =
       let r = pieces-first (drop (end + 1) s) in
@@ -141,14 +140,14 @@ module _ (s : Bytes) (at : ℕ) (within : at ≤ length s) {end : ℕ} (p : end 
   unfolding part
   part-some l = let w = end-within in rw (length-take, length-drop) (omega arith)
 
-  pub next_last : length s ≤ end → at < end → questions_at s at ≡ next_meant s at (Next.Is end end)
+  pub next_last : length s ≤ end → at < end → questions_at s at ≡ next_meant s at (Some (end, end))
   unfolding questions_at question_lines next_meant pieces split
   next_last h l =
       let w = end-within in
       let e : end ≡ length s = omega arith in
       ap questions_of (piece-last e) ∙ last_some (part s at end) (part-some l) ∙ sym (ap (λ d. part s at end ∷ questions_of (split 10 d)) (drop_of_length-le s h))
 
-  pub next-none : length s ≤ end → end ≤ at → questions_at s at ≡ next_meant s at Next.None
+  pub next-none : length s ≤ end → end ≤ at → questions_at s at ≡ next_meant s at None
   unfolding questions_at question_lines next_meant
   next-none h l =
       let w = end-within in

@@ -8,20 +8,6 @@ ghost use Rattle.input.specs.Parts.{Splits, Follows};
 use text::compare::same;
 use text::scan::line_end;
 
-// The input: all of it is the table, or the table ends at a place and the questions begin at another.
-#[derive(Clone, Copy)]
-pub enum Parts {
-    Whole,
-    Until(usize, usize),
-}
-
-// The next question: none is left, or it ends at a place and the questions behind it begin at another.
-#[derive(Clone, Copy)]
-pub enum Next {
-    None,
-    Is(usize, usize),
-}
-
 // Whether a line is exactly `Q`.
 fn is_q(line: &[u8]) -> bool
     ensures { result ≡ same_bytes line.now (ascii "Q") }
@@ -29,34 +15,34 @@ fn is_q(line: &[u8]) -> bool
     same(line, b"Q")
 }
 
-// The first line that is exactly `Q` and has its newline parts table and questions.
-pub fn split(input: &[u8]) -> Parts
+// Where the table ends, and where the questions begin: the first line that is exactly `Q` and has its newline parts them. With none all of the input is the table.
+pub fn split(input: &[u8]) -> Option<(usize, usize)>
     ensures { Splits input.now result }
 {
     let mut at: usize = 0;
     loop {
         let end = line_end(input, at);
         if end == input.len() {
-            return Parts::Whole;
+            return None;
         }
         if is_q(&input[at..end]) {
-            return Parts::Until(at, end + 1);
+            return Some((at, end + 1));
         }
         at = end + 1;
     }
 }
 
-// The question that begins at a place. The last one may lack its newline.
-pub fn next_question(input: &[u8], at: usize) -> Next
+// Where the question that begins at a place ends, and where those behind it begin; none if no question is left. The last one may lack its newline.
+pub fn next_question(input: &[u8], at: usize) -> Option<(usize, usize)>
     requires { at ≤ length input.now }
     ensures { Follows input.now at result }
 {
     let end = line_end(input, at);
     if end < input.len() {
-        return Next::Is(end, end + 1);
+        return Some((end, end + 1));
     }
     if at < end {
-        return Next::Is(end, end);
+        return Some((end, end));
     }
-    Next::None
+    None
 }

@@ -24,11 +24,9 @@ pub fn line_length(word: &[u8], ns: &[u32], n: usize) -> usize
     ensures { result ≡ length (number_line word.now (take n ns.now)) }
 {
     let mut total = word.len() + 1;
-    let mut j: usize = 0;
-    while j < n {
-        let digits = decimal_length(ns[j]);
+    for x in &ns[..n] {
+        let digits = decimal_length(*x);
         total += 1 + digits;
-        j += 1;
     }
     total
 }
@@ -37,17 +35,12 @@ pub fn put_word(out: &mut [u8], at: usize, w: &[u8]) -> usize
     requires { at + length w.now ≤ length out.old }
     ensures { Wrote out.old at w.now out.new result }
 {
-    let mut i = at;
-    let mut j: usize = 0;
-    while j < w.len() {
-        out[i] = w[j];
-        i += 1;
-        j += 1;
-    }
-    i
+    let end = at + w.len();
+    out[at..end].copy_from_slice(w);
+    end
 }
 
-// The digits are found last first, so they fill an array from its end.
+// The digits are found last first, so they fill an array from its end. By hand, since `write!` goes to a String or a writer, and the library has no heap.
 pub fn put_decimal(out: &mut [u8], at: usize, n: u32) -> usize
     requires { at + length (decimal n) ≤ length out.old }
     ensures { Wrote out.old at (decimal n) out.new result }
@@ -76,16 +69,14 @@ pub fn put_field(out: &mut [u8], at: usize, n: u32) -> usize
     put_decimal(out, at + 1, n)
 }
 
-// What stands behind the word in the line of the first n numbers.
-fn put_fields(out: &mut [u8], at: usize, ns: &[u32], n: usize) -> usize
-    requires { (n ≤ length ns.now) × (at + length (line_end (take n ns.now)) ≤ length out.old) }
-    ensures { Wrote out.old at (line_end (take n ns.now)) out.new result }
+// What stands behind the word in the line of the numbers.
+fn put_fields(out: &mut [u8], at: usize, ns: &[u32]) -> usize
+    requires { at + length (line_end ns.now) ≤ length out.old }
+    ensures { Wrote out.old at (line_end ns.now) out.new result }
 {
     let mut i = at;
-    let mut j: usize = 0;
-    while j < n {
-        i = put_field(out, i, ns[j]);
-        j += 1;
+    for x in ns {
+        i = put_field(out, i, *x);
     }
     out[i] = 10;
     i + 1
@@ -97,7 +88,7 @@ pub fn put_line(out: &mut [u8], at: usize, word: &[u8], ns: &[u32], n: usize) ->
     ensures { Wrote out.old at (number_line word.now (take n ns.now)) out.new result }
 {
     let i = put_word(out, at, word);
-    put_fields(out, i, ns, n)
+    put_fields(out, i, &ns[..n])
 }
 
 // The digit of a number below ten.
@@ -105,5 +96,5 @@ fn glyph(d: u32) -> u8
     requires { d ≤ 9 }
     ensures { result ≡ 48 + d }
 {
-    48 + d as u8
+    b'0' + d as u8
 }

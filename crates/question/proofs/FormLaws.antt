@@ -3,17 +3,20 @@ use mathlib.Core.Path.{◌≡◌, refl, sym, ◌∙◌}
 use mathlib.Core.Bool.{Bool, true, false, not, ◌&&◌}
 use mathlib.Core.List.{List, [], ◌∷◌}
 use mathlib.Core.Option.{Option, none, some}
-use Prim.Native.Nat.{ℕ, ◌-◌, ◌≤◌}
+use Prim.Native.Nat.{◌-◌, ◌≤◌}
 use native.Mathlib.Omega.{arith}
 use lib.Dec.{leb}
 use lib.ListN.{length}
 use borrow.Author.Tests.{leb-true}
 use Rattle.objects.specs.declared.TypeKey.{TypeKey}
-use Rattle.objects.specs.declared.«Package».{«Package»}
+use Rattle.std.specs.declared.option.Option as code
+use Rattle.std.specs.Prelude.{Some, None}
+use Rattle.std.specs.Bool.{then_some}
+use Rattle.objects.specs.declared.PackageKey.{PackageKey}
 use Rattle.objects.specs.Bounds.{max_name}
 use Rattle.objects.specs.Lists.{Bytes, empty, every}
 use Rattle.objects.specs.Rows.{bytes_at, package_meant}
-use Rattle.objects.proofs.ListLaws.{clash, and_l, and_r}
+use Rattle.objects.proofs.ListLaws.{cases, clash, and_l, and_r}
 use Rattle.text.specs.declared.Cursor.{Cursor}
 use Rattle.text.specs.declared.Part.{Part}
 use Rattle.text.specs.Bytes.{ascii, is_name, sized, is_digit, first_is, is_name_byte}
@@ -30,30 +33,30 @@ use Rattle.question.specs.Asks.{asks_meant, behind_letter, NameIn, Reads}
 
 -- ---- what was read
 
-pub reads_at : {line : Bytes} {a : Ask} {o p : Option Question} → p ≡ o → Reads line a o → Reads line a p
+pub reads_at : {line : Bytes} {a : code.Option Ask} {o p : Option Question} → p ≡ o → Reads line a o → Reads line a p
 reads_at e h = record { meant = h.meant ∙ sym e; named = h.named }
 
-pub wrong-reads : (line : Bytes) {o : Option Question} → o ≡ none → Reads line Ask.Wrong o
+pub wrong-reads : (line : Bytes) {o : Option Question} → o ≡ none → Reads line None o
 unfolding asks_meant NameIn
 wrong-reads line e = record { meant = sym e; named = tt }
 
-pub m-reads : (line : Bytes) (t : TypeKey) → Reads line (Ask.M t) (some (ask_m t))
+pub m-reads : (line : Bytes) (t : TypeKey) → Reads line (Some (Ask.M t)) (some (ask_m t))
 unfolding asks_meant NameIn
 m-reads line t = record { meant = refl; named = tt }
 
-pub n-reads : (line : Bytes) (t i : TypeKey) (s : Bool) → Reads line (Ask.N t i s) (some (ask_n t i s))
+pub n-reads : (line : Bytes) (t i : TypeKey) (s : Bool) → Reads line (Some (Ask.N t i s)) (some (ask_n t i s))
 unfolding asks_meant NameIn
 n-reads line t i s = record { meant = refl; named = tt }
 
-pub i-reads : (line : Bytes) (x y : TypeKey) → Reads line (Ask.I x y) (some (ask_i x y))
+pub i-reads : (line : Bytes) (x y : TypeKey) → Reads line (Some (Ask.I x y)) (some (ask_i x y))
 unfolding asks_meant NameIn
 i-reads line x y = record { meant = refl; named = tt }
 
-pub c-reads : (line : Bytes) (t : TypeKey) → Reads line (Ask.C t) (some (ask_c t))
+pub c-reads : (line : Bytes) (t : TypeKey) → Reads line (Some (Ask.C t)) (some (ask_c t))
 unfolding asks_meant NameIn
 c-reads line t = record { meant = refl; named = tt }
 
-pub v-reads : (line : Bytes) → Reads line Ask.V (some ask_v)
+pub v-reads : (line : Bytes) → Reads line (Some Ask.V) (some ask_v)
 unfolding asks_meant NameIn
 v-reads line = record { meant = refl; named = tt }
 
@@ -67,12 +70,13 @@ done_more : {A : Type 0} (a : A) (fs : List Bytes) → empty fs ≡ false → wh
 done_more a [] h = clash refl h
 done_more a (b ∷ fs) h = refl
 
-module _ (line : Bytes) (c : Cursor) {t : Bool} (p : t ≡ not c.more) (q : Question) where
-  pub ended-on : {a : Ask} → t ≡ true → Reads line a (some q) → Reads line a (whole (done q) (fields_left line c))
-  ended-on e h = reads_at (done-empty q (fields_left line c) (done-left line c ∙ sym p ∙ e)) h
-
-  pub ended-out : t ≡ false → Reads line Ask.Wrong (whole (done q) (fields_left line c))
-  ended-out e = wrong-reads line (done_more q (fields_left line c) (done-left line c ∙ sym p ∙ e))
+-- the question, if no field is left
+pub ended-reads : (line : Bytes) (c : Cursor) {t : Bool} → t ≡ not c.more → (q : Question) (a : Ask) {r : code.Option Ask} → r ≡ then_some t a → Reads line (Some a) (some q)
+    → Reads line r (whole (done q) (fields_left line c))
+ended-reads line c {t} p q a {r} e h =
+    cases t
+    (λ y. let k : r ≡ Some a = rw y at e in rw k (reads_at (done-empty q (fields_left line c) (done-left line c ∙ sym p ∙ y)) h))
+    (λ y. let k : r ≡ None = rw y at e in rw k (wrong-reads line (done_more q (fields_left line c) (done-left line c ∙ sym p ∙ y))))
 
 -- ---- the forms
 
@@ -111,27 +115,27 @@ name-sized b h =
     let z = and_l (sized max_name b) (not (first_is is_digit b)) (and_l (sized max_name b && not (first_is is_digit b)) (every is_name_byte b) h) in
     (leb-true 1 (length b) (and_l (leb 1 (length b)) (leb (length b) max_name) z), leb-true (length b) max_name (and_r (leb 1 (length b)) (leb (length b) max_name) z))
 
-module _ (line : Bytes) (f : Cursor) (r : Part) (p : part_read line r ≡ field field_name (fields_left line f)) (x : Exact line r) {from to : ℕ} {g : Cursor} (q : r ≡ Part.Is from to g) where
-  name-is : is_name (part line from to) ≡ true
+module _ (line : Bytes) (f : Cursor) (r : code.Option Part) (p : part_read line r ≡ field field_name (fields_left line f)) (x : Exact line r) {n : Part} (q : r ≡ Some n) where
+  name-is : is_name (part line n.from n.to) ≡ true
   name-is = (passed is_name (fields_left line f) (part-on line r p q)).1
 
-  exact : Exact line (Part.Is from to g)
+  exact : Exact line (Some n)
   exact = rw q at x
 
-  pub name-order : from ≤ to
-  name-order = exact-order line from to g exact
+  pub name-order : n.from ≤ n.to
+  name-order = exact-order line n exact
 
   -- its places: not empty, at most 64 bytes, within the line
-  name-places : (1 ≤ to - from) × (to - from ≤ max_name)
+  name-places : (1 ≤ n.to - n.from) × (n.to - n.from ≤ max_name)
   name-places =
-      let z = name-sized (part line from to) name-is in
-      let e = exact-size line from to g exact in
+      let z = name-sized (part line n.from n.to) name-is in
+      let e = exact-size line n exact in
       ((rw e at z).0, (rw e at z).1)
 
-  pub name-end : to ≤ length line
-  name-end = let z = name-places.0 in exact-within line from to g exact (omega arith)
+  pub name-end : n.to ≤ length line
+  name-end = let z = name-places.0 in exact-within line n exact (omega arith)
 
-  pub s_reads : (t : TypeKey) (a : Bool) (pkg : «Package») → Reads line (Ask.S t a pkg from (to - from)) (some (ask_s t a (package_meant pkg) (part line from to)))
+  pub s_reads : (t : TypeKey) (a : Bool) (pkg : code.Option PackageKey) → Reads line (Some (Ask.S t a pkg n.from (n.to - n.from))) (some (ask_s t a (package_meant pkg) (part line n.from n.to)))
   unfolding asks_meant NameIn bytes_at part
   s_reads t a pkg =
       let z = name-places in

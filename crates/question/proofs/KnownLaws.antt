@@ -7,7 +7,9 @@ use lib.Dec.{eqb, ltb, leb}
 use lib.ListN.{length}
 use borrow.Author.Tests.{ltb-true}
 use Rattle.objects.specs.declared.TypeKey.{TypeKey}
-use Rattle.objects.specs.declared.«Package».{«Package»}
+use Rattle.std.specs.declared.option.Option as code
+use Rattle.std.specs.Prelude.{Some, None}
+use Rattle.objects.specs.declared.PackageKey.{PackageKey}
 use Rattle.objects.specs.Bounds.{max_question}
 use Rattle.objects.specs.Lists.{Bytes}
 use Rattle.objects.specs.Rows.{Words, type_count, package_meant, bytes_at, table_of}
@@ -25,57 +27,67 @@ module _ (text : Bytes) (rows : Words) where
   pub type-has : (t : TypeKey) → has_type (table_of text rows) t ≡ ltb t.0 (type_count rows)
   type-has t = ap (ltb t.0) (size-read text rows)
 
-  pub package-has : (pkg : «Package») → has_package (table_of text rows) (package_meant pkg) ≡ package_known rows pkg
+  pub package-has : (pkg : code.Option PackageKey) → has_package (table_of text rows) (package_meant pkg) ≡ package_known rows pkg
   unfolding package_meant package_known
-  package-has «Package».Absent = refl
-  package-has («Package».Is p) = ap (ltb p.0) (package-count-read text rows)
+  package-has None = refl
+  package-has (Some p) = ap (ltb p.0) (package-count-read text rows)
 
 -- ---- what was read has these numbers, whatever the text is
 
 module _ (text : Bytes) (rows : Words) (line : Bytes) where
-  pub known_is : (a : Ask) (q : Question) → asks_meant line a ≡ some q → known_read rows a ≡ in_table (table_of text rows) q
+  pub known_is : (a : code.Option Ask) (q : Question) → asks_meant line a ≡ some q → known_read rows a ≡ in_table (table_of text rows) q
   unfolding asks_meant known_read
-  known_is (Ask.S t b pkg at len) q h =
+  known_is (Some (Ask.S t b pkg at len)) q h =
       let z : ask_s t b (package_meant pkg) (bytes_at line at len) ≡ q = cc in
       ap₂ (λ x y. x && y) (sym (type-has text rows t)) (sym (package-has text rows pkg)) ∙ ap (in_table (table_of text rows)) z
-  known_is (Ask.M t) q h = let z : ask_m t ≡ q = cc in sym (type-has text rows t) ∙ ap (in_table (table_of text rows)) z
-  known_is (Ask.N t i s) q h =
+  known_is (Some (Ask.M t)) q h = let z : ask_m t ≡ q = cc in sym (type-has text rows t) ∙ ap (in_table (table_of text rows)) z
+  known_is (Some (Ask.N t i s)) q h =
       let z : ask_n t i s ≡ q = cc in
       ap₂ (λ x y. x && y) (sym (type-has text rows t)) (sym (type-has text rows i)) ∙ ap (in_table (table_of text rows)) z
-  known_is (Ask.I x y) q h =
+  known_is (Some (Ask.I x y)) q h =
       let z : ask_i x y ≡ q = cc in
       ap₂ (λ x y. x && y) (sym (type-has text rows x)) (sym (type-has text rows y)) ∙ ap (in_table (table_of text rows)) z
-  known_is (Ask.C t) q h = let z : ask_c t ≡ q = cc in sym (type-has text rows t) ∙ ap (in_table (table_of text rows)) z
-  known_is Ask.V q h = let z : ask_v ≡ q = cc in ap (in_table (table_of text rows)) z
-  known_is Ask.Wrong q h = none-some h
+  known_is (Some (Ask.C t)) q h = let z : ask_c t ≡ q = cc in sym (type-has text rows t) ∙ ap (in_table (table_of text rows)) z
+  known_is (Some Ask.V) q h = let z : ask_v ≡ q = cc in ap (in_table (table_of text rows)) z
+  known_is None q h = none-some h
 
-  pub second_is : (a : Ask) (q : Question) → Known rows a → asks_meant line a ≡ some q → second_read rows a ≡ wrong_second (table_of text rows) q
+  pub second_is : (a : code.Option Ask) (q : Question) → Known rows a → asks_meant line a ≡ some q → second_read rows a ≡ wrong_second (table_of text rows) q
   unfolding asks_meant second_read Known
-  second_is (Ask.S t b pkg at len) q k h = let z : ask_s t b (package_meant pkg) (bytes_at line at len) ≡ q = cc in ap (wrong_second (table_of text rows)) z
-  second_is (Ask.M t) q k h = let z : ask_m t ≡ q = cc in ap (wrong_second (table_of text rows)) z
-  second_is (Ask.N t i s) q k h =
+  second_is (Some (Ask.S t b pkg at len)) q k h = let z : ask_s t b (package_meant pkg) (bytes_at line at len) ≡ q = cc in ap (wrong_second (table_of text rows)) z
+  second_is (Some (Ask.M t)) q k h = let z : ask_m t ≡ q = cc in ap (wrong_second (table_of text rows)) z
+  second_is (Some (Ask.N t i s)) q k h =
       let z : ask_n t i s ≡ q = cc in
       ap (λ n. not (eqb n 9)) (sym (number-read text rows i k.1)) ∙ ap (wrong_second (table_of text rows)) z
-  second_is (Ask.I x y) q k h = let z : ask_i x y ≡ q = cc in ap (wrong_second (table_of text rows)) z
-  second_is (Ask.C t) q k h = let z : ask_c t ≡ q = cc in ap (wrong_second (table_of text rows)) z
-  second_is Ask.V q k h = let z : ask_v ≡ q = cc in ap (wrong_second (table_of text rows)) z
-  second_is Ask.Wrong q k h = none-some h
+  second_is (Some (Ask.I x y)) q k h = let z : ask_i x y ≡ q = cc in ap (wrong_second (table_of text rows)) z
+  second_is (Some (Ask.C t)) q k h = let z : ask_c t ≡ q = cc in ap (wrong_second (table_of text rows)) z
+  second_is (Some Ask.V) q k h = let z : ask_v ≡ q = cc in ap (wrong_second (table_of text rows)) z
+  second_is None q k h = none-some h
 
 module _ (rows : Words) where
+  -- only an N question has a second type that must be an interface
+  pub second_none : (a : Ask) → ((t i : TypeKey) (s : Bool) → a ≡ Ask.N t i s → ⊥) → false ≡ second_read rows (Some a)
+  unfolding second_read
+  second_none (Ask.S t b pkg at len) h = refl
+  second_none (Ask.M t) h = refl
+  second_none (Ask.N t i s) h = absurd (h t i s refl)
+  second_none (Ask.I x y) h = refl
+  second_none (Ask.C t) h = refl
+  second_none Ask.V h = refl
+
   both : (t u : TypeKey) → ltb t.0 (type_count rows) && ltb u.0 (type_count rows) ≡ true → (t.0 < type_count rows) × (u.0 < type_count rows)
   both t u h = (ltb-true _ _ (and_l (ltb t.0 (type_count rows)) (ltb u.0 (type_count rows)) h), ltb-true _ _ (and_r (ltb t.0 (type_count rows)) (ltb u.0 (type_count rows)) h))
 
-  pub known_facts : (a : Ask) → known_read rows a ≡ true → Known rows a
+  pub known_facts : (a : code.Option Ask) → known_read rows a ≡ true → Known rows a
   unfolding known_read Known
-  known_facts (Ask.S t b pkg at len) h = (ltb-true _ _ (and_l (ltb t.0 (type_count rows)) (package_known rows pkg) h), and_r (ltb t.0 (type_count rows)) (package_known rows pkg) h)
-  known_facts (Ask.M t) h = ltb-true _ _ h
-  known_facts (Ask.N t i s) h = both t i h
-  known_facts (Ask.I x y) h = both x y h
-  known_facts (Ask.C t) h = ltb-true _ _ h
-  known_facts Ask.V h = tt
-  known_facts Ask.Wrong h = tt
+  known_facts (Some (Ask.S t b pkg at len)) h = (ltb-true _ _ (and_l (ltb t.0 (type_count rows)) (package_known rows pkg) h), and_r (ltb t.0 (type_count rows)) (package_known rows pkg) h)
+  known_facts (Some (Ask.M t)) h = ltb-true _ _ h
+  known_facts (Some (Ask.N t i s)) h = both t i h
+  known_facts (Some (Ask.I x y)) h = both x y h
+  known_facts (Some (Ask.C t)) h = ltb-true _ _ h
+  known_facts (Some Ask.V) h = tt
+  known_facts None h = tt
 
-  pub known-wrong : Known rows Ask.Wrong
+  pub known-wrong : Known rows None
   unfolding Known
   known-wrong = tt
 
@@ -86,7 +98,7 @@ unfolding question_of form_of
 form-known T line = cases (leb (length line) max_question) (λ e. rw e) (λ e. rw e)
 
 -- t: the numbers are the table's
-module _ (T : Table) (line : Bytes) (a : Ask) (h : Reads line a (form_of line)) {t : Bool} (p : (q : Question) → asks_meant line a ≡ some q → t ≡ in_table T q) where
+module _ (T : Table) (line : Bytes) (a : code.Option Ask) (h : Reads line a (form_of line)) {t : Bool} (p : (q : Question) → asks_meant line a ≡ some q → t ≡ in_table T q) where
   pub question-on : t ≡ true → Reads line a (question_of T line)
   question-on e = reads_at (form-known T line ∙ go (form_of line) refl) h
     where
@@ -94,7 +106,7 @@ module _ (T : Table) (line : Bytes) (a : Ask) (h : Reads line a (form_of line)) 
       go none f = rw f
       go (some q) f = let z : in_table T q ≡ true = sym (p q (h.meant ∙ f)) ∙ e in rw (f, z)
 
-  pub question-out : t ≡ false → Reads line Ask.Wrong (question_of T line)
+  pub question-out : t ≡ false → Reads line None (question_of T line)
   question-out e = wrong-reads line (form-known T line ∙ go (form_of line) refl)
     where
       go : (o : Option Question) → form_of line ≡ o → known T (form_of line) ≡ none

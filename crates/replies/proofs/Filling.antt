@@ -2,20 +2,21 @@
 use mathlib.Core.Path.{◌≡◌, refl, sym, ap, subst, ◌∙◌}
 use mathlib.Core.Bool.{Bool, true, false}
 use mathlib.Core.List.{List, [], ◌∷◌, ◌++◌, append_assoc, append-nil}
-use Prim.Native.Nat.{ℕ, suc, ◌+◌, ◌-◌, ◌≤◌, ◌<◌}
+use Prim.Native.Nat.{ℕ, ◌+◌, ◌-◌, ◌≤◌, ◌<◌}
 use native.Mathlib.Omega.{arith}
 use lib.Dec.{leb}
-use lib.ListN.{length, take, drop, get_or, set, length-append, length-drop, drop_of_length-le}
-use lib.Seq.{take_at, drop_at, set_at, take_all, take-suc, drop-cons, drop-drop, length-take-le}
+use lib.ListN.{length, take, drop, length-append, length-drop, drop_of_length-le}
+use lib.Seq.{take_at, drop_at, take_all, drop-drop}
 use borrow.Author.Tests.{leb-true, leb-false, lt-ltb, le-ltb}
 use borrow.Rule.Slice.PartMut.{mid_of, put_mid, post_of, Post-is, put_same}
+use Rattle.std.specs.declared.option.Option as code
+use Rattle.std.specs.Prelude.{Some, None}
 use Rattle.objects.specs.Lists.{Bytes, flat}
 use Rattle.objects.specs.Table.{Table}
 use Rattle.objects.proofs.ListLaws.{flat_append}
 use Rattle.text.specs.Cursors.{part}
 use Rattle.rules.specs.Asked.{say, replied, number_of, written}
 use Rattle.rules.specs.AskedAll.{question_lines, reply_bytes, replied_all}
-use Rattle.input.specs.declared.Next.{Next}
 use Rattle.input.specs.Parts.{questions_at, next_meant, next_within, Follows}
 use Rattle.reply.specs.declared.Done.{Done}
 use Rattle.reply.specs.Done.{number_read, Fits}
@@ -65,7 +66,7 @@ module _ (T : Table) (questions before : Bytes) where
     pub behind-length : length (mid_of n (length out - n) out) ≡ length before - n
     behind-length = put-behind-length made before h.count h.room h.answers
 
-    pub full-end : {x : Next} → Follows questions at x → x ≡ Next.None → Full T (questions_at questions at) n (length before)
+    pub full-end : {x : code.Option (ℕ × ℕ)} → Follows questions at x → x ≡ None → Full T (questions_at questions at) n (length before)
     unfolding Full next_meant
     full-end d e = subst (λ l. Full T l n (length before)) (sym (d.says ∙ ap (next_meant questions at) e)) tt
 
@@ -73,8 +74,8 @@ module _ (T : Table) (questions before : Bytes) where
     pub filling-kept : {ys : Bytes} → ys ≡ mid_of n (length out - n) out → Filling T questions before at n (put_mid n (length out - n) out ys)
     filling-kept {ys} e = subst (Filling T questions before at n) (sym (ap (put_mid n (length out - n) out) e ∙ put_same n (length out - n) out)) h
 
-    module _ {x : Next} (d : Follows questions at x) {end next : ℕ} (e : x ≡ Next.Is end next) where
-      pub within : next_within questions at (Next.Is end next)
+    module _ {x : code.Option (ℕ × ℕ)} (d : Follows questions at x) {end next : ℕ} (e : x ≡ Some (end, next)) where
+      pub within : next_within questions at (Some (end, next))
       within = subst (next_within questions at) e d.within
 
       at-line : questions_at questions at ≡ part questions at end ∷ questions_at questions next
@@ -141,32 +142,18 @@ module _ (T : Table) (questions : Bytes) where
   unfolding questions_at
   due_all = refl
 
-  module _ {at : ℕ} {x : Next} (d : Follows questions at x) where
-    pub due-none : x ≡ Next.None → due at ≡ 0
+  module _ {at : ℕ} {x : code.Option (ℕ × ℕ)} (d : Follows questions at x) where
+    pub due-none : x ≡ None → due at ≡ 0
     unfolding next_meant
     due-none e = ap (λ l. length (flat (reply_bytes T) l)) (d.says ∙ ap (next_meant questions at) e)
 
-    module _ {end next : ℕ} (e : x ≡ Next.Is end next) where
-      pub inside : next_within questions at (Next.Is end next)
+    module _ {end next : ℕ} (e : x ≡ Some (end, next)) where
+      pub inside : next_within questions at (Some (end, next))
       inside = subst (next_within questions at) e d.within
 
       pub due-next : due at ≡ length (reply_bytes T (part questions at end)) + due next
       unfolding next_meant
       due-next = ap (λ l. length (flat (reply_bytes T) l)) (d.says ∙ ap (next_meant questions at) e) ∙ length-append (reply_bytes T (part questions at end)) (flat (reply_bytes T) (questions_at questions next))
-
--- ---- the front of the buffer
-
-pub front_length : (s d : Bytes) (i : ℕ) → i ≤ length s → i ≤ length d → length (take i s ++ drop i d) ≡ length d
-front_length s d i h k = omega (arith, length-append (take i s) (drop i d), length-take-le i s h, length-drop i d)
-
-pub front-next : (s d : Bytes) (i : ℕ) → i < length s → i < length d → set (take i s ++ drop i d) i (get_or s i 0) ≡ take (i + 1) s ++ drop (i + 1) d
-front-next s d i h k =
-    let next : i + 1 ≡ suc i = omega arith in
-    rw next
-    (ap (λ z. set (take i s ++ z) i (get_or s i 0)) (drop-cons d i 0 k)
-    ∙ set_at (take i s) (get_or d i 0) (drop (suc i) d) (get_or s i 0) i (length-take-le i s (omega arith))
-    ∙ sym (append_assoc (take i s) (get_or s i 0 ∷ []) (drop (suc i) d))
-    ∙ ap (λ z. z ++ drop (suc i) d) (sym (take-suc s i 0 h)))
 
 -- ---- all or none
 

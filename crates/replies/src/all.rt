@@ -12,7 +12,7 @@ ghost use Rattle.replies.specs.Replies.{Ends};
 use crate::fill::fill;
 use crate::reply;
 use first_hits::FirstHit;
-use input::{Next, next_question};
+use input::next_question;
 use multiples::EmbeddedType;
 use reply::Done;
 
@@ -65,7 +65,7 @@ fn fits(
     let mut at: usize = 0;
     let mut left = room;
     loop {
-        let Next::Is(end, next) = next_question(questions, at) else {
+        let Some((end, next)) = next_question(questions, at) else {
             return true;
         };
         let line = &questions[at..end];
@@ -83,11 +83,7 @@ fn put_front(answers: &mut [u8], stage: &[u8], n: usize)
     requires { (n ≤ length answers.old) × (n ≤ length stage.now) }
     ensures { answers.new ≡ take n stage.now ++ drop n answers.old }
 {
-    let mut i: usize = 0;
-    while i < n {
-        answers[i] = stage[i];
-        i += 1;
-    }
+    answers[..n].copy_from_slice(&stage[..n]);
 }
 
 // 13, or the length of all.

@@ -8,7 +8,7 @@ ghost use Rattle.replies.specs.Replies.{Fills};
 
 use crate::{Filled, reply};
 use first_hits::FirstHit;
-use input::{Next, next_question};
+use input::next_question;
 use multiples::EmbeddedType;
 use reply::Done;
 
@@ -33,8 +33,8 @@ pub fn fill(
     let mut at: usize = 0;
     let mut n: usize = 0;
     loop {
-        let Next::Is(end, next) = next_question(questions, at) else {
-            return Filled { at: at, n: n };
+        let Some((end, next)) = next_question(questions, at) else {
+            return Filled { at, n };
         };
         let line = &questions[at..end];
         match reply(text, rows, marks, walk, hits, words, line, &mut out[n..]) {
@@ -42,8 +42,8 @@ pub fn fill(
                 n += k;
                 at = next;
             }
-            Done::Refused(_, _) => return Filled { at: at, n: n },
-            Done::Long(_) => return Filled { at: at, n: n },
+            Done::Refused(_, _) => return Filled { at, n },
+            Done::Long(_) => return Filled { at, n },
         }
     }
 }

@@ -1,13 +1,14 @@
 // What the questions are lent: arrays that are made once for a call. One question is lent no more than its letter needs. A search is lent two records for each type,
 // of an array that is the shorter the fewer types there are: clearing it is much of the time of a question on a small table. M, and many questions together, are lent a
 // word and a first hit for each member too.
-ghost use Rattle.std.specs.Prelude.{◌≡◌, false, ◌≤◌, length, replicate};
-ghost use Rattle.objects.specs.Bounds.{mark_words};
-ghost use Rattle.objects.specs.Rows.{table_of};
+ghost use Rattle.std.specs.Prelude.{◌≡◌, false, ◌*◌, ◌≤◌, length, replicate};
+ghost use Rattle.objects.specs.Bounds.{mark_words, max_members};
+ghost use Rattle.objects.specs.Rows.{type_count, member_count_of, table_of};
 ghost use Rattle.rules.specs.Library.{Library};
 ghost use Rattle.rules.specs.Question.{question_of};
 ghost use Rattle.answer.specs.declared.Need.{Need};
-ghost use Rattle.answer.specs.Lent.{need_of};
+ghost use Rattle.answer.specs.Lent.{need_of, search_words};
+ghost use Rattle.multiples.specs.Records.{max_records};
 ghost use Rattle.replies.specs.Replies.{Ends, said_of};
 
 use crate::all::reply_all;
@@ -49,19 +50,34 @@ fn with_walk(text: &[u8], rows: &[u32], marks: &mut [u32], line: &[u8], answer: 
     ensures marks_unchanged { marks.new ≡ marks.old }
 {
     let n = 2 * type_count(rows) as usize;
-    let mut hits = [[0u32; HIT_WORDS]; 1];
-    let mut words = [0u32; SEARCH_WORDS];
     if n <= FEW_RECORDS {
-        let mut walk = [[0u32; RECORD_WORDS]; FEW_RECORDS];
-        let w = &mut walk[..n];
-        return answered(text, rows, marks, w, &mut hits, &mut words, line, answer);
+        return with_walk_of::<FEW_RECORDS>(text, rows, marks, line, answer);
     }
     if n <= SOME_RECORDS {
-        let mut walk = [[0u32; RECORD_WORDS]; SOME_RECORDS];
-        let w = &mut walk[..n];
-        return answered(text, rows, marks, w, &mut hits, &mut words, line, answer);
+        return with_walk_of::<SOME_RECORDS>(text, rows, marks, line, answer);
     }
-    let mut walk = [[0u32; RECORD_WORDS]; MAX_RECORDS];
+    with_walk_of::<MAX_RECORDS>(text, rows, marks, line, answer)
+}
+
+// The same with so many records.
+fn with_walk_of<const RECORDS: usize>(
+    text: &[u8],
+    rows: &[u32],
+    marks: &mut [u32],
+    line: &[u8],
+    answer: &mut [u8],
+) -> Done
+    requires library { Library text.now rows.now }
+    requires mark_words_in_bounds { (mark_words ≤ length marks.old) × (need_of (question_of (table_of text.now rows.now) line.now) ≡ Need.Walk) }
+    requires marks_value { marks.old ≡ replicate (length marks.old) 0 }
+    requires room { (2 * type_count rows.now ≤ RECORDS) × (RECORDS ≤ max_records) }
+    ensures ends { Ends (said_of false line.now (table_of text.now rows.now)) result answer.old answer.new }
+    ensures marks_unchanged { marks.new ≡ marks.old }
+{
+    let n = 2 * type_count(rows) as usize;
+    let mut walk = [[0u32; RECORD_WORDS]; RECORDS];
+    let mut hits = [[0u32; HIT_WORDS]; 1];
+    let mut words = [0u32; SEARCH_WORDS];
     let w = &mut walk[..n];
     answered(text, rows, marks, w, &mut hits, &mut words, line, answer)
 }
@@ -84,28 +100,40 @@ fn with_all(
     let n = 2 * type_count(rows) as usize;
     let members = member_count(rows) as usize;
     if n <= FEW_RECORDS && members <= FEW_RECORDS {
-        let mut walk = [[0u32; RECORD_WORDS]; FEW_RECORDS];
-        let mut hits = [[0u32; HIT_WORDS]; FEW_RECORDS];
-        let mut words = [0u32; SEARCH_WORDS];
-        let w = &mut walk[..n];
-        if all {
-            return reply_all(text, rows, marks, w, &mut hits, &mut words, line, answer);
-        }
-        return answered(text, rows, marks, w, &mut hits, &mut words, line, answer);
+        return with_all_of::<FEW_RECORDS, FEW_RECORDS, SEARCH_WORDS>(
+            text, rows, marks, line, answer, all,
+        );
     }
     if n <= SOME_RECORDS && members <= SOME_MEMBERS {
-        let mut walk = [[0u32; RECORD_WORDS]; SOME_RECORDS];
-        let mut hits = [[0u32; HIT_WORDS]; SOME_MEMBERS];
-        let mut words = [0u32; SEARCH_WORDS];
-        let w = &mut walk[..n];
-        if all {
-            return reply_all(text, rows, marks, w, &mut hits, &mut words, line, answer);
-        }
-        return answered(text, rows, marks, w, &mut hits, &mut words, line, answer);
+        return with_all_of::<SOME_RECORDS, SOME_MEMBERS, SEARCH_WORDS>(
+            text, rows, marks, line, answer, all,
+        );
     }
-    let mut walk = [[0u32; RECORD_WORDS]; MAX_RECORDS];
-    let mut hits = [[0u32; HIT_WORDS]; MAX_MEMBERS];
-    let mut words = [0u32; MAX_MEMBERS];
+    with_all_of::<MAX_RECORDS, MAX_MEMBERS, MAX_MEMBERS>(text, rows, marks, line, answer, all)
+}
+
+// The same with so many records, first hits and words.
+fn with_all_of<const RECORDS: usize, const MEMBERS: usize, const WORDS: usize>(
+    text: &[u8],
+    rows: &[u32],
+    marks: &mut [u32],
+    line: &[u8],
+    answer: &mut [u8],
+    all: bool,
+) -> Done
+    requires library { Library text.now rows.now }
+    requires mark_words_in_bounds { mark_words ≤ length marks.old }
+    requires marks_value { marks.old ≡ replicate (length marks.old) 0 }
+    requires records { (2 * type_count rows.now ≤ RECORDS) × (RECORDS ≤ max_records) }
+    requires members { (member_count_of rows.now ≤ MEMBERS) × (MEMBERS ≤ max_members) }
+    requires words { (member_count_of rows.now ≤ WORDS) × (search_words ≤ WORDS) × (WORDS ≤ max_members) }
+    ensures ends { Ends (said_of all line.now (table_of text.now rows.now)) result answer.old answer.new }
+    ensures marks_unchanged { marks.new ≡ marks.old }
+{
+    let n = 2 * type_count(rows) as usize;
+    let mut walk = [[0u32; RECORD_WORDS]; RECORDS];
+    let mut hits = [[0u32; HIT_WORDS]; MEMBERS];
+    let mut words = [0u32; WORDS];
     let w = &mut walk[..n];
     if all {
         return reply_all(text, rows, marks, w, &mut hits, &mut words, line, answer);

@@ -1,11 +1,14 @@
 -- What S and N say: the line or the two lines of a selection, and the line of a missing method.
-use mathlib.Core.Path.{◌≡◌, sym, ap, ap₂, ◌∙◌}
-use mathlib.Core.Bool.{Bool}
+use mathlib.Core.Path.{◌≡◌, refl, sym, ap, ap₂, ◌∙◌}
+use mathlib.Core.Bool.{Bool, true, false}
 use mathlib.Core.List.{List, [], ◌∷◌, ◌++◌}
 use Prim.Native.Nat.{ℕ, suc, ◌+◌, ◌-◌, ◌≤◌, ◌<◌}
 use native.Mathlib.Omega.{arith}
 use lib.ListN.{length, take, drop, set, length-append, length-drop}
 use lib.Seq.{take_all, drop-drop}
+use Rattle.std.specs.Int.{from_bool}
+use Rattle.std.specs.declared.option.Option as code
+use Rattle.std.specs.Prelude.{Some, None, Result, Ok, Err}
 use Rattle.objects.specs.Bounds.{max_places}
 use Rattle.objects.specs.Lists.{Bytes}
 use Rattle.objects.specs.declared.ObjKey.{ObjKey}
@@ -23,7 +26,7 @@ use Rattle.selection.specs.Results.{key_of, result_meant, second_of, missing_mea
 use Rattle.selection.specs.declared.Entity.{Entity}
 use Rattle.selection.specs.declared.LookupResult.{LookupResult}
 use Rattle.selection.specs.declared.Missing.{Missing}
-use Rattle.reply.specs.declared.Done.{Done}
+use Rattle.reply.specs.declared.Unsaid.{Unsaid}
 use Rattle.reply.specs.Done.{Does}
 use Rattle.reply.proofs.Saying.{said-as, too-long, fits_said}
 
@@ -53,9 +56,14 @@ second-part ns count = ap (take count) (drop-drop max_places 2 ns)
 key-line : (text : Bytes) (rows : Words) (k : ObjKey) → (member_at text rows k).key.0 ≡ k.0
 key-line text rows k = ap (λ (o : ObjKey). o.0) (member-key text rows k)
 
+-- std's number of a flag
+pub flag-bit : (b : Bool) → from_bool b ≡ bit b
+flag-bit false = refl
+flag-bit true = refl
+
 -- ---- the ways through the code
 
-module _ (before : Bytes) (text : Bytes) (rows : Words) {after : Bytes} {r : Done} where
+module _ (before : Bytes) (text : Bytes) (rows : Words) {after : Bytes} {r : Result ℕ Unsaid} where
   selected-said : {y x : Selected} {line : Bytes} → y ≡ x → selected_bytes x ≡ line → Does (say line) r before after
       → Does (say (answer_bytes (selected y))) r before after
   selected-said {y} e l d = said-as before (selected-line y ∙ ap selected_bytes e ∙ l) d
@@ -99,26 +107,26 @@ module _ (before first second : Bytes) {a b : ℕ} (p : a ≡ length first) (q :
   both-length : a + b ≡ length (first ++ second)
   both-length = omega (arith, p, q, length-append first second)
 
-  pub both_long : length before < a + b → Does (say (first ++ second)) (Done.Long (a + b)) before before
+  pub both_long : length before < a + b → Does (say (first ++ second)) (Err (Unsaid.Long (a + b))) before before
   both_long t = too-long before (first ++ second) both-length t
 
-  pub both-said : a + b ≤ length before → {mid after : Bytes} {at r : ℕ} → Wrote before 0 first mid at → Wrote mid at second after r → Does (say (first ++ second)) (Done.Said r) before after
+  pub both-said : a + b ≤ length before → {mid after : Bytes} {at r : ℕ} → Wrote before 0 first mid at → Wrote mid at second after r → Does (say (first ++ second)) (Ok r) before after
   both-said t v w = fits_said before (first ++ second) both-length t (then-wrote v w)
 
-module _ (before : Bytes) (text : Bytes) (rows : Words) {after : Bytes} {r : Done} where
-  module _ {s : Missing} where
-    pub satisfied-said : s ≡ Missing.Satisfied → Does (say (number_line (ascii "satisfied") [])) r before after
+module _ (before : Bytes) (text : Bytes) (rows : Words) {after : Bytes} {r : Result ℕ Unsaid} where
+  module _ {s : code.Option Missing} where
+    pub satisfied-said : s ≡ None → Does (say (number_line (ascii "satisfied") [])) r before after
         → Does (say (answer_bytes (lack_answer (missing_meant text rows s)))) r before after
     unfolding missing_meant
     satisfied-said e d = said-as before (ap (λ z. answer_bytes (lack_answer (missing_meant text rows z))) e ∙ satisfied-line) d
 
-    pub missing-said : {k : ObjKey} {w : Bool} {f : ℕ} → s ≡ Missing.Lacks k w → f ≡ bit w
-        → Does (say (number_line (ascii "missing") (k.0 ∷ f ∷ []))) r before after
+    pub missing-said : {m : Missing} {f : ℕ} → s ≡ Some m → f ≡ bit m.other_type
+        → Does (say (number_line (ascii "missing") (m.method.0 ∷ f ∷ []))) r before after
         → Does (say (answer_bytes (lack_answer (missing_meant text rows s)))) r before after
     unfolding missing_meant
-    missing-said {k} {w} {f} e ef d =
+    missing-said {m} {f} e ef d =
         said-as before
         (ap (λ z. answer_bytes (lack_answer (missing_meant text rows z))) e
-        ∙ missing-line (member_at text rows k) w
-        ∙ ap (λ n. number_line (ascii "missing") (n ∷ bit w ∷ [])) (key-line text rows k)
-        ∙ ap (λ n. number_line (ascii "missing") (k.0 ∷ n ∷ [])) (sym ef)) d
+        ∙ missing-line (member_at text rows m.method) m.other_type
+        ∙ ap (λ n. number_line (ascii "missing") (n ∷ bit m.other_type ∷ [])) (key-line text rows m.method)
+        ∙ ap (λ n. number_line (ascii "missing") (m.method.0 ∷ n ∷ [])) (sym ef)) d

@@ -6,6 +6,9 @@ use Prim.Native.Nat.{ℕ, ◌≤◌, ◌<◌}
 use native.Mathlib.Omega.{arith}
 use lib.ListN.{length}
 use borrow.Author.Tests.{lt-ltb, le-ltb}
+use Rattle.std.specs.Prelude.{Result, Ok, Err}
+use Rattle.objects.specs.declared.refusals.Refusal.{Refusal}
+use Rattle.objects.specs.Refusals.{reason_number}
 use Rattle.objects.specs.Lists.{Bytes}
 use Rattle.text.specs.Bytes.{ascii}
 use Rattle.rules.specs.Answer.{says, counts, answer_bytes}
@@ -13,28 +16,28 @@ use Rattle.rules.specs.Asked.{Outcome, refuse, say, fitted, written}
 use Rattle.print.specs.Written.{number_line, Wrote}
 use Rattle.print.proofs.WrittenLaws.{written-answer}
 use Rattle.print.proofs.Lines.{yes-line, no_line, ok-line}
-use Rattle.reply.specs.declared.Done.{Done}
-use Rattle.reply.specs.Done.{done_of, Does}
+use Rattle.reply.specs.declared.Unsaid.{Unsaid}
+use Rattle.reply.specs.Done.{Done, done_meant, done_of, Does}
 
 -- ---- refused or said
 
-pub does-refuse : {o : Outcome} {n line : ℕ} (buffer : Bytes) → o ≡ refuse n line → Does o (Done.Refused n line) buffer buffer
-unfolding done_of written
-does-refuse buffer e = record { told = sym (ap (done_of (length buffer)) e); answer = sym (ap (λ x. written (fitted (length buffer) x) buffer) e) }
+pub does-refuse : {o : Outcome} (r : Refusal) (buffer : Bytes) → o ≡ refuse (reason_number r.reason) r.line → Does o (Err (Unsaid.Refused r)) buffer buffer
+unfolding done_of done_meant written
+does-refuse r buffer e = record { told = sym (ap (done_of (length buffer)) e); answer = sym (ap (λ x. written (fitted (length buffer) x) buffer) e) }
 
 -- the same, in other words
-pub does-as : {o u : Outcome} {r : Done} {before after : Bytes} → o ≡ u → Does o r before after → Does u r before after
+pub does-as : {o u : Outcome} {r : Result ℕ Unsaid} {before after : Bytes} → o ≡ u → Does o r before after → Does u r before after
 does-as {r = r} {before = before} {after = after} e d = subst (λ z. Does z r before after) e d
 
 module _ (before bytes : Bytes) {size : ℕ} (p : size ≡ length bytes) where
-  pub too-long : length before < size → Does (say bytes) (Done.Long size) before before
-  unfolding done_of written
+  pub too-long : length before < size → Does (say bytes) (Err (Unsaid.Long size)) before before
+  unfolding done_of done_meant written
   too-long h =
       let k = lt-ltb (length before) (length bytes) (omega (arith, p, h)) in
       record { told = ap Done.Long p ∙ (rw k); answer = rw k }
 
-  pub fits_said : size ≤ length before → {after : Bytes} {r : ℕ} → Wrote before 0 bytes after r → Does (say bytes) (Done.Said r) before after
-  unfolding done_of written
+  pub fits_said : size ≤ length before → {after : Bytes} {r : ℕ} → Wrote before 0 bytes after r → Does (say bytes) (Ok r) before after
+  unfolding done_of done_meant written
   fits_said h {r = r} w =
       let room : length bytes ≤ length before = omega (arith, p, h) in
       let k = le-ltb (length before) (length bytes) room in
@@ -43,7 +46,7 @@ module _ (before bytes : Bytes) {size : ℕ} (p : size ≡ length bytes) where
 
 -- ---- the lines
 
-module _ (before : Bytes) {after : Bytes} {r : Done} where
+module _ (before : Bytes) {after : Bytes} {r : Result ℕ Unsaid} where
   pub said-as : {a b : Bytes} → a ≡ b → Does (say b) r before after → Does (say a) r before after
   said-as e d = does-as (ap say (sym e)) d
 

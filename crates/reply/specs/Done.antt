@@ -1,11 +1,24 @@
 -- What the code gives back for each outcome, and what it makes of the answer buffer.
-use Rattle.std.specs.Prelude.{◌≡◌, cond, ℕ, ◌<◌, ◌^◌, ltb, ℤ, pos, length}
+use Rattle.std.specs.Prelude.{Result, Ok, Err, ◌≡◌, cond, ℕ, ◌<◌, ◌^◌, ltb, ℤ, pos, length}
 use Rattle.objects.specs.Lists.{Bytes}
 use Rattle.objects.specs.Table.{Table}
 use Rattle.rules.specs.Question.{Question}
 use Rattle.rules.specs.Answer.{answer, answer_bytes}
 use Rattle.rules.specs.Asked.{Outcome, refuse, say, fitted, refusal, written}
-use Rattle.reply.specs.declared.Done.{Done}
+use Rattle.objects.specs.Refusals.{reason_number}
+use Rattle.reply.specs.declared.Unsaid.{Unsaid}
+
+-- what is given back: a refusal with its line, the length of the answer that stands in front of the buffer, or that of one for which it is too short
+pub data Done : Type 0 where
+  Refused : (n line : ℕ) → Done
+  Said : (n : ℕ) → Done
+  Long : (n : ℕ) → Done
+
+-- a refusal by the papers' number
+unfoldable pub done_meant : Result ℕ Unsaid → Done
+done_meant (Ok n) = Done.Said n
+done_meant (Err (Unsaid.Refused r)) = Done.Refused (reason_number r.reason) r.line
+done_meant (Err (Unsaid.Long n)) = Done.Long n
 
 -- the answer stands in front of the buffer, or is too long for it
 abbrev pub done_said : ℕ → ℕ → Done
@@ -16,8 +29,8 @@ done_of room (refuse n line) = Done.Refused n line
 done_of room (say bytes) = done_said room (length bytes)
 
 -- Of what is due, whatever the room: the code gave back r and left the buffer so.
-pub record Does (o : Outcome) (r : Done) (before after : Bytes) : Type 0 where
-  pub told : r ≡ done_of (length before) o
+pub record Does (o : Outcome) (r : Result ℕ Unsaid) (before after : Bytes) : Type 0 where
+  pub told : done_meant r ≡ done_of (length before) o
   pub answer : after ≡ written (fitted (length before) o) before
 
 -- the answer to a question
@@ -27,13 +40,13 @@ due T q = say (answer_bytes (answer T q))
 -- ---- the number of a call
 
 -- "the answer's length, or minus (refusal × 65,536 + line)"; an answer that is too long is 13
-unfoldable pub number_read : Done → ℤ
-number_read (Done.Refused n line) = refusal n line
-number_read (Done.Said n) = pos n
-number_read (Done.Long n) = refusal 13 0
+unfoldable pub number_read : Result ℕ Unsaid → ℤ
+number_read (Err (Unsaid.Refused r)) = refusal (reason_number r.reason) r.line
+number_read (Ok n) = pos n
+number_read (Err (Unsaid.Long n)) = refusal 13 0
 
 -- a length that an i64 holds
-unfoldable pub Fits : Done → Type 0
-Fits (Done.Refused n line) = Unit {0}
-Fits (Done.Said n) = n < 2 ^ 63
-Fits (Done.Long n) = Unit {0}
+unfoldable pub Fits : Result ℕ Unsaid → Type 0
+Fits (Err (Unsaid.Refused r)) = Unit {0}
+Fits (Ok n) = n < 2 ^ 63
+Fits (Err (Unsaid.Long n)) = Unit {0}

@@ -5,10 +5,23 @@ pub mod one_line; // a word and numbers
 pub mod selected; // a selection
 pub mod set_lines; // the lines of a method set
 
-// A refusal and its line, the length of the answer that stands in front of the buffer, or that of one for which it is too short.
-#[derive(Clone, Copy)]
-pub enum Done {
-    Refused(u32, u32),
-    Said(usize),
+ghost use Rattle.std.specs.Prelude.{◌≡◌};
+
+use objects::refusals::Refusal;
+
+// Why no answer stands in front of the buffer: a refusal, or an answer for which it is too short, with its length. What is said is told by its length.
+#[derive(Clone, Copy, PartialEq, Eq)]
+pub enum Unsaid {
+    Refused(Refusal),
     Long(usize),
+}
+
+impl From<Refusal> for Unsaid {
+    ghost use Rattle.reply.specs.declared.Unsaid.{Unsaid};
+
+    ghost from_gives = { λ r u. u ≡ Unsaid.Refused r };
+
+    fn from(refusal: Refusal) -> Unsaid {
+        Unsaid::Refused(refusal)
+    }
 }

@@ -2,7 +2,6 @@
 ghost use Rattle.std.specs.Prelude.{◌≡◌, [], ◌≤◌, length, take};
 ghost use Rattle.objects.specs.Lists.{Bytes};
 ghost use Rattle.objects.specs.Rows.{Words, package_count, type_count, member_count_of};
-ghost use Rattle.objects.specs.Table.{bit};
 ghost use Rattle.print.specs.Written.{max_word, max_fields, number_line};
 ghost use Rattle.rules.specs.Answer.{lack_answer, says, counts, answer_bytes};
 ghost use Rattle.rules.specs.Asked.{say};
@@ -10,78 +9,66 @@ ghost use Rattle.rules.specs.AskedAll.{refused_bytes};
 ghost use Rattle.selection.specs.Results.{missing_meant};
 ghost use Rattle.reply.specs.Done.{Does};
 
-use crate::Done;
+use crate::Unsaid;
 use objects::rows::{member_count, package_count, type_count};
 use print::{line_length, put_line};
 use selection::Missing;
 
 // The word and the first n numbers.
-pub fn say(answer: &mut [u8], word: &[u8], ns: &[u32], n: usize) -> Done
+pub fn say(answer: &mut [u8], word: &[u8], ns: &[u32], n: usize) -> Result<usize, Unsaid>
     requires { (length word.now ≤ max_word) × (n ≤ max_fields) × (n ≤ length ns.now) }
     ensures { Does (say (number_line word.now (take n ns.now))) result answer.old answer.new }
 {
     let size = line_length(word, ns, n);
     if answer.len() < size {
-        return Done::Long(size);
+        return Err(Unsaid::Long(size));
     }
     let end = put_line(answer, 0, word, ns, n);
-    Done::Said(end)
+    Ok(end)
 }
 
 // The word alone.
-pub fn say_word(answer: &mut [u8], word: &[u8]) -> Done
+pub fn say_word(answer: &mut [u8], word: &[u8]) -> Result<usize, Unsaid>
     requires { length word.now ≤ max_word }
     ensures { Does (say (number_line word.now [])) result answer.old answer.new }
 {
-    let none = [0u32; 1];
-    say(answer, word, &none, 0)
+    say(answer, word, &[], 0)
 }
 
 // A question that is refused, as one of many.
-pub fn say_refused(answer: &mut [u8], n: u32, line: u32) -> Done
+pub fn say_refused(answer: &mut [u8], n: u32, line: u32) -> Result<usize, Unsaid>
     ensures { Does (say (refused_bytes n line)) result answer.old answer.new }
 {
-    let numbers = [n, line];
-    say(answer, b"refused", &numbers, 2)
+    say(answer, b"refused", &[n, line], 2)
 }
 
 // I and C.
-pub fn say_truth(answer: &mut [u8], b: bool) -> Done
+pub fn say_truth(answer: &mut [u8], b: bool) -> Result<usize, Unsaid>
     ensures { Does (say (answer_bytes (says b))) result answer.old answer.new }
 {
     if b {
-        return say_word(answer, b"yes");
+        say_word(answer, b"yes")
+    } else {
+        say_word(answer, b"no")
     }
-    say_word(answer, b"no")
 }
 
 // V.
-pub fn say_counts(answer: &mut [u8], rows: &[u32]) -> Done
+pub fn say_counts(answer: &mut [u8], rows: &[u32]) -> Result<usize, Unsaid>
     ensures { Does (say (answer_bytes (counts (package_count rows.now) (type_count rows.now) (member_count_of rows.now)))) result answer.old answer.new }
 {
-    let mut numbers = [0u32; 3];
-    numbers[0] = package_count(rows);
-    numbers[1] = type_count(rows);
-    numbers[2] = member_count(rows);
+    let numbers = [package_count(rows), type_count(rows), member_count(rows)];
     say(answer, b"ok", &numbers, 3)
 }
 
-pub fn flag_number(b: bool) -> u32
-    ensures { result ≡ bit b }
-{
-    if b { 1 } else { 0 }
-}
-
 // N.
-pub fn say_missing(answer: &mut [u8], m: Missing) -> Done
+pub fn say_missing(answer: &mut [u8], m: Option<Missing>) -> Result<usize, Unsaid>
     ensures { (text : Bytes) (rows : Words) → Does (say (answer_bytes (lack_answer (missing_meant text rows m)))) result answer.old answer.new }
 {
     match m {
-        Missing::Satisfied => say_word(answer, b"satisfied"),
-        Missing::Lacks(k, w) => {
-            let mut numbers = [0u32; 2];
-            numbers[0] = k.0;
-            numbers[1] = flag_number(w);
+        None => say_word(answer, b"satisfied"),
+        Some(lack) => {
+            let numbers = [lack.method.0, u32::from(lack.other_type)];
             say(answer, b"missing", &numbers, 2)
         }
     }

@@ -6,7 +6,7 @@ ghost use Rattle.rules.specs.Asked.{say};
 ghost use Rattle.reply.specs.Done.{Does};
 ghost use Rattle.reply.specs.SetLines.{Says, Short, sel_line, sel_lines, set_lines};
 
-use crate::Done;
+use crate::Unsaid;
 use first_hits::FirstHit;
 use method_set::selection;
 use multiples::EmbeddedType;
@@ -53,18 +53,15 @@ fn total_length(
     walk: &[EmbeddedType],
     hits: &[FirstHit],
     names: &[u32],
-    n: usize,
     numbers: &mut [u32],
 ) -> usize
-    requires n_le_max_members { (n ≤ max_members) × (n ≤ length names.now) × (max_places + 2 ≤ length numbers.old) }
-    requires short { Short walk.now hits.now (take n names.now) }
-    ensures { (result ≡ length (sel_lines rows.now walk.now hits.now (take n names.now))) × (result ≤ max_members * max_line) }
+    requires names_le_max_members { (length names.now ≤ max_members) × (max_places + 2 ≤ length numbers.old) }
+    requires short { Short walk.now hits.now names.now }
+    ensures { (result ≡ length (sel_lines rows.now walk.now hits.now names.now)) × (result ≤ max_members * max_line) }
 {
     let mut total: usize = 0;
-    let mut i: usize = 0;
-    while i < n {
-        total += sel_length(rows, walk, hits, names[i], numbers);
-        i += 1;
+    for k in names {
+        total += sel_length(rows, walk, hits, *k, numbers);
     }
     total
 }
@@ -76,19 +73,16 @@ fn put_lines(
     walk: &[EmbeddedType],
     hits: &[FirstHit],
     names: &[u32],
-    n: usize,
     numbers: &mut [u32],
 ) -> usize
-    requires n_le_max_members { (n ≤ max_members) × (n ≤ length names.now) × (max_places + 2 ≤ length numbers.old) }
-    requires short { Short walk.now hits.now (take n names.now) }
-    requires names_in_bounds { at + length (sel_lines rows.now walk.now hits.now (take n names.now)) ≤ length answer.old }
-    ensures { Wrote answer.old at (sel_lines rows.now walk.now hits.now (take n names.now)) answer.new result }
+    requires names_le_max_members { (length names.now ≤ max_members) × (max_places + 2 ≤ length numbers.old) }
+    requires short { Short walk.now hits.now names.now }
+    requires names_in_bounds { at + length (sel_lines rows.now walk.now hits.now names.now) ≤ length answer.old }
+    ensures { Wrote answer.old at (sel_lines rows.now walk.now hits.now names.now) answer.new result }
 {
     let mut end = at;
-    let mut i: usize = 0;
-    while i < n {
-        end = put_sel(answer, end, rows, walk, hits, names[i], numbers);
-        i += 1;
+    for k in names {
+        end = put_sel(answer, end, rows, walk, hits, *k, numbers);
     }
     end
 }
@@ -101,21 +95,21 @@ pub fn say_set(
     hits: &[FirstHit],
     names: &[u32],
     n: usize,
-) -> Done
+) -> Result<usize, Unsaid>
     requires n_le_max_members { (n ≤ max_members) × (n ≤ length names.now) }
     requires short { Short walk.now hits.now (take n names.now) }
     ensures { Does (say (set_lines rows.now walk.now hits.now (take n names.now))) result answer.old answer.new }
 {
+    let set = &names[..n];
     let mut numbers = [0u32; MAX_PLACES + 2];
-    let mut count = [0u32; 1];
-    count[0] = n as u32;
+    let count = [set.len() as u32];
     let head = line_length(b"set", &count, 1);
-    let rest = total_length(rows, walk, hits, names, n, &mut numbers);
+    let rest = total_length(rows, walk, hits, set, &mut numbers);
     let size = head + rest;
     if answer.len() < size {
-        return Done::Long(size);
+        return Err(Unsaid::Long(size));
     }
     let at = put_line(answer, 0, b"set", &count, 1);
-    let end = put_lines(answer, at, rows, walk, hits, names, n, &mut numbers);
-    Done::Said(end)
+    let end = put_lines(answer, at, rows, walk, hits, set, &mut numbers);
+    Ok(end)
 }

@@ -3,7 +3,7 @@
 #![tactic(auto)]
 
 ghost use Rattle.std.specs.Prelude.{◌≡◌, ◌≤◌, length, replicate};
-ghost use Rattle.objects.specs.Bounds.{room_for, small_text, median_text, middle_text, long_text, work_words};
+ghost use Rattle.objects.specs.Bounds.{all_words, room_for, work_words};
 ghost use Rattle.rules.specs.Asked.{on_table, refusal, asked};
 ghost use Rattle.rules.specs.AskedAll.{asked_all};
 ghost use Rattle.edits.specs.Tidying.{tidied_call};
@@ -15,7 +15,7 @@ ghost use Rattle.replies.specs.Replies.{said_of, Ends};
 ghost use Rattle.yifgrun.specs.Gives.{Cleared, Gives, asked_by};
 ghost use Rattle.yifgrun.specs.Version.{version};
 
-use crate::tidying::{tidy_large, tidy_long};
+use crate::tidying::tidy_with;
 use objects::bounds::{
     ALL_WORDS, LONG_TEXT, LONG_WORDS, MEDIAN_TEXT, MEDIAN_WORDS, MIDDLE_TEXT, MIDDLE_WORDS,
     REFUSAL_UNIT, SMALL_TEXT, SMALL_WORDS, WORK_WORDS,
@@ -48,7 +48,6 @@ fn sign_for_many(table: &[u8], rows: &mut [u32], all: bool)
 {
     if all {
         sign_members(table, rows);
-        return;
     }
 }
 
@@ -75,79 +74,19 @@ fn decide_in(
     }
 }
 
-// The same with rows of its own, whose words are all cleared: as few as the length of the table allows.
-fn decide_small(
+// The same with rows of its own, whose words are all cleared: as few as the length of the table allows. The function of each size has a frame of its own.
+fn decide<const WORDS: usize>(
     table: &[u8],
     question: &[u8],
     answer: &mut [u8],
     work: &mut [u32],
     all: bool,
 ) -> Done
-    requires { Cleared work.old × (length table.now ≤ small_text) }
+    requires { Cleared work.old × (room_for (length table.now) ≤ WORDS) × (WORDS ≤ all_words) }
     ensures ends { Ends (on_table (said_of all question.now) (load table.now)) result answer.old answer.new }
     ensures work_unchanged { work.new ≡ work.old }
 {
-    let mut rows = [0u32; SMALL_WORDS];
-    decide_in(table, &mut rows, question, answer, work, all)
-}
-
-fn decide_median(
-    table: &[u8],
-    question: &[u8],
-    answer: &mut [u8],
-    work: &mut [u32],
-    all: bool,
-) -> Done
-    requires { Cleared work.old × (length table.now ≤ median_text) }
-    ensures ends { Ends (on_table (said_of all question.now) (load table.now)) result answer.old answer.new }
-    ensures work_unchanged { work.new ≡ work.old }
-{
-    let mut rows = [0u32; MEDIAN_WORDS];
-    decide_in(table, &mut rows, question, answer, work, all)
-}
-
-fn decide_middle(
-    table: &[u8],
-    question: &[u8],
-    answer: &mut [u8],
-    work: &mut [u32],
-    all: bool,
-) -> Done
-    requires { Cleared work.old × (length table.now ≤ middle_text) }
-    ensures ends { Ends (on_table (said_of all question.now) (load table.now)) result answer.old answer.new }
-    ensures work_unchanged { work.new ≡ work.old }
-{
-    let mut rows = [0u32; MIDDLE_WORDS];
-    decide_in(table, &mut rows, question, answer, work, all)
-}
-
-fn decide_long(
-    table: &[u8],
-    question: &[u8],
-    answer: &mut [u8],
-    work: &mut [u32],
-    all: bool,
-) -> Done
-    requires { Cleared work.old × (length table.now ≤ long_text) }
-    ensures ends { Ends (on_table (said_of all question.now) (load table.now)) result answer.old answer.new }
-    ensures work_unchanged { work.new ≡ work.old }
-{
-    let mut rows = [0u32; LONG_WORDS];
-    decide_in(table, &mut rows, question, answer, work, all)
-}
-
-fn decide_large(
-    table: &[u8],
-    question: &[u8],
-    answer: &mut [u8],
-    work: &mut [u32],
-    all: bool,
-) -> Done
-    requires { Cleared work.old }
-    ensures ends { Ends (on_table (said_of all question.now) (load table.now)) result answer.old answer.new }
-    ensures work_unchanged { work.new ≡ work.old }
-{
-    let mut rows = [0u32; ALL_WORDS];
+    let mut rows = [0u32; WORDS];
     decide_in(table, &mut rows, question, answer, work, all)
 }
 
@@ -155,7 +94,7 @@ fn decide_large(
 fn refusal(n: u32, line: u32) -> i64
     ensures { result ≡ refusal n line }
 {
-    0 - ((n as u64 * REFUSAL_UNIT + line as u64) as i64)
+    -((u64::from(n) * REFUSAL_UNIT + u64::from(line)) as i64)
 }
 
 // "the answer's length", or the number of the refusal
@@ -184,18 +123,18 @@ fn call(table: &[u8], question: &[u8], answer: &mut [u8], work: &mut [u32], all:
     }
     clear(work);
     if table.len() <= SMALL_TEXT {
-        return number(decide_small(table, question, answer, work, all));
+        return number(decide::<SMALL_WORDS>(table, question, answer, work, all));
     }
     if table.len() <= MEDIAN_TEXT {
-        return number(decide_median(table, question, answer, work, all));
+        return number(decide::<MEDIAN_WORDS>(table, question, answer, work, all));
     }
     if table.len() <= MIDDLE_TEXT {
-        return number(decide_middle(table, question, answer, work, all));
+        return number(decide::<MIDDLE_WORDS>(table, question, answer, work, all));
     }
     if table.len() <= LONG_TEXT {
-        return number(decide_long(table, question, answer, work, all));
+        return number(decide::<LONG_WORDS>(table, question, answer, work, all));
     }
-    number(decide_large(table, question, answer, work, all))
+    number(decide::<ALL_WORDS>(table, question, answer, work, all))
 }
 
 // A question line without its newline.
@@ -222,9 +161,9 @@ pub fn yifgrun_tidy(table: &[u8], output: &mut [u8], work: &mut [u32]) -> i64
     }
     clear(work);
     if table.len() <= LONG_TEXT {
-        return number(tidy_long(table, output));
+        return number(tidy_with::<LONG_WORDS>(table, output));
     }
-    number(tidy_large(table, output))
+    number(tidy_with::<ALL_WORDS>(table, output))
 }
 
 // The words of work area that a call needs: fewer are refusal 1.

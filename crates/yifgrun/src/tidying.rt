@@ -1,12 +1,11 @@
 // A table loaded into rows of the call's own and written out tidy.
 ghost use Rattle.std.specs.Prelude.{◌≡◌, ◌≤◌, length, replicate};
-ghost use Rattle.objects.specs.Bounds.{room_for, long_text};
+ghost use Rattle.objects.specs.Bounds.{all_words, room_for};
 ghost use Rattle.rules.specs.Asked.{on_table};
 ghost use Rattle.rules.specs.Load.{load};
 ghost use Rattle.edits.specs.Tidying.{says_tidied};
 ghost use Rattle.replies.specs.Replies.{Ends};
 
-use objects::bounds::{ALL_WORDS, LONG_WORDS};
 use reply::Done;
 use table::{Loading, load};
 use tidy::tidy;
@@ -22,18 +21,11 @@ fn tidy_in(table: &[u8], rows: &mut [u32], output: &mut [u8]) -> Done
     }
 }
 
-// The same with rows of its own: for the tables that most are, and for all.
-pub fn tidy_long(table: &[u8], output: &mut [u8]) -> Done
-    requires { length table.now ≤ long_text }
+// The same with rows of its own, as many words as the length of the table needs.
+pub fn tidy_with<const WORDS: usize>(table: &[u8], output: &mut [u8]) -> Done
+    requires { (room_for (length table.now) ≤ WORDS) × (WORDS ≤ all_words) }
     ensures { Ends (on_table says_tidied (load table.now)) result output.old output.new }
 {
-    let mut rows = [0u32; LONG_WORDS];
-    tidy_in(table, &mut rows, output)
-}
-
-pub fn tidy_large(table: &[u8], output: &mut [u8]) -> Done
-    ensures { Ends (on_table says_tidied (load table.now)) result output.old output.new }
-{
-    let mut rows = [0u32; ALL_WORDS];
+    let mut rows = [0u32; WORDS];
     tidy_in(table, &mut rows, output)
 }

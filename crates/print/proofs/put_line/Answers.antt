@@ -9,7 +9,7 @@ put_word-i-requires c = omega (arith, line-length c.args.word.now (take c.args.n
 
 pub put_fields-requires : goal.put_fields-requires
 put_fields-requires c =
-    (omega arith, omega (arith, line-length c.args.word.now (take c.args.n c.args.ns.now), c.put_word-i.ensures.past, wrote-length c.put_word-i.ensures))
+    omega (arith, line-length c.args.word.now (take c.args.n c.args.ns.now), c.put_word-i.ensures.past, wrote-length c.put_word-i.ensures)
 
 pub returns : goal.returns
 returns c = line_wrote _ _ c.put_word-i.ensures c.put_fields.ensures

@@ -5,10 +5,10 @@ use Rattle.question.proofs.RefLaws.{ref-on, ref-out}
 use Rattle.question.proofs.FormLaws.{reads_at, wrong-reads, c-reads, c-form}
 use Rattle.question.proofs.ask_c.Goals as goal
 
-pub returns-in_default : goal.returns-in_default
-returns-in_default c =
-    wrong-reads _ (c-form _ ∙ value_none (then-out _ _ _ (ref-out _ _ _ c.small.ensures c.in_default.is)))
+pub returns-in_err-t : goal.returns-in_err-t
+returns-in_err-t c =
+    rw c.from_residual.ensures (wrong-reads _ (c-form _ ∙ value_none (then-out _ _ _ (ref-out _ _ _ c.small.ensures c.in_err-t.was))))
 
 pub returns : goal.returns
 returns c =
-    reads_at (c-form _ ∙ value-is (then-on _ _ _ (ref-on _ _ _ c.small.ensures c.in-Value.is))) (c.ended.ensures _ _ (c-reads _ _))
+    reads_at (c-form _ ∙ value-is (then-on _ _ _ (ref-on _ _ _ c.small.ensures c.in_ok-t.was))) (c.ended.ensures _ _ (c-reads _ _))

@@ -1,9 +1,6 @@
 -- `question::ended` meets its contract.
-use Rattle.question.proofs.FormLaws.{ended-on, ended-out}
+use Rattle.question.proofs.FormLaws.{ended-reads}
 use Rattle.question.proofs.ended.Goals as goal
 
-pub returns-then-done : goal.returns-then-done
-returns-then-done c = λ line q h. ended-on line _ c.done.ensures q c.if-done.true h
-
-pub returns-else-done : goal.returns-else-done
-returns-else-done c = λ line q h. ended-out line _ c.done.ensures q c.if-done.false
+pub returns : goal.returns
+returns c = λ line q h. ended-reads line _ c.done.ensures q _ c.then_some.ensures h

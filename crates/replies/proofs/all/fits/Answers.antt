@@ -38,15 +38,15 @@ returns-in_default c =
 
 pub slice_bounds-line-count : goal.slice_bounds-line-count
 slice_bounds-line-count c =
-    let w = inside (table_of c.args.text.now c.args.rows.now) _ c.next_question.ensures c.in-Is.is in w.0
+    let w = inside (table_of c.args.text.now c.args.rows.now) _ c.next_question.ensures c.in-Some.is in w.0
 
 pub slice_bounds-line-start : goal.slice_bounds-line-start
 slice_bounds-line-start c =
-    let w = inside (table_of c.args.text.now c.args.rows.now) _ c.next_question.ensures c.in-Is.is in omega (arith, w.0, w.1)
+    let w = inside (table_of c.args.text.now c.args.rows.now) _ c.next_question.ensures c.in-Some.is in omega (arith, w.0, w.1)
 
 pub slice_bounds-line-end : goal.slice_bounds-line-end
 slice_bounds-line-end c =
-    let w = inside (table_of c.args.text.now c.args.rows.now) _ c.next_question.ensures c.in-Is.is in omega (arith, w.0, w.1)
+    let w = inside (table_of c.args.text.now c.args.rows.now) _ c.next_question.ensures c.in-Some.is in omega (arith, w.0, w.1)
 
 pub reply_length-n-requires : goal.reply_length-n-requires
 reply_length-n-requires c =
@@ -68,19 +68,19 @@ pub returns-then-left-n : goal.returns-then-left-n
 unfolding part
 returns-then-left-n c =
     let T = table_of c.args.text.now c.args.rows.now in
-    let next = due-next T _ c.next_question.ensures c.in-Is.is in
+    let next = due-next T _ c.next_question.ensures c.in-Some.is in
     record { value = sym (lt-leb (length (flat (reply_bytes T) (question_lines c.args.questions.now))) c.args.room (omega (arith, c.loop-end.invariant.6, next, c.reply_length-n.ensures.value, c.if-left-n.true))); marks_unchanged = c.reply_length-n.ensures.marks_unchanged ∙ c.loop-end.invariant.0; lent = c.reply_length-n.ensures.lent }
 
 pub loop-end-smaller : goal.loop-end-smaller
 loop-end-smaller c =
-    let w = inside (table_of c.args.text.now c.args.rows.now) _ c.next_question.ensures c.in-Is.is in omega (arith, w.2, w.3)
+    let w = inside (table_of c.args.text.now c.args.rows.now) _ c.next_question.ensures c.in-Some.is in omega (arith, w.2, w.3)
 
 pub loop-end-preserved : goal.loop-end-preserved
 unfolding part
 loop-end-preserved c =
     let T = table_of c.args.text.now c.args.rows.now in
-    let next = due-next T _ c.next_question.ensures c.in-Is.is in
-    let w = inside T _ c.next_question.ensures c.in-Is.is in (
+    let next = due-next T _ c.next_question.ensures c.in-Some.is in
+    let w = inside T _ c.next_question.ensures c.in-Some.is in (
       c.reply_length-n.ensures.marks_unchanged ∙ c.loop-end.invariant.0,
       c.reply_length-n.auto.walk ∙ c.loop-end.invariant.1,
       c.reply_length-n.auto.hits ∙ c.loop-end.invariant.2,

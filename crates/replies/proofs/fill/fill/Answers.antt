@@ -39,15 +39,15 @@ returns-in_default c =
 
 pub slice_bounds-line-count : goal.slice_bounds-line-count
 slice_bounds-line-count c =
-    let w = within _ _ _ c.loop-end.invariant.5 c.next_question.ensures c.in-Is.is in omega (arith, w.0, w.1)
+    let w = within _ _ _ c.loop-end.invariant.5 c.next_question.ensures c.in-Some.is in omega (arith, w.0, w.1)
 
 pub slice_bounds-line-start : goal.slice_bounds-line-start
 slice_bounds-line-start c =
-    let w = within _ _ _ c.loop-end.invariant.5 c.next_question.ensures c.in-Is.is in omega (arith, w.0, w.1)
+    let w = within _ _ _ c.loop-end.invariant.5 c.next_question.ensures c.in-Some.is in omega (arith, w.0, w.1)
 
 pub slice_bounds-line-end : goal.slice_bounds-line-end
 slice_bounds-line-end c =
-    let w = within _ _ _ c.loop-end.invariant.5 c.next_question.ensures c.in-Is.is in omega (arith, w.0, w.1)
+    let w = within _ _ _ c.loop-end.invariant.5 c.next_question.ensures c.in-Some.is in omega (arith, w.0, w.1)
 
 pub slice_bounds-reply-count : goal.slice_bounds-reply-count
 slice_bounds-reply-count c = omega (arith, c.loop-end.invariant.5.room, out-length _ _ _ c.loop-end.invariant.5)
@@ -66,12 +66,12 @@ pub overflow_add-n : goal.overflow_add-n
 unfolding part
 overflow_add-n c =
     let said = said-is c.reply.ensures.does c.in-Said.is in
-    let next = filled_next _ _ c.args.out.now c.loop-end.invariant.5 c.next_question.ensures c.in-Is.is said.0 said.1 said.2 in
+    let next = filled_next _ _ c.args.out.now c.loop-end.invariant.5 c.next_question.ensures c.in-Some.is said.0 said.1 said.2 in
     record { fits = below next.room (omega arith) }
 
 pub loop-end-smaller : goal.loop-end-smaller
 loop-end-smaller c =
-    let w = within _ _ _ c.loop-end.invariant.5 c.next_question.ensures c.in-Is.is in omega (arith, w.2, w.3)
+    let w = within _ _ _ c.loop-end.invariant.5 c.next_question.ensures c.in-Some.is in omega (arith, w.2, w.3)
 
 pub loop-end-preserved : goal.loop-end-preserved
 unfolding part
@@ -82,7 +82,7 @@ loop-end-preserved c =
       c.reply.auto.hits ∙ c.loop-end.invariant.2,
       c.reply.auto.words ∙ c.loop-end.invariant.3,
       c.reply.ensures.lent,
-      filled_next _ _ _ c.loop-end.invariant.5 c.next_question.ensures c.in-Is.is said.0 said.1 said.2,
+      filled_next _ _ _ c.loop-end.invariant.5 c.next_question.ensures c.in-Some.is said.0 said.1 said.2,
     )
 
 pub shape_of-marks-in-Refused : goal.shape_of-marks-in-Refused
@@ -124,4 +124,4 @@ pub returns-in-Long : goal.returns-in-Long
 unfolding part
 returns-in-Long c =
     let long = long-is c.reply.ensures.does c.in-Long.is in
-    record { fills = record { filling = filling-kept _ _ _ c.loop-end.invariant.5 long.2; full = full-next _ _ _ c.loop-end.invariant.5 c.next_question.ensures c.in-Is.is long.1 }; marks_unchanged = c.reply.ensures.marks_unchanged ∙ c.loop-end.invariant.0; lent = c.reply.ensures.lent }
+    record { fills = record { filling = filling-kept _ _ _ c.loop-end.invariant.5 long.2; full = full-next _ _ _ c.loop-end.invariant.5 c.next_question.ensures c.in-Some.is long.1 }; marks_unchanged = c.reply.ensures.marks_unchanged ∙ c.loop-end.invariant.0; lent = c.reply.ensures.lent }

@@ -1,9 +1,10 @@
 -- `say_missing` meets its contract.
-use Rattle.reply.proofs.Members.{satisfied-said, missing-said}
+use mathlib.Core.Path.{◌∙◌}
+use Rattle.reply.proofs.Members.{satisfied-said, missing-said, flag-bit}
 use Rattle.reply.proofs.one_line.say_missing.Goals as goal
 
-pub returns-in-Satisfied : goal.returns-in-Satisfied
-returns-in-Satisfied c = λ text rows. satisfied-said _ text rows c.in-Satisfied.is c.say_word.ensures
+pub returns-in-None : goal.returns-in-None
+returns-in-None c = λ text rows. satisfied-said _ text rows c.in-None.is c.say_word.ensures
 
-pub returns-in-Lacks : goal.returns-in-Lacks
-returns-in-Lacks c = λ text rows. missing-said _ text rows c.in-Lacks.is c.flag_number.ensures c.say.ensures
+pub returns-in-Some : goal.returns-in-Some
+returns-in-Some c = λ text rows. missing-said _ text rows c.in-Some.is (c.from.ensures ∙ flag-bit _) c.say.ensures

@@ -5,5 +5,5 @@ use Rattle.reply.proofs.one_line.say_truth.Goals as goal
 pub returns-then-b : goal.returns-then-b
 returns-then-b c = yes-said _ c.if-b.true c.say_word.ensures
 
-pub returns : goal.returns
-returns c = no-said _ c.if-b.false c.say_word-2.ensures
+pub returns-else-b : goal.returns-else-b
+returns-else-b c = no-said _ c.if-b.false c.say_word-else-b.ensures

@@ -1,7 +1,8 @@
 -- `say_selected` meets its contract: one line for each case of a selection, two for an ambiguous one.
+use mathlib.Core.Path.{◌∙◌}
 use native.Mathlib.Omega.{arith}
 use lib.ListN.{length-set}
-use Rattle.reply.proofs.Members.{first_in, second_in, notfound-said, badreceiver-said, ambiguous-said, entry-said}
+use Rattle.reply.proofs.Members.{first_in, second_in, notfound-said, badreceiver-said, ambiguous-said, entry-said, flag-bit}
 use Rattle.reply.proofs.selected.say_selected.Goals as goal
 
 pub bounds-numbers-1 : goal.bounds-numbers-1
@@ -12,7 +13,7 @@ say-requires c = (omega arith, omega arith, simp length-set (omega arith))
 
 pub returns-in-Entry : goal.returns-in-Entry
 returns-in-Entry c =
-    λ text rows. entry-said _ text rows c.args.numbers.now c.args.s.count c.in-Entry.is c.number_of.ensures c.flag_number.ensures (omega arith) c.say.ensures
+    λ text rows. entry-said _ text rows c.args.numbers.now c.args.s.count c.in-Entry.is c.number_of.ensures (c.from.ensures ∙ flag-bit _) (omega arith) c.say.ensures
 
 pub returns-in-Ambiguous : goal.returns-in-Ambiguous
 returns-in-Ambiguous c =

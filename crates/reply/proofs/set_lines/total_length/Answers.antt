@@ -6,16 +6,15 @@ use Rattle.reply.proofs.set_lines.total_length.Goals as goal
 
 pub sel_length-total-requires : goal.sel_length-total-requires
 sel_length-total-requires c =
-    (short-at c.args.rows.now c.args.walk.now c.args.hits.now c.args.names.now c.args.n c.loop-i.i (omega arith) c.loop-i-test.true c.requires.short, omega arith)
+    (short-at c.args.rows.now c.args.walk.now c.args.hits.now c.args.names.now c.loop-k.k-index c.loop-k-test.true c.requires.short, omega arith)
 
-pub loop-i-preserved : goal.loop-i-preserved
-loop-i-preserved c = (
-  omega (arith, c.loop-i.invariant.0, next-length c.args.rows.now c.args.walk.now c.args.hits.now c.args.names.now c.args.n c.loop-i.i (omega arith) c.loop-i-test.true, c.sel_length-total.ensures.0),
+pub loop-k-preserved : goal.loop-k-preserved
+loop-k-preserved c = (
+  omega (arith, c.loop-k.invariant.0, next-length c.args.rows.now c.args.walk.now c.args.hits.now c.args.names.now c.loop-k.k-index c.loop-k-test.true, c.sel_length-total.ensures.0),
   omega arith,
-  omega arith,
-  c.sel_length-total.auto.numbers ∙ c.loop-i.invariant.3,
+  c.sel_length-total.auto.numbers ∙ c.loop-k.invariant.2,
 )
 
 pub returns : goal.returns
 returns c =
-    (omega (arith, c.loop-i.invariant.0, end-length c.args.rows.now c.args.walk.now c.args.hits.now c.args.names.now c.args.n c.loop-i.i c.loop-i-test.false), omega arith)
+    (omega (arith, c.loop-k.invariant.0, end-length c.args.rows.now c.args.walk.now c.args.hits.now c.args.names.now c.loop-k.k-index c.loop-k-test.false), omega arith)

@@ -1,7 +1,0 @@
--- `question::has_type` meets its contract.
-use mathlib.Core.Path.{ap}
-use lib.Dec.{ltb}
-use Rattle.question.proofs.has_type.Goals as goal
-
-pub returns : goal.returns
-returns c = ap (ltb (c.args.t.0)) c.type_count.ensures
