@@ -6,9 +6,11 @@ use mathlib.Core.Option.{Option, some}
 use Prim.Native.Nat.{ℕ, suc, ◌-◌, ◌≤◌, ◌<◌}
 use native.Mathlib.Omega.{arith}
 use lib.ListN.{length, take, drop, drop_of_length-le, length-take, length-drop}
+use Rattle.std.specs.declared.option.Option as code
+use Rattle.std.specs.Prelude.{Some, None, Result, Err}
+use Rattle.objects.specs.declared.refusals.Reason.{Reason}
 use Rattle.objects.specs.Lists.{Bytes, flat}
 use Rattle.objects.specs.declared.TypeKey.{TypeKey}
-use Rattle.objects.specs.declared.«Package».{«Package»}
 use Rattle.objects.specs.declared.PackageKey.{PackageKey}
 use Rattle.objects.specs.Rows.{Words, type_count, package_count, member_count_of, package_meant, bytes_at, table_of}
 use Rattle.objects.specs.Table.{size, member_count, has_package}
@@ -38,7 +40,7 @@ use Rattle.walk_rows.specs.State.{Wide}
 use Rattle.levels.specs.Hits.{Scratch}
 use Rattle.first_hits.specs.Hits.{FirstHit, Rooms, Held}
 use Rattle.method_set.specs.Sets.{sel_at, sel_numbers, SetHeld}
-use Rattle.reply.specs.declared.Done.{Done}
+use Rattle.reply.specs.declared.Unsaid.{Unsaid}
 use Rattle.reply.specs.Done.{Does, due}
 use Rattle.reply.specs.SetLines.{sel_line, sel_lines, set_lines}
 use Rattle.reply.proofs.Saying.{does-refuse, does-as, said-as}
@@ -121,7 +123,7 @@ module _ (numbers : Words) {rows : Words} {walk : List Record} (h : Scratch rows
 
 -- ---- letter by letter
 
-module _ (text : Bytes) (rows : Words) (before : Bytes) {after : Bytes} {r : Done} where
+module _ (text : Bytes) (rows : Words) (before : Bytes) {after : Bytes} {r : Result ℕ Unsaid} where
   due-said : (q : Question) {bytes : Bytes} → answer_bytes (answer (table_of text rows) q) ≡ bytes → Does (say bytes) r before after → Does (due (table_of text rows) q) r before after
   unfolding due
   due-said q e d = said-as before e d
@@ -133,7 +135,7 @@ module _ (text : Bytes) (rows : Words) (before : Bytes) {after : Bytes} {r : Don
   unfolding answer name_meant asked_id
   s-due names q t a numbers h d = due-said (ask_s t a (package_meant q.pkg) (bytes_at names q.at q.len)) (ap (λ x. answer_bytes (selected x)) (sym h.says)) d
 
-  pub n-due : (t i : TypeKey) (s : Bool) (m : Missing) → missing_meant text rows m ≡ missing (table_of text rows) t i s
+  pub n-due : (t i : TypeKey) (s : Bool) (m : code.Option Missing) → missing_meant text rows m ≡ missing (table_of text rows) t i s
       → Does (say (answer_bytes (lack_answer (missing_meant text rows m)))) r before after → Does (due (table_of text rows) (ask_n t i s)) r before after
   unfolding answer
   n-due t i s m e d = due-said (ask_n t i s) (ap (λ (x : Option Lack). answer_bytes (lack_answer x)) (sym e)) d
@@ -164,75 +166,75 @@ module _ (text : Bytes) (rows : Words) (before : Bytes) {after : Bytes} {r : Don
 -- ---- what the line asks
 
 -- 11
-pub wrong-form : (text : Bytes) (rows : Words) (line before : Bytes) {a : Ask} → Reads line a (question_of (table_of text rows) line) → a ≡ Ask.Wrong
-    → Does (replied line (table_of text rows)) (Done.Refused 11 0) before before
+pub wrong-form : (text : Bytes) (rows : Words) (line before : Bytes) {a : code.Option Ask} → Reads line a (question_of (table_of text rows) line) → a ≡ None
+    → Does (replied line (table_of text rows)) (Err (Unsaid.Refused (record { reason = Reason.Question; line = 0 }))) before before
 unfolding asks_meant
-wrong-form text rows line before h e = does-refuse before (ap (replied_to (table_of text rows)) (sym h.meant ∙ ap (asks_meant line) e))
+wrong-form text rows line before h e = does-refuse (record { reason = Reason.Question; line = 0 }) before (ap (replied_to (table_of text rows)) (sym h.meant ∙ ap (asks_meant line) e))
 
-module _ (text : Bytes) (rows : Words) (line before : Bytes) {a : Ask} (h : Reads line a (question_of (table_of text rows) line)) where
+module _ (text : Bytes) (rows : Words) (line before : Bytes) {a : code.Option Ask} (h : Reads line a (question_of (table_of text rows) line)) where
   -- a question that 12 does not refuse
-  due-answered : {q : Question} {after : Bytes} {r : Done} → asks_meant line a ≡ some q → wrong_second (table_of text rows) q ≡ false
+  due-answered : {q : Question} {after : Bytes} {r : Result ℕ Unsaid} → asks_meant line a ≡ some q → wrong_second (table_of text rows) q ≡ false
       → Does (due (table_of text rows) q) r before after → Does (replied line (table_of text rows)) r before after
   unfolding due
   due-answered {q} m w d = does-as (sym (ap (replied_to (table_of text rows)) (sym h.meant ∙ m) ∙ (rw w))) d
 
-  module _ {after : Bytes} {r : Done} where
-    pub s-answered : {t : TypeKey} {b : Bool} {pkg : «Package»} {at len : ℕ} → a ≡ Ask.S t b pkg at len → Does (due (table_of text rows) (ask_s t b (package_meant pkg) (bytes_at line at len))) r before after
+  module _ {after : Bytes} {r : Result ℕ Unsaid} where
+    pub s-answered : {t : TypeKey} {b : Bool} {pkg : code.Option PackageKey} {at len : ℕ} → a ≡ Some (Ask.S t b pkg at len) → Does (due (table_of text rows) (ask_s t b (package_meant pkg) (bytes_at line at len))) r before after
         → Does (replied line (table_of text rows)) r before after
     unfolding asks_meant
     s-answered e d = due-answered (ap (asks_meant line) e) refl d
 
-    pub m-answered : {t : TypeKey} → a ≡ Ask.M t → Does (due (table_of text rows) (ask_m t)) r before after
+    pub m-answered : {t : TypeKey} → a ≡ Some (Ask.M t) → Does (due (table_of text rows) (ask_m t)) r before after
         → Does (replied line (table_of text rows)) r before after
     unfolding asks_meant
     m-answered e d = due-answered (ap (asks_meant line) e) refl d
 
-    pub i-answered : {x y : TypeKey} → a ≡ Ask.I x y → Does (due (table_of text rows) (ask_i x y)) r before after
+    pub i-answered : {x y : TypeKey} → a ≡ Some (Ask.I x y) → Does (due (table_of text rows) (ask_i x y)) r before after
         → Does (replied line (table_of text rows)) r before after
     unfolding asks_meant
     i-answered e d = due-answered (ap (asks_meant line) e) refl d
 
-    pub c-answered : {t : TypeKey} → a ≡ Ask.C t → Does (due (table_of text rows) (ask_c t)) r before after
+    pub c-answered : {t : TypeKey} → a ≡ Some (Ask.C t) → Does (due (table_of text rows) (ask_c t)) r before after
         → Does (replied line (table_of text rows)) r before after
     unfolding asks_meant
     c-answered e d = due-answered (ap (asks_meant line) e) refl d
 
-    pub v-answered : a ≡ Ask.V → Does (due (table_of text rows) ask_v) r before after
+    pub v-answered : a ≡ Some Ask.V → Does (due (table_of text rows) ask_v) r before after
         → Does (replied line (table_of text rows)) r before after
     unfolding asks_meant
     v-answered e d = due-answered (ap (asks_meant line) e) refl d
 
   -- 12
-  module _ {t i : TypeKey} {s w : Bool} (e : a ≡ Ask.N t i s) (p : (text line : Bytes) (q : Question) → asks_meant line (Ask.N t i s) ≡ some q → w ≡ wrong_second (table_of text rows) q) where
+  module _ {t i : TypeKey} {s w : Bool} {b : code.Option Ask} (e : a ≡ Some (Ask.N t i s)) (f : b ≡ Some (Ask.N t i s)) (p : (text line : Bytes) (q : Question) → asks_meant line b ≡ some q → w ≡ wrong_second (table_of text rows) q) where
     n-meant : asks_meant line a ≡ some (ask_n t i s)
     unfolding asks_meant
     n-meant = ap (asks_meant line) e
 
     n-second : wrong_second (table_of text rows) (ask_n t i s) ≡ w
     unfolding asks_meant
-    n-second = sym (p text line (ask_n t i s) refl)
+    n-second = sym (p text line (ask_n t i s) (ap (asks_meant line) f))
 
-    pub n-refused : w ≡ true → Does (replied line (table_of text rows)) (Done.Refused 12 0) before before
+    pub n-refused : w ≡ true → Does (replied line (table_of text rows)) (Err (Unsaid.Refused (record { reason = Reason.SecondType; line = 0 }))) before before
     n-refused x =
         let z : wrong_second (table_of text rows) (ask_n t i s) ≡ true = n-second ∙ x in
-        does-refuse before (ap (replied_to (table_of text rows)) (sym h.meant ∙ n-meant) ∙ (rw z))
+        does-refuse (record { reason = Reason.SecondType; line = 0 }) before (ap (replied_to (table_of text rows)) (sym h.meant ∙ n-meant) ∙ (rw z))
 
-    pub n-answered : w ≡ false → {after : Bytes} {r : Done} → Does (due (table_of text rows) (ask_n t i s)) r before after
+    pub n-answered : w ≡ false → {after : Bytes} {r : Result ℕ Unsaid} → Does (due (table_of text rows) (ask_n t i s)) r before after
         → Does (replied line (table_of text rows)) r before after
     n-answered x d = due-answered n-meant (n-second ∙ x) d
 
 -- ---- what the question is
 
-module _ {line : Bytes} {a : Ask} {o : Option Question} (h : Reads line a o) where
-  pub is-s : {t : TypeKey} {b : Bool} {pkg : «Package»} {at len : ℕ} → a ≡ Ask.S t b pkg at len → o ≡ some (ask_s t b (package_meant pkg) (bytes_at line at len))
+module _ {line : Bytes} {a : code.Option Ask} {o : Option Question} (h : Reads line a o) where
+  pub is-s : {t : TypeKey} {b : Bool} {pkg : code.Option PackageKey} {at len : ℕ} → a ≡ Some (Ask.S t b pkg at len) → o ≡ some (ask_s t b (package_meant pkg) (bytes_at line at len))
   unfolding asks_meant
   is-s e = sym h.meant ∙ ap (asks_meant line) e
 
-  pub is_m : {t : TypeKey} → a ≡ Ask.M t → o ≡ some (ask_m t)
+  pub is_m : {t : TypeKey} → a ≡ Some (Ask.M t) → o ≡ some (ask_m t)
   unfolding asks_meant
   is_m e = sym h.meant ∙ ap (asks_meant line) e
 
-  pub is-n : {t i : TypeKey} {s : Bool} → a ≡ Ask.N t i s → o ≡ some (ask_n t i s)
+  pub is-n : {t i : TypeKey} {s : Bool} → a ≡ Some (Ask.N t i s) → o ≡ some (ask_n t i s)
   unfolding asks_meant
   is-n e = sym h.meant ∙ ap (asks_meant line) e
 
@@ -250,27 +252,24 @@ module _ {rows : Words} {walk : List Record} {hits : List FirstHit} where
 
 -- ---- the numbers are the table's
 
-module _ (rows : Words) {a : Ask} (k : Known rows a) where
-  pub s-known : (text : Bytes) {t : TypeKey} {b : Bool} {pkg : «Package»} {at len : ℕ} → a ≡ Ask.S t b pkg at len
+module _ (rows : Words) {a : code.Option Ask} (k : Known rows a) where
+  pub s-known : (text : Bytes) {t : TypeKey} {b : Bool} {pkg : code.Option PackageKey} {at len : ℕ} → a ≡ Some (Ask.S t b pkg at len)
       → (t.0 < type_count rows) × (has_package (table_of text rows) (package_meant pkg) ≡ true)
   unfolding Known
   s-known text {pkg = pkg} e = let s = subst (Known rows) e k in (s.0, package-has text rows pkg ∙ s.1)
 
-  pub m-known : {t : TypeKey} → a ≡ Ask.M t → t.0 < type_count rows
+  pub m-known : {t : TypeKey} → a ≡ Some (Ask.M t) → t.0 < type_count rows
   unfolding Known
   m-known e = subst (Known rows) e k
 
-  pub n-known-ask : {t i : TypeKey} {s : Bool} → a ≡ Ask.N t i s → Known rows (Ask.N t i s)
-  n-known-ask e = subst (Known rows) e k
-
-  pub n-known : {t i : TypeKey} {s : Bool} → a ≡ Ask.N t i s → (t.0 < type_count rows) × (i.0 < type_count rows)
+  pub n-known : {t i : TypeKey} {s : Bool} → a ≡ Some (Ask.N t i s) → (t.0 < type_count rows) × (i.0 < type_count rows)
   unfolding Known
   n-known e = subst (Known rows) e k
 
-  pub i-known : {x y : TypeKey} → a ≡ Ask.I x y → (x.0 < type_count rows) × (y.0 < type_count rows)
+  pub i-known : {x y : TypeKey} → a ≡ Some (Ask.I x y) → (x.0 < type_count rows) × (y.0 < type_count rows)
   unfolding Known
   i-known e = subst (Known rows) e k
 
-  pub c-known : {t : TypeKey} → a ≡ Ask.C t → t.0 < type_count rows
+  pub c-known : {t : TypeKey} → a ≡ Some (Ask.C t) → t.0 < type_count rows
   unfolding Known
   c-known e = subst (Known rows) e k

@@ -18,7 +18,7 @@ use lookup::lookup_field_or_method;
 use lookup::missing::missing_method;
 use multiples::EmbeddedType;
 use objects::TypeKey;
-use reply::Done;
+use reply::Unsaid;
 use reply::one_line::{say_counts, say_missing, say_truth};
 use reply::selected::say_selected;
 use reply::set_lines::say_set;
@@ -69,7 +69,7 @@ pub fn ask_s(
     answer: &mut [u8],
     q: Name,
     x: Operand,
-) -> Done
+) -> Result<usize, Unsaid>
     requires library { Library text.now rows.now }
     requires typ_bound { (x.typ.0 < type_count rows.now) × (has_package (table_of text.now rows.now) (package_meant q.pkg) ≡ true) × Searches rows.now walk.old words.old }
     ensures does { Does (due (table_of text.now rows.now) (ask_s x.typ x.addressable (package_meant q.pkg) (bytes_at line.now q.at q.len))) result answer.old answer.new }
@@ -88,7 +88,7 @@ pub fn ask_m(
     words: &mut [u32],
     answer: &mut [u8],
     t: TypeKey,
-) -> Done
+) -> Result<usize, Unsaid>
     requires library { Library text.now rows.now }
     requires t_bound { (t.0 < type_count rows.now) × Lists rows.now walk.old hits.old words.old }
     ensures does { Does (due (table_of text.now rows.now) (ask_m t)) result answer.old answer.new }
@@ -106,7 +106,7 @@ pub fn ask_n(
     words: &mut [u32],
     answer: &mut [u8],
     x: Implements,
-) -> Done
+) -> Result<usize, Unsaid>
     requires library { Library text.now rows.now }
     requires typ_bound { (x.typ.0 < type_count rows.now) × (x.iface.0 < type_count rows.now) × (mark_words ≤ length marks.old) × Searches rows.now walk.old words.old }
     requires marks_value { marks.old ≡ replicate (length marks.old) 0 }
@@ -127,7 +127,7 @@ pub fn ask_i(
     answer: &mut [u8],
     x: TypeKey,
     y: TypeKey,
-) -> Done
+) -> Result<usize, Unsaid>
     requires library { Library text.now rows.now }
     requires x_bound { (x.0 < type_count rows.now) × (y.0 < type_count rows.now) × (mark_words ≤ length marks.old) }
     requires marks_value { marks.old ≡ replicate (length marks.old) 0 }
@@ -138,7 +138,13 @@ pub fn ask_i(
     say_truth(answer, b)
 }
 
-pub fn ask_c(text: &[u8], rows: &[u32], marks: &mut [u32], answer: &mut [u8], t: TypeKey) -> Done
+pub fn ask_c(
+    text: &[u8],
+    rows: &[u32],
+    marks: &mut [u32],
+    answer: &mut [u8],
+    t: TypeKey,
+) -> Result<usize, Unsaid>
     requires library { Library text.now rows.now }
     requires t_bound { (t.0 < type_count rows.now) × (mark_words ≤ length marks.old) }
     requires marks_value { marks.old ≡ replicate (length marks.old) 0 }
@@ -149,7 +155,7 @@ pub fn ask_c(text: &[u8], rows: &[u32], marks: &mut [u32], answer: &mut [u8], t:
     say_truth(answer, b)
 }
 
-pub fn ask_v(text: &[u8], rows: &[u32], answer: &mut [u8]) -> Done
+pub fn ask_v(text: &[u8], rows: &[u32], answer: &mut [u8]) -> Result<usize, Unsaid>
     ensures { Does (due (table_of text.now rows.now) ask_v) result answer.old answer.new }
 {
     say_counts(answer, rows)

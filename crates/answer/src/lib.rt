@@ -18,8 +18,9 @@ use crate::asks::{Implements, Operand, ask_c, ask_i, ask_m, ask_n, ask_s, ask_v}
 use first_hits::FirstHit;
 use multiples::EmbeddedType;
 use objects::bounds::MAX_PLACES;
+use objects::refusals::{Reason, Refusal};
 use question::{Ask, question, wrong_second};
-use reply::Done;
+use reply::Unsaid;
 use selection::Name;
 
 // The words that a search is lent: the places of two ways, behind two that are left free for the answer.
@@ -37,10 +38,13 @@ pub enum Need {
 pub fn lent_for(rows: &[u32], line: &[u8]) -> Need
     ensures { (text : Bytes) → result ≡ need_of (question_of (table_of text rows.now) line.now) }
 {
-    match question(rows, line) {
+    let Some(asked) = question(rows, line) else {
+        return Need::Nothing;
+    };
+    match asked {
         Ask::S(..) | Ask::N(..) => Need::Walk,
         Ask::M(_) => Need::Set,
-        Ask::I(..) | Ask::C(_) | Ask::V | Ask::Wrong => Need::Nothing,
+        Ask::I(..) | Ask::C(_) | Ask::V => Need::Nothing,
     }
 }
 
@@ -54,7 +58,7 @@ pub fn answered(
     words: &mut [u32],
     line: &[u8],
     answer: &mut [u8],
-) -> Done
+) -> Result<usize, Unsaid>
     requires library { Library text.now rows.now }
     requires mark_words_in_bounds { (mark_words ≤ length marks.old) × Enough rows.now walk.old hits.old words.old (need_of (question_of (table_of text.now rows.now) line.now)) }
     requires marks_value { marks.old ≡ replicate (length marks.old) 0 }
@@ -63,7 +67,13 @@ pub fn answered(
     ensures kept { Kept rows.now walk.old hits.old walk.new hits.new }
 {
     let a = question(rows, line);
-    match a {
+    let Some(asked) = a else {
+        return Err(Unsaid::Refused(Refusal {
+            reason: Reason::Question,
+            line: 0,
+        }));
+    };
+    match asked {
         Ask::S(t, addressable, pkg, at, len) => ask_s(
             text,
             rows,
@@ -80,7 +90,10 @@ pub fn answered(
         Ask::M(t) => ask_m(text, rows, walk, hits, words, answer, t),
         Ask::N(t, i, s) => {
             if wrong_second(rows, a) {
-                return Done::Refused(12, 0);
+                return Err(Unsaid::Refused(Refusal {
+                    reason: Reason::SecondType,
+                    line: 0,
+                }));
             }
             let x = Implements {
                 typ: t,
@@ -92,6 +105,5 @@ pub fn answered(
         Ask::I(x, y) => ask_i(text, rows, marks, answer, x, y),
         Ask::C(t) => ask_c(text, rows, marks, answer, t),
         Ask::V => ask_v(text, rows, answer),
-        Ask::Wrong => Done::Refused(11, 0),
     }
 }

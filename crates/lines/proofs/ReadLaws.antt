@@ -29,7 +29,9 @@ use Rattle.rules.specs.Forms.{Line, package_line, type_line, member_line, line_o
 use Rattle.rules.specs.Load.{Loaded, refused, loaded, added, in_place, has_room, line_added, lines_from, then_checked, headed, load_within, load}
 use Rattle.line_forms.specs.Weights.{weight, line_types, types_in, line_members, members_in}
 use Rattle.line_forms.proofs.Weights.{fields-weight, brought}
-use Rattle.lines.specs.declared.Verdict.{Verdict}
+use Rattle.std.specs.Prelude.{Result, Ok, Err}
+use Rattle.objects.specs.declared.refusals.Reason.{Reason}
+use Rattle.objects.specs.Refusals.{reason_number}
 use Rattle.lines.specs.Adding.{verdict_meant, bytes_taken, Grown}
 use Rattle.lines.specs.Reading.{header}
 
@@ -110,7 +112,7 @@ module _ (count : Table → ℕ) (brings : Option Line → ℕ) (more : (T : Tab
       let m = more T line l in
       cases (in_place T l) (λ e. cases (has_room bounds T l) (λ h. rw (e, h) (omega arith)) (λ h. rw (e, h) (omega arith))) (λ e. rw e (omega arith))
 
-  count-grown : (text : Bytes) (rows after : Words) (line : ℕ) (o : Option Line) → Grown text rows line o after Verdict.Added → count (table_of text after) ≤ count (table_of text rows) + brings o
+  count-grown : (text : Bytes) (rows after : Words) (line : ℕ) (o : Option Line) → Grown text rows line o after (Ok tt) → count (table_of text after) ≤ count (table_of text rows) + brings o
   unfolding verdict_meant counted
   count-grown text rows after line o g =
       let w = count-few (table_of text rows) line o in
@@ -129,7 +131,7 @@ types-added T line (package_line path) = omega arith
 types-added T line (type_line k) = length-append T.types (k ∷ [])
 types-added T line (member_line name pkg type e) = let l = on_last-length (with_member (record { key = obj_key (member_count T); name = name; pkg = pkg; type = type; entity = e })) T.types in omega arith
 
-module _ (text : Bytes) (rows after : Words) (line : ℕ) (o : Option Line) (g : Grown text rows line o after Verdict.Added) where
+module _ (text : Bytes) (rows after : Words) (line : ℕ) (o : Option Line) (g : Grown text rows line o after (Ok tt)) where
   members-grown : member_count_of after ≤ member_count_of rows + members_in o
   members-grown = let h = count-grown member_count members_in members-added text rows after line o g in let a = member-count-read text after in let b = member-count-read text rows in omega arith
 
@@ -205,7 +207,7 @@ module _ (text : Bytes) (at line : ℕ) (T : Table) (within : at ≤ length text
         let n : end < length text = omega (arith, ne) in
         omega arith
 
-    pub line-brings : (rows after : Words) → bytes_taken rows ≤ at → Grown text rows line (line_of (fields_left text c)) after Verdict.Added → bytes_taken after ≤ end + 1
+    pub line-brings : (rows after : Words) → bytes_taken rows ≤ at → Grown text rows line (line_of (fields_left text c)) after (Ok tt) → bytes_taken after ≤ end + 1
     line-brings rows after h g =
         let w = brought (fields_left text c) in
         let few = g.few in
@@ -221,7 +223,7 @@ module _ (text : Bytes) (at line : ℕ) (T : Table) (within : at ≤ length text
     several : (x : Bytes) (r : List Bytes) → pieces (drop (end + 1) text) ≡ x ∷ r → pieces (drop at text) ≡ part text at end ∷ x ∷ r
     several x r h = piece-here ∙ rw (ne_eqb end (length text) ne, h)
 
-    module _ (rows after : Words) (v : Verdict) (t : T ≡ table_of text rows) (g : line_added bounds (table_of text rows) line (line_of (fields_left text c)) ≡ verdict_meant text after line v) where
+    module _ (rows after : Words) (v : Result (Unit {0}) Reason) (t : T ≡ table_of text rows) (g : line_added bounds (table_of text rows) line (line_of (fields_left text c)) ≡ verdict_meant text after line v) where
       next-piece : (x : Bytes) × (r : List Bytes) × (pieces (drop (end + 1) text) ≡ x ∷ r)
       unfolding pieces
       next-piece = split-first 10 (drop (end + 1) text)
@@ -229,13 +231,13 @@ module _ (text : Bytes) (at line : ℕ) (T : Table) (within : at ≤ length text
       line-meant : (L : Loaded) → verdict_meant text after line v ≡ L → line_added bounds T line (line_of (fields (part text at end))) ≡ L
       line-meant L e = ap (λ U. line_added bounds U line (line_of (fields (part text at end)))) t ∙ ap (λ fs. line_added bounds (table_of text rows) line (line_of fs)) (sym line-left) ∙ g ∙ e
 
-      pub line_refused : {n : ℕ} → v ≡ Verdict.Refused n → lines_from bounds line T (pieces (drop at text)) ≡ refused n line
+      pub line_refused : {reason : Reason} → v ≡ Err reason → lines_from bounds line T (pieces (drop at text)) ≡ refused (reason_number reason) line
       unfolding verdict_meant
-      line_refused {n} e =
+      line_refused {reason} e =
           let r = next-piece in
-          ap (lines_from bounds line T) (several r.0 r.1 r.2) ∙ step-refused line T (part text at end) r.0 r.1 n line (line-meant (refused n line) (ap (verdict_meant text after line) e))
+          ap (lines_from bounds line T) (several r.0 r.1 r.2) ∙ step-refused line T (part text at end) r.0 r.1 (reason_number reason) line (line-meant (refused (reason_number reason) line) (ap (verdict_meant text after line) e))
 
-      pub line_read : v ≡ Verdict.Added → lines_from bounds line T (pieces (drop at text)) ≡ lines_from bounds (line + 1) (table_of text after) (pieces (drop (end + 1) text))
+      pub line_read : v ≡ (Ok tt) → lines_from bounds line T (pieces (drop at text)) ≡ lines_from bounds (line + 1) (table_of text after) (pieces (drop (end + 1) text))
       unfolding verdict_meant
       line_read e =
           let r = next-piece in

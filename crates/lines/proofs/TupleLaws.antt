@@ -7,7 +7,7 @@ use Prim.Native.Nat.{ℕ, suc, ◌+◌, ◌*◌, ◌≤◌, ◌<◌}
 use native.Mathlib.Omega.{arith}
 use lib.ListN.{length}
 use Rattle.objects.specs.declared.TypeKey.{TypeKey}
-use Rattle.objects.specs.declared.«Package».{«Package»}
+use Rattle.objects.specs.declared.PackageKey.{PackageKey}
 use Rattle.objects.specs.Bounds.{max_reference, max_text, max_types, max_elements, row_words, room_for}
 use Rattle.objects.specs.Lists.{Bytes, empty, last_or, on_last, mapped}
 use Rattle.objects.specs.Table.{Table, Kind, Basic, Array, Slice, Pointer, Map, Chan, Tuple, Func, Struct, Iface, Named, type_key, kind_number, Numbered, plus_type}
@@ -24,13 +24,15 @@ use Rattle.text.proofs.AnswerLaws.{none-some, field-some}
 use Rattle.rules.specs.Forms.{Line, type_line, line_of}
 use Rattle.rules.proofs.FormLaws.{line-formed}
 use Rattle.rules.specs.Load.{last_kind}
-use Rattle.line_forms.specs.declared.Small.{Small}
 use Rattle.line_forms.specs.declared.Form.{Form}
 use Rattle.line_forms.specs.Steps.{numbered, all_read, elements_read, tuple_of}
 use Rattle.line_forms.specs.Weights.{weight, tuple_size, line_types, types_in, line_members, members_in, line_elements, elements_of}
 use Rattle.line_forms.specs.Forms.{small_read, form_meant, unread}
 use Rattle.line_forms.proofs.Weights.{elements-few, brought}
-use Rattle.lines.specs.declared.Verdict.{Verdict}
+use Rattle.std.specs.Prelude.{Result, Ok, Err}
+use Rattle.objects.specs.declared.refusals.Reason.{Reason}
+use Rattle.std.specs.Prelude.{Some, None}
+use Rattle.std.specs.declared.option.Option as code
 use Rattle.lines.specs.Adding.{bytes_taken, TypeSpace, with_elements, Grown}
 use Rattle.lines.proofs.AboveLaws.{last_or-snoc, tuple-last}
 use Rattle.lines.proofs.AddLaws.{refusing, members_kept, type-full, kind-added}
@@ -73,16 +75,16 @@ module _ (s : Bytes) (c : Cursor) where
       go [] h = refl
       go (b ∷ l) h = clash h refl
 
-  module _ (r : Small) (p : small_read s r ≡ numbered max_reference (fields_left s c)) where
-    pub all-wrong : {t : Bool} → t ≡ not c.more → t ≡ false → r ≡ Small.Wrong → all_read (fields_left s c) ≡ false
+  module _ (r : code.Option (ℕ × Cursor)) (p : small_read s r ≡ numbered max_reference (fields_left s c)) where
+    pub all-wrong : {t : Bool} → t ≡ not c.more → t ≡ false → r ≡ None → all_read (fields_left s c) ≡ false
     unfolding small_read
     all-wrong q e w = (no_more (fields_left s c) (sym p ∙ ap (small_read s) w)).1 (done-left s c ∙ sym q ∙ e)
 
-    pub elements-end : r ≡ Small.Wrong → elements_read (fields_left s c) ≡ []
+    pub elements-end : r ≡ None → elements_read (fields_left s c) ≡ []
     unfolding small_read
     elements-end w = (no_more (fields_left s c) (sym p ∙ ap (small_read s) w)).0
 
-    module _ {v : ℕ} {d : Cursor} (w : r ≡ Small.Value v d) where
+    module _ {v : ℕ} {d : Cursor} (w : r ≡ Some (v, d)) where
       more-here : numbered max_reference (fields_left s c) ≡ some (v, fields_left s d)
       unfolding small_read
       more-here = sym p ∙ ap (small_read s) w
@@ -176,40 +178,40 @@ module _ (s : Bytes) (rows mid : Words) (line : ℕ) (held : Holds mid (λ x. pl
   new-tuple = ap (λ T. kind_number (last_kind T)) mid-table ∙ ap kind_number (last_or-snoc (Basic 0) (table_of s rows).types (Tuple []))
 
 module _ (s : Bytes) (rows : Words) (line : ℕ) (laid : Laid rows) (fs : List Bytes) {t : Bool} (p : t ≡ all_read fs) where
-  pub tuple-wrong : {after : Words} → Laid after → t ≡ false → Grown s rows line (tuple_of fs) after (Verdict.Refused 4)
+  pub tuple-wrong : {after : Words} → Laid after → t ≡ false → Grown s rows line (tuple_of fs) after (Err Reason.Form)
   unfolding tuple_of
-  tuple-wrong l e = refusing s rows line (tuple_of fs) 4 l (rw (sym p ∙ e))
+  tuple-wrong l e = refusing s rows line (tuple_of fs) Reason.Form l (rw (sym p ∙ e))
 
   module _ (e : t ≡ true) {n : ℕ} (q : n ≡ type_count rows) where
     tuple_is : tuple_of fs ≡ some (type_line (Tuple (elements_read fs)))
     unfolding tuple_of
     tuple_is = rw (sym p ∙ e)
 
-    pub tuple-full : max_types ≤ n → Grown s rows line (tuple_of fs) rows (Verdict.Refused 6)
+    pub tuple-full : max_types ≤ n → Grown s rows line (tuple_of fs) rows (Err Reason.Room)
     tuple-full h = rw tuple_is (type-full rows line laid q s (Tuple (elements_read fs)) h)
 
     pub tuple-added : (mid : Words) → Holds mid (λ x. plus_type (table_of x rows) line (kind_of x rows 6 0 0 0 0 0)) → n < max_types
         → (after : Words) → Laid after → table_of s after ≡ with_elements (table_of s mid) (elements_read fs)
-        → element_count mid ≡ element_count rows → element_count after ≡ element_count mid + length (elements_read fs) → Grown s rows line (tuple_of fs) after Verdict.Added
+        → element_count mid ≡ element_count rows → element_count after ≡ element_count mid + length (elements_read fs) → Grown s rows line (tuple_of fs) after (Ok tt)
     tuple-added mid held h after l m a b =
         rw tuple_is (kind-added rows line laid q s (Tuple (elements_read fs)) h after l
         (m ∙ ap (λ T. with_elements T (elements_read fs)) (mid-table s rows mid line held) ∙ with-elements (table_of s rows) line [] (elements_read fs)) (tuple-brings (elements_read fs) a b))
 
 -- ---- a line by its form
 
-module _ (s : Bytes) (rows : Words) (line : ℕ) (r : Form) {o : Option Line} (p : form_meant s r ≡ o) where
-  pub grown-form : {f : Form} {after : Words} {v : Verdict} → r ≡ f → Grown s rows line (form_meant s f) after v → Grown s rows line o after v
+module _ (s : Bytes) (rows : Words) (line : ℕ) (r : code.Option Form) {o : Option Line} (p : form_meant s r ≡ o) where
+  pub grown-form : {f : code.Option Form} {after : Words} {v : Result (Unit {0}) Reason} → r ≡ f → Grown s rows line (form_meant s f) after v → Grown s rows line o after v
   grown-form {f} {after} {v} q g = subst (λ x. Grown s rows line x after v) (sym (ap (form_meant s) q) ∙ p) g
 
 -- what the writers ask: of the number of a package
-pub member-numbered : (s : Bytes) (fs : List Bytes) (r : Form) → form_meant s r ≡ line_of fs
-    → {name count : ℕ} {pkg : «Package»} {t form tag width : ℕ} → r ≡ Form.Member name count pkg t form tag width → Numbered (package_meant pkg)
+pub member-numbered : (s : Bytes) (fs : List Bytes) (r : code.Option Form) → form_meant s r ≡ line_of fs
+    → {name count : ℕ} {pkg : code.Option PackageKey} {t form tag width : ℕ} → r ≡ Some (Form.Member name count pkg t form tag width) → Numbered (package_meant pkg)
 unfolding form_meant
 member-numbered s fs r p q = (line-formed fs _ (sym p ∙ ap (form_meant s) q)).numbered
 
 -- and of room, from the bytes that are left
-module _ (s : Bytes) (rows : Words) (fs : List Bytes) (r : Form) (laid : Laid rows) (short : length s ≤ max_text) (taken : bytes_taken rows + weight fs ≤ length s) (room : room_for (length s) ≤ length rows) where
-  pub member-space : form_meant s r ≡ line_of fs → {name count : ℕ} {pkg : «Package»} {t form tag width : ℕ} → r ≡ Form.Member name count pkg t form tag width → used rows + row_words ≤ length rows
+module _ (s : Bytes) (rows : Words) (fs : List Bytes) (r : code.Option Form) (laid : Laid rows) (short : length s ≤ max_text) (taken : bytes_taken rows + weight fs ≤ length s) (room : room_for (length s) ≤ length rows) where
+  pub member-space : form_meant s r ≡ line_of fs → {name count : ℕ} {pkg : code.Option PackageKey} {t form tag width : ℕ} → r ≡ Some (Form.Member name count pkg t form tag width) → used rows + row_words ≤ length rows
   unfolding form_meant members_in line_members
   member-space p q =
       let one : 1 ≡ members_in (line_of fs) = ap members_in (sym (ap (form_meant s) q) ∙ p) in
@@ -222,14 +224,14 @@ module _ (s : Bytes) (rows : Words) (fs : List Bytes) (r : Form) (laid : Laid ro
   space-for-type : 8 ≤ weight fs → TypeSpace rows
   space-for-type eight few = let k = types-room (length rows) (length s) (row_words * type_count rows + row_words) room (omega arith) (omega arith) in omega arith
 
-  pub type-space : form_meant s r ≡ line_of fs → {kind a b c : ℕ} → r ≡ Form.«Type» kind a b c → TypeSpace rows
+  pub type-space : form_meant s r ≡ line_of fs → {kind a b c : ℕ} → r ≡ Some (Form.«Type» kind a b c) → TypeSpace rows
   unfolding form_meant types_in line_types
   type-space p q =
       let one : 1 ≡ types_in (line_of fs) = ap types_in (sym (ap (form_meant s) q) ∙ p) in
       let w = brought fs in
       space-for-type (omega arith)
 
-  pub tuple-space : unread s r ≤ weight fs → {d : Cursor} → r ≡ Form.Tuple d
+  pub tuple-space : unread s r ≤ weight fs → {d : Cursor} → r ≡ Some (Form.Tuple d)
       → (element_count rows + length (elements_read (fields_left s d)) ≤ max_elements) × (used rows + length (elements_read (fields_left s d)) ≤ length rows) × TypeSpace rows
   unfolding unread
   tuple-space p {d} q =

@@ -1,5 +1,5 @@
 -- What adding one line leaves (4 to 6).
-use Rattle.std.specs.Prelude.{◌≡◌, Bool, cond, ◌&&◌, ◌||◌, List, [], ◌∷◌, ℕ, ◌+◌, ◌*◌, ◌≤◌, ◌<◌, eqb, ltb, length}
+use Rattle.std.specs.Prelude.{◌≡◌, Bool, cond, ◌&&◌, ◌||◌, List, [], ◌∷◌, ℕ, ◌+◌, ◌*◌, ◌≤◌, ◌<◌, eqb, ltb, length, Result, Ok, Err}
 use Rattle.std.proofs.Math.Option.{Option}
 use Rattle.objects.specs.declared.TypeKey.{TypeKey}
 use Rattle.objects.specs.Bounds.{max_types, max_members, max_per_type, bounds, row_words, members_at}
@@ -7,15 +7,16 @@ use Rattle.objects.specs.Lists.{Bytes}
 use Rattle.objects.specs.Table.{Table}
 use Rattle.objects.specs.Rows.{Words, type_count, member_count_of, element_count, table_of}
 use Rattle.objects.specs.Types.{total_read}
+use Rattle.objects.specs.declared.refusals.Reason.{Reason}
+use Rattle.objects.specs.Refusals.{reason_number}
 use Rattle.objects.specs.Laid.{Laid, types_used, last_type, plus_element}
 use Rattle.rules.specs.Forms.{Line}
 use Rattle.rules.specs.Load.{Loaded, refused, loaded, line_added}
 use Rattle.line_forms.specs.Weights.{elements_of}
-use Rattle.lines.specs.declared.Verdict.{Verdict}
 
-unfoldable pub verdict_meant : Bytes → Words → ℕ → Verdict → Loaded
-verdict_meant text rows line Verdict.Added = loaded (table_of text rows)
-verdict_meant text rows line (Verdict.Refused n) = refused n line
+unfoldable pub verdict_meant : Bytes → Words → ℕ → Result (Unit {0}) Reason → Loaded
+verdict_meant text rows line (Ok u) = loaded (table_of text rows)
+verdict_meant text rows line (Err reason) = refused (reason_number reason) line
 
 -- ---- types, members, and elements of tuples
 
@@ -35,12 +36,12 @@ with_elements T (e ∷ es) = with_elements (plus_element T e) es
 -- ---- one line
 
 -- no more elements than the line brings, if it was added
-abbrev pub Brings : Words → Option Line → Words → Verdict → Type 0
-Brings rows o after Verdict.Added = element_count after ≤ element_count rows + elements_of o
-Brings rows o after (Verdict.Refused n) = Unit {0}
+abbrev pub Brings : Words → Option Line → Words → Result (Unit {0}) Reason → Type 0
+Brings rows o after (Ok u) = element_count after ≤ element_count rows + elements_of o
+Brings rows o after (Err reason) = Unit {0}
 
 -- The rows behind a line: what the rules give for it, rows in order, and no more elements than it brings.
-pub record Grown (text : Bytes) (rows : Words) (line : ℕ) (o : Option Line) (after : Words) (v : Verdict) : Type 0 where
+pub record Grown (text : Bytes) (rows : Words) (line : ℕ) (o : Option Line) (after : Words) (v : Result (Unit {0}) Reason) : Type 0 where
   pub meant : line_added bounds (table_of text rows) line o ≡ verdict_meant text after line v
   pub laid : Laid after
   pub few : Brings rows o after v

@@ -13,15 +13,15 @@ ghost use Rattle.line_forms.specs.Steps.{bare_kind, all_read, elements_read, tup
 ghost use Rattle.line_forms.specs.Weights.{weight};
 ghost use Rattle.lines.specs.Adding.{Grown, TypeSpace, bytes_taken, with_elements, stands_at, member_room};
 
-use crate::Verdict;
+use line_forms::Form;
 use line_forms::fields::small;
 use line_forms::forms::parse;
-use line_forms::{Form, Small};
 use objects::bounds::{MAX_MEMBERS, MAX_PACKAGES, MAX_PER_TYPE, MAX_REFERENCE, MAX_TYPES};
-use objects::kinds::{IFACE, NAMED, STRUCT};
+use objects::kinds::{IFACE, NAMED, STRUCT, TUPLE};
+use objects::refusals::Reason;
 use objects::rows::{kind_number, member_count, member_total, package_count, type_count};
 use objects::writers::{put_element, put_member, put_package, put_type};
-use objects::{Package, TypeKey};
+use objects::{PackageKey, TypeKey};
 use text::Cursor;
 
 // The bounds, as the counts of rows are.
@@ -58,71 +58,68 @@ fn stands(form: u32, kind: u32) -> bool
     ensures { result ≡ stands_at form kind }
 {
     if form < 2 {
-        return kind == STRUCT;
+        kind == STRUCT
+    } else {
+        kind == NAMED || kind == IFACE
     }
-    if kind == NAMED { true } else { kind == IFACE }
 }
 
 // 6: a member more than the bound, "or 256th member of one type"
 fn member_room(rows: &[u32]) -> bool
     ensures { result ≡ member_room rows.now }
 {
-    if member_count(rows) < MEMBERS {
-        member_total(rows, last(rows)) < PER_TYPE
-    } else {
-        false
-    }
+    member_count(rows) < MEMBERS && member_total(rows, last(rows)) < PER_TYPE
 }
 
 // ---- lines of right form
 
-fn add_package(rows: &mut [u32], at: u32, count: u32, line: u32) -> Verdict
+fn add_package(rows: &mut [u32], at: u32, count: u32, line: u32) -> Result<(), Reason>
     requires { Laid rows.old }
     ensures { (text : Bytes) → Grown text rows.old line (some (package_line (bytes_at text at count))) rows.new result }
 {
     if 0 < type_count(rows) {
-        return Verdict::Refused(5);
+        return Err(Reason::Place);
     }
-    if package_count(rows) < PACKAGES {
-        put_package(rows, at, count);
-        return Verdict::Added;
+    if PACKAGES <= package_count(rows) {
+        return Err(Reason::Room);
     }
-    Verdict::Refused(6)
+    put_package(rows, at, count);
+    Ok(())
 }
 
-fn add_type(rows: &mut [u32], kind: u32, a: u32, b: u32, c: u32, line: u32) -> Verdict
+fn add_type(rows: &mut [u32], kind: u32, a: u32, b: u32, c: u32, line: u32) -> Result<(), Reason>
     requires { Laid rows.old × TypeSpace rows.old }
     ensures { (text : Bytes) → Grown text rows.old line (some (type_line (bare_kind kind a b c))) rows.new result }
 {
-    if type_count(rows) < TYPES {
-        put_type(rows, kind, a, b, c, line);
-        return Verdict::Added;
+    if TYPES <= type_count(rows) {
+        return Err(Reason::Room);
     }
-    Verdict::Refused(6)
+    put_type(rows, kind, a, b, c, line);
+    Ok(())
 }
 
 fn add_member(
     rows: &mut [u32],
     name: u32,
     count: u32,
-    pkg: Package,
+    pkg: Option<PackageKey>,
     t: u32,
     form: u32,
     tag: u32,
     width: u32,
     line: u32,
-) -> Verdict
+) -> Result<(), Reason>
     requires { Laid rows.old × (used rows.old + row_words ≤ length rows.old) × Numbered (package_meant pkg) }
     ensures { (text : Bytes) → Grown text rows.old line (some (member_line (bytes_at text name count) (package_meant pkg) (type_key t) (entity_of form (bytes_at text tag width)))) rows.new result }
 {
-    if stands(form, above(rows)) {
-        if member_room(rows) {
-            put_member(rows, name, count, pkg, TypeKey(t), form, tag, width, line);
-            return Verdict::Added;
-        }
-        return Verdict::Refused(6);
+    if !stands(form, above(rows)) {
+        return Err(Reason::Place);
     }
-    Verdict::Refused(5)
+    if !member_room(rows) {
+        return Err(Reason::Room);
+    }
+    put_member(rows, name, count, pkg, TypeKey(t), form, tag, width, line);
+    Ok(())
 }
 
 // ---- tuples, whose elements are put as they are read: a line that is refused may leave some
@@ -132,15 +129,13 @@ fn listed(s: &[u8], c: Cursor) -> bool
     ensures { result ≡ all_read (fields_left s.now c) }
 {
     let mut d = c;
-    loop {
-        if d.done() {
-            return true;
-        }
-        match small(s, d, MAX_REFERENCE) {
-            Small::Value(_, e) => d = e,
-            Small::Wrong => return false,
-        }
+    while !d.done() {
+        let Some((_, e)) = small(s, d, MAX_REFERENCE) else {
+            return false;
+        };
+        d = e;
     }
+    true
 }
 
 // Each type's number that is left becomes an element of the last type, until a field is no number. Says whether all were numbers.
@@ -153,51 +148,49 @@ fn put_elements(s: &[u8], rows: &mut [u32], c: Cursor) -> bool
     ensures rows_after_2 { element_count rows.new ≡ element_count rows.old + length (elements_read (fields_left s.now c)) }
 {
     let mut d = c;
-    loop {
-        if d.done() {
-            return true;
-        }
-        match small(s, d, MAX_REFERENCE) {
-            Small::Value(v, e) => {
-                put_element(rows, TypeKey(v));
-                d = e;
-            }
-            Small::Wrong => return false,
-        }
+    while !d.done() {
+        let Some((v, e)) = small(s, d, MAX_REFERENCE) else {
+            return false;
+        };
+        put_element(rows, TypeKey(v));
+        d = e;
     }
+    true
 }
 
-fn add_tuple(s: &[u8], rows: &mut [u32], c: Cursor, line: u32) -> Verdict
+fn add_tuple(s: &[u8], rows: &mut [u32], c: Cursor, line: u32) -> Result<(), Reason>
     requires { Laid rows.old × (element_count rows.old + length (elements_read (fields_left s.now c)) ≤ max_elements)
         × (used rows.old + length (elements_read (fields_left s.now c)) ≤ length rows.old) × TypeSpace rows.old }
     ensures { Grown s.now rows.old line (tuple_of (fields_left s.now c)) rows.new result }
 {
-    if type_count(rows) < TYPES {
-        put_type(rows, 6, 0, 0, 0, line);
-        if put_elements(s, rows, c) {
-            return Verdict::Added;
-        }
-        return Verdict::Refused(4);
+    if TYPES <= type_count(rows) {
+        return if listed(s, c) {
+            Err(Reason::Room)
+        } else {
+            Err(Reason::Form)
+        };
     }
-    if listed(s, c) {
-        return Verdict::Refused(6);
+    put_type(rows, TUPLE, 0, 0, 0, line);
+    if put_elements(s, rows, c) {
+        Ok(())
+    } else {
+        Err(Reason::Form)
     }
-    Verdict::Refused(4)
 }
 
 // ---- any line
 
-pub fn add_line(s: &[u8], rows: &mut [u32], c: Cursor, line: u32) -> Verdict
+pub fn add_line(s: &[u8], rows: &mut [u32], c: Cursor, line: u32) -> Result<(), Reason>
     requires { (length s.now ≤ max_text) × Laid rows.old × (bytes_taken rows.old + weight (fields_left s.now c) ≤ length s.now) × (room_for (length s.now) ≤ length rows.old) }
     ensures { Grown s.now rows.old line (line_of (fields_left s.now c)) rows.new result }
 {
     match parse(s, c) {
-        Form::Package(at, count) => add_package(rows, at, count, line),
-        Form::Type(kind, a, b, d) => add_type(rows, kind, a, b, d, line),
-        Form::Tuple(d) => add_tuple(s, rows, d, line),
-        Form::Member(name, count, pkg, t, form, tag, width) => {
+        Some(Form::Package(at, count)) => add_package(rows, at, count, line),
+        Some(Form::Type(kind, a, b, d)) => add_type(rows, kind, a, b, d, line),
+        Some(Form::Tuple(d)) => add_tuple(s, rows, d, line),
+        Some(Form::Member(name, count, pkg, t, form, tag, width)) => {
             add_member(rows, name, count, pkg, t, form, tag, width, line)
         }
-        Form::Wrong => Verdict::Refused(4),
+        None => Err(Reason::Form),
     }
 }

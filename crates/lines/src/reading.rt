@@ -9,14 +9,14 @@ ghost use Rattle.lines.specs.Adding.{bytes_taken};
 ghost use Rattle.lines.specs.Reading.{read_meant};
 
 use crate::adding::add_line;
-use crate::{Read, Verdict};
 use objects::bounds::MAX_TEXT;
+use objects::refusals::{Reason, Refusal};
 use text::Cursor;
 use text::compare::starts;
 use text::scan::line_end;
 
 // The lines from a place on; the first is line 2.
-fn read_lines(text: &[u8], rows: &mut [u32], from: usize) -> Read
+fn read_lines(text: &[u8], rows: &mut [u32], from: usize) -> Result<(), Refusal>
     requires { (length text.now ≤ max_text) × (from ≤ length text.now) × Laid rows.old × (bytes_taken rows.old ≤ from) × (2 ≤ from)
         × (room_for (length text.now) ≤ length rows.old) }
     ensures text_value { lines_from bounds 2 (table_of text.now rows.old) (pieces (drop from text.now)) ≡ read_meant text.now rows.new result }
@@ -28,30 +28,35 @@ fn read_lines(text: &[u8], rows: &mut [u32], from: usize) -> Read
         let end = line_end(text, at);
         if end == text.len() {
             if at == end {
-                return Read::Lines;
+                return Ok(());
             }
-            return Read::Refused(4, line);
+            let reason = Reason::Form;
+            return Err(Refusal { reason, line });
         }
-        match add_line(text, rows, Cursor::line(at, end), line) {
-            Verdict::Refused(n) => return Read::Refused(n, line),
-            Verdict::Added => {
-                at = end + 1;
-                line += 1;
-            }
+        if let Err(reason) = add_line(text, rows, Cursor::line(at, end), line) {
+            return Err(Refusal { reason, line });
         }
+        at = end + 1;
+        line += 1;
     }
 }
 
-pub fn read(text: &[u8], rows: &mut [u32]) -> Read
+pub fn read(text: &[u8], rows: &mut [u32]) -> Result<(), Refusal>
     requires { (rows.old ≡ replicate (length rows.old) 0) × (room_for (length text.now) ≤ length rows.old) }
     ensures text_value { load text.now ≡ then_checked (read_meant text.now rows.new result) }
     ensures laid { Laid rows.new }
 {
     if MAX_TEXT < text.len() {
-        return Read::Refused(2, 0);
+        return Err(Refusal {
+            reason: Reason::TextLong,
+            line: 0,
+        });
     }
     if starts(text, 0, b"typetable\t1\n") {
         return read_lines(text, rows, 12);
     }
-    Read::Refused(3, 1)
+    Err(Refusal {
+        reason: Reason::Header,
+        line: 1,
+    })
 }

@@ -14,8 +14,7 @@ pub fn set_met(marks: &mut [u32], p: usize)
     requires { (p / 32 < length marks.old) × (met marks.old p ≡ false) }
     ensures { marks.new ≡ meet marks.old p }
 {
-    let w = marks[p / 32];
-    marks[p / 32] = w + (1u32 << (p % 32));
+    marks[p / 32] += 1u32 << (p % 32);
 }
 
 // Every word is 0 again: one store for each, whichever were set.

@@ -6,7 +6,7 @@ ghost use Rattle.pair_marks.specs.Pairs.{pair};
 use objects::TypeKey;
 
 // Bits of a word.
-const BITS: usize = 32;
+const BITS: usize = u32::BITS as usize;
 
 // How many pairs of n types there are.
 fn pairs_of(n: usize) -> usize
@@ -21,7 +21,7 @@ pub fn pair_words(n: usize) -> usize
     requires { n ≤ max_types }
     ensures { result ≡ pair_words n }
 {
-    (pairs_of(n) + (BITS - 1)) / BITS
+    pairs_of(n).div_ceil(BITS)
 }
 
 // The number of the pair of x and y, whichever is named first.

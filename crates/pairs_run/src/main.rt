@@ -7,15 +7,13 @@ ghost use Rattle.std.specs.Prelude.{◌≤◌, length};
 ghost use Rattle.objects.specs.Bounds.{work_words};
 ghost use Rattle.rules.specs.Library.{Library};
 
-use frames::{Frame, ROOM};
+use frames::ROOM;
 use objects::TypeKey;
 use objects::bounds::{ALL_WORDS, MAX_TYPES, WORK_WORDS};
 use objects::rows::type_count;
 use pair_marks::classes::number;
-use pair_marks::marks::is_met;
 use std::io;
-use std::io::{Read, Write};
-use table::Loading;
+use std::io::Write;
 use typ::identical::identical_impl;
 
 // How many pairs of types were met.
@@ -23,23 +21,15 @@ fn pairs_met(marks: &[u32]) -> u32
     requires { length marks.now ≤ work_words }
 {
     let mut n: u32 = 0;
-    let mut p: usize = 0;
-    while p / 32 < marks.len() {
-        if is_met(marks, p) {
-            n += 1;
-        }
-        p += 1;
+    for word in marks {
+        n += word.count_ones();
     }
     n
 }
 
 fn show<W: Write>(out: &mut W, same: bool, pairs: u32) -> io::Result<()> {
-    if same {
-        out.write_all(b"yes\t")?;
-    } else {
-        out.write_all(b"no\t")?;
-    }
-    writeln!(out, "{pairs}")
+    let answer = if same { "yes" } else { "no" };
+    writeln!(out, "{answer}\t{pairs}")
 }
 
 // Every type begins as a class of its own.
@@ -63,24 +53,12 @@ fn compare<W: Write>(out: &mut W, text: &[u8], rows: &[u32]) -> io::Result<()>
 fn one<W: Write>(out: &mut W, text: &[u8]) -> io::Result<()> {
     let mut rows = [0u32; ALL_WORDS];
     match table::load(text, &mut rows) {
-        Loading::Refused(_, _) => out.write_all(b"refused\n"),
-        Loading::Loaded => compare(out, text, &rows),
+        Ok(()) => compare(out, text, &rows),
+        Err(_) => out.write_all(b"refused\n"),
     }
-}
-
-fn all<R: Read, W: Write>(from: &mut R, out: &mut W, buf: &mut [u8]) -> io::Result<()> {
-    let mut left: u32 = 10_000;
-    while 0 < left {
-        let Frame::Input(n) = frames::next(from, buf)? else {
-            return Ok(());
-        };
-        one(out, &buf[0..n])?;
-        left -= 1;
-    }
-    Ok(())
 }
 
 fn main(rt: HostRuntime) -> io::Result<()> {
     let mut buf = [0u8; ROOM];
-    all(&mut rt.stdin(), &mut rt.stdout(), &mut buf)
+    frames::each(&mut rt.stdin(), &mut rt.stdout(), &mut buf, one)
 }

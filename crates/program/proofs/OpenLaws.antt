@@ -7,6 +7,10 @@ use lib.ListN.{length, take, drop, length-drop}
 use lib.Seq.{take_all}
 use borrow.Author.Tests.{lt-ltb, le-ltb}
 use Rattle.objects.specs.Bounds.{max_text, bounds}
+use Rattle.std.specs.Prelude.{Option, Some, None, Result, Ok, Err}
+use Rattle.objects.specs.declared.refusals.Reason.{Reason}
+use Rattle.objects.specs.declared.refusals.Refusal.{Refusal}
+use Rattle.objects.specs.Refusals.{reason_number}
 use Rattle.objects.specs.Lists.{Bytes, flat}
 use Rattle.objects.specs.Rows.{Words, table_of}
 use Rattle.text.specs.Bytes.{ascii}
@@ -15,11 +19,8 @@ use Rattle.rules.specs.Load.{refused, load}
 use Rattle.rules.specs.Library.{Library}
 use Rattle.rules.specs.AskedAll.{question_lines}
 use Rattle.rules.specs.Typeask.{input_of, printed_one, printed_all, answered_all, typeask_within, typeask}
-use Rattle.table.specs.declared.Loading.{Loading}
 use Rattle.table.specs.Loading.{loading_meant, Loads}
-use Rattle.input.specs.declared.Parts.{Parts}
 use Rattle.input.specs.Parts.{questions_at, parts_meant}
-use Rattle.program.specs.declared.Opening.{Opening}
 use Rattle.program.specs.Steps.{due, opening_meant, Opens}
 
 -- ---- the parts of the input as slices
@@ -50,42 +51,42 @@ unfolding due question_lines pieces split
 due-v text rows = refl
 
 -- what loading said
-loads-refused : (text : Bytes) (rows : Words) {r : Loading} {n line : ℕ} → Loads text r rows → r ≡ Loading.Refused n line → load text ≡ refused n line
+loads-refused : (text : Bytes) (rows : Words) {r : Result (Unit {0}) Refusal} {x : Refusal} → Loads text r rows → r ≡ Err x → load text ≡ refused (reason_number x.reason) x.line
 unfolding loading_meant
 loads-refused text rows l q = sym l.says ∙ ap (loading_meant text rows) q
 
 module _ (s : Bytes) where
   -- "at most 32,768 bytes in all" (65,536 by document 02, point 4), "otherwise it prints refusal 2"
-  pub opens-long : (rows : Words) → max_text < length s → Opens s (Opening.Refused 2 0) rows
+  pub opens-long : (rows : Words) → max_text < length s → Opens s (Err (record { reason = Reason.TextLong; line = 0 })) rows
   unfolding opening_meant typeask_within
   opens-long rows h = record { says = rw (lt-ltb max_text (length s) h); holds = tt }
 
   module _ (short : length s ≤ max_text) where
-    parted : (i : Parts) → input_of (pieces s) ≡ parts_meant s i → typeask s ≡ answered_all bounds (parts_meant s i)
+    parted : (i : Option (ℕ × ℕ)) → input_of (pieces s) ≡ parts_meant s i → typeask s ≡ answered_all bounds (parts_meant s i)
     unfolding typeask_within
     parted i e = rw (le-ltb max_text (length s) short, e)
 
-    module _ (e : input_of (pieces s) ≡ parts_meant s Parts.Whole) (rows : Words) {r : Loading} (l : Loads s r rows) where
-      pub whole-refused : {n line : ℕ} → r ≡ Loading.Refused n line → Opens s (Opening.Refused n line) rows
+    module _ (e : input_of (pieces s) ≡ parts_meant s None) (rows : Words) {r : Result (Unit {0}) Refusal} (l : Loads s r rows) where
+      pub whole-refused : {x : Refusal} → r ≡ Err x → Opens s (Err x) rows
       unfolding opening_meant parts_meant
-      whole-refused q = record { says = parted Parts.Whole e ∙ ap (λ d. printed_all d (ascii "V" ∷ [])) (loads-refused s rows l q); holds = tt }
+      whole-refused q = record { says = parted None e ∙ ap (λ d. printed_all d (ascii "V" ∷ [])) (loads-refused s rows l q); holds = tt }
 
-      pub whole-loaded : r ≡ Loading.Loaded → Opens s Opening.Whole rows
+      pub whole-loaded : r ≡ Ok tt → Opens s (Ok None) rows
       unfolding opening_meant parts_meant
       whole-loaded q =
           let lib = l.holds q in
-          record { says = parted Parts.Whole e ∙ ap (λ d. printed_all d (ascii "V" ∷ [])) lib.loads ∙ due-v s rows; holds = lib }
+          record { says = parted None e ∙ ap (λ d. printed_all d (ascii "V" ∷ [])) lib.loads ∙ due-v s rows; holds = lib }
 
-    module _ (end next : ℕ) (a : end ≤ length s) (b : next ≤ length s) (e : input_of (pieces s) ≡ parts_meant s (Parts.Until end next)) (rows : Words) {r : Loading} (l : Loads (take (end - 0) (drop 0 s)) r rows) where
+    module _ (end next : ℕ) (a : end ≤ length s) (b : next ≤ length s) (e : input_of (pieces s) ≡ parts_meant s (Some (end, next))) (rows : Words) {r : Result (Unit {0}) Refusal} (l : Loads (take (end - 0) (drop 0 s)) r rows) where
       loads-table : Loads (take end s) r rows
       loads-table = subst (λ t. Loads t r rows) (part-front s end) l
 
-      pub until-refused : {n line : ℕ} → r ≡ Loading.Refused n line → Opens s (Opening.Refused n line) rows
+      pub until-refused : {x : Refusal} → r ≡ Err x → Opens s (Err x) rows
       unfolding opening_meant parts_meant
-      until-refused q = record { says = parted (Parts.Until end next) e ∙ ap (λ d. printed_all d (questions_at s next)) (loads-refused (take end s) rows loads-table q); holds = tt }
+      until-refused q = record { says = parted (Some (end, next)) e ∙ ap (λ d. printed_all d (questions_at s next)) (loads-refused (take end s) rows loads-table q); holds = tt }
 
-      pub until-loaded : r ≡ Loading.Loaded → Opens s (Opening.Until end next) rows
+      pub until-loaded : r ≡ Ok tt → Opens s (Ok (Some (end, next))) rows
       unfolding opening_meant parts_meant due questions_at
       until-loaded q =
           let lib = loads-table.holds q in
-          record { says = parted (Parts.Until end next) e ∙ ap (λ d. printed_all d (questions_at s next)) lib.loads; holds = (a, b, lib, short) }
+          record { says = parted (Some (end, next)) e ∙ ap (λ d. printed_all d (questions_at s next)) lib.loads; holds = (a, b, lib, short) }

@@ -7,6 +7,8 @@ use lib.ListN.{length, take, drop, length-append, length-drop}
 use lib.Seq.{take_at, drop-drop, length-take-le}
 use borrow.Author.Tests.{lt-ltb, le-ltb}
 use Rattle.objects.specs.Bounds.{max_text, program_answer}
+use Rattle.std.specs.Prelude.{Option, Some, None, Result, Ok, Err}
+use Rattle.std.specs.Result.{result_unwrap_or}
 use Rattle.objects.specs.Lists.{Bytes, flat}
 use Rattle.objects.specs.Table.{Table}
 use Rattle.objects.proofs.ListLaws.{flat_append}
@@ -17,13 +19,12 @@ use Rattle.rules.specs.AskedAll.{question_lines, refused_bytes, printed, reply_b
 use Rattle.rules.specs.Typeask.{printed_one}
 use Rattle.print.proofs.Lines.{refused-line}
 use Rattle.print.proofs.LineLaws.{line-length, end_short}
-use Rattle.reply.specs.declared.Done.{Done}
+use Rattle.reply.specs.declared.Unsaid.{Unsaid}
 use Rattle.reply.specs.Done.{Does}
-use Rattle.input.specs.declared.Next.{Next}
 use Rattle.input.specs.Parts.{questions_at, next_meant, next_within, Follows}
 use Rattle.replies.specs.declared.Filled.{Filled}
 use Rattle.replies.specs.Replies.{Full, Fills}
-use Rattle.replies.proofs.Replying.{said-is, long-is}
+use Rattle.replies.proofs.Replying.{said-is, unsaid-is}
 use Rattle.replies.proofs.Filling.{out-length}
 use Rattle.program.specs.Steps.{refused_room, due, Shows, Prints, Stands}
 use Rattle.program.proofs.OpenLaws.{part-rest}
@@ -34,17 +35,15 @@ module _ (n line : ℕ) where
   short : length (refused_bytes n line) ≤ refused_room
   short = omega (arith, ap length (refused-line n line), line-length (ascii "refused") (n ∷ line ∷ []), end_short (n ∷ line ∷ []))
 
-  module _ {out after : Bytes} (room : refused_room ≤ length out) {r : Done} (d : Does (say (refused_bytes n line)) r out after) {k : ℕ} where
-    pub refused-shows : r ≡ Done.Said k → Shows (refused_bytes n line) after k
-    refused-shows e =
-        let is = said-is d e in
-        record {
-          fits = omega (arith, is.0, ap length is.2, length-append (refused_bytes n line) (drop (length (refused_bytes n line)) out));
-          shown = ap (take k) is.2 ∙ take_at (refused_bytes n line) (drop (length (refused_bytes n line)) out) k (sym is.0);
-        }
-
-    pub refused-fits : r ≡ Done.Long k → ⊥
-    refused-fits e = let is = long-is d e in omega (arith, short, is.1)
+  pub refused-shows : {out after : Bytes} → refused_room ≤ length out → (r : Result ℕ Unsaid) → Does (say (refused_bytes n line)) r out after
+      → {k : ℕ} → k ≡ result_unwrap_or r 0 → Shows (refused_bytes n line) after k
+  refused-shows {out} room (Ok m) d {k} e =
+      let is = said-is d refl in
+      record {
+        fits = omega (arith, e, is.0, ap length is.2, length-append (refused_bytes n line) (drop (length (refused_bytes n line)) out));
+        shown = ap (take k) is.2 ∙ take_at (refused_bytes n line) (drop (length (refused_bytes n line)) out) k (sym (e ∙ is.0));
+      }
+  refused-shows room (Err u) d e = let is = unsaid-is d u refl in absurd (omega (arith, short, is.0))
 
 pub shows-length : {text out : Bytes} {n : ℕ} → Shows text out n → n ≡ length text
 shows-length {out = out} {n = n} s = sym (length-take-le n out s.fits) ∙ ap length s.shown
@@ -115,13 +114,13 @@ module _ (T : Table) (questions before : Bytes) (room : length before ≡ progra
   pub some-printed : 0 < r.at → Prints T questions r out
   some-printed l = made-prints (λ e. absurd (omega (arith, l, e)))
 
-  module _ {x : Next} (d : Follows questions 0 x) where
-    pub none-printed : x ≡ Next.None → Prints T questions r out
+  module _ {x : Option (ℕ × ℕ)} (d : Follows questions 0 x) where
+    pub none-printed : x ≡ None → Prints T questions r out
     unfolding due questions_at next_meant
     none-printed e = made-prints (λ z. ap (flat (printed_one T)) (d.says ∙ ap (next_meant questions 0) e))
 
     -- no question has room: the answer to the first alone is longer than the buffer
-    module _ (stays : r.at ≡ 0) {end next : ℕ} (e : x ≡ Next.Is end next) where
+    module _ (stays : r.at ≡ 0) {end next : ℕ} (e : x ≡ Some (end, next)) where
       abbrev first : Bytes
       first = part questions 0 end
 
@@ -146,7 +145,7 @@ module _ (T : Table) (questions before : Bytes) (room : length before ≡ progra
       pub refused-printed : {n : ℕ} {after : Bytes} → Shows (refused_bytes 13 0) after n → Prints T questions (record { at = next; n = n }) after
       unfolding due questions_at
       refused-printed s =
-          let within : next_within questions 0 (Next.Is end next) = subst (next_within questions 0) e d.within in
+          let within : next_within questions 0 (Some (end, next)) = subst (next_within questions 0) e d.within in
           record {
             inside = within.3;
             fits = s.fits;

@@ -6,11 +6,13 @@ use Prim.Native.Nat.{ℕ, ◌+◌}
 use native.Mathlib.Omega.{arith}
 use lib.ListN.{length, take, drop, length-append, drop_of_length-le}
 use lib.Seq.{drop_at}
+use Rattle.std.specs.Prelude.{Option, Result, Err}
+use Rattle.objects.specs.declared.refusals.Refusal.{Refusal}
+use Rattle.objects.specs.Refusals.{reason_number}
 use Rattle.objects.specs.Lists.{Bytes, flat}
 use Rattle.objects.specs.Rows.{Words}
 use Rattle.rules.specs.AskedAll.{refused_bytes}
 use Rattle.rules.specs.Typeask.{typeask}
-use Rattle.program.specs.declared.Opening.{Opening}
 use Rattle.program.specs.Steps.{Shows, Stands, opening_meant, Opens}
 
 -- each piece stands where the one before ends, from a place up to the end of the whole
@@ -39,10 +41,10 @@ module _ (whole : Bytes) where
 
 module _ (input : Bytes) (rows : Words) where
   -- what is due for the questions is written piece by piece
-  pub run-writes : {r : Opening} (pieces : List Bytes) → Opens input r rows → Trace (opening_meant input rows r) 0 pieces → written_bytes pieces ≡ typeask input
+  pub run-writes : {r : Result (Option (ℕ × ℕ)) Refusal} (pieces : List Bytes) → Opens input r rows → Trace (opening_meant input rows r) 0 pieces → written_bytes pieces ≡ typeask input
   run-writes {r} pieces o t = trace-all (opening_meant input rows r) pieces t ∙ sym o.says
 
   -- the line of a refusal at once
-  pub refuse-writes : {n line k : ℕ} {out : Bytes} → Opens input (Opening.Refused n line) rows → Shows (refused_bytes n line) out k → take k out ≡ typeask input
+  pub refuse-writes : {x : Refusal} {k : ℕ} {out : Bytes} → Opens input (Err x) rows → Shows (refused_bytes (reason_number x.reason) x.line) out k → take k out ≡ typeask input
   unfolding opening_meant
   refuse-writes o s = s.shown ∙ sym o.says

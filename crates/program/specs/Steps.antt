@@ -1,6 +1,8 @@
 -- What each step of the program says: the table opened, the next piece of what is due, where a piece stands in the whole.
-use Rattle.std.specs.Prelude.{◌≡◌, [], ◌++◌, ℕ, ◌≤◌, length, take, drop}
+use Rattle.std.specs.Prelude.{◌≡◌, Option, Some, None, Result, Ok, Err, [], ◌++◌, ℕ, ◌≤◌, length, take, drop}
 use Rattle.objects.specs.Bounds.{max_text}
+use Rattle.objects.specs.declared.refusals.Refusal.{Refusal}
+use Rattle.objects.specs.Refusals.{reason_number}
 use Rattle.objects.specs.Lists.{Bytes, flat}
 use Rattle.objects.specs.Rows.{Words, table_of}
 use Rattle.objects.specs.Table.{Table}
@@ -9,7 +11,6 @@ use Rattle.rules.specs.AskedAll.{question_lines, refused_bytes}
 use Rattle.rules.specs.Library.{Library}
 use Rattle.rules.specs.Typeask.{printed_one, typeask}
 use Rattle.replies.specs.declared.Filled.{Filled}
-use Rattle.program.specs.declared.Opening.{Opening}
 
 -- the line of a refusal has at most 7 bytes for the word, a tab and 20 digits for each number, and a newline
 abbrev pub refused_room : ℕ
@@ -39,17 +40,17 @@ pub record Stands (whole : Bytes) (at : ℕ) (bytes : Bytes) : Type 0 where
   pub parts : whole ≡ before ++ (bytes ++ behind)
 
 -- all that is due: a refusal, the answer to one V, or the answers to the questions behind `Q`
-unfoldable pub opening_meant : Bytes → Words → Opening → Bytes
-opening_meant input rows (Opening.Refused n line) = refused_bytes n line
-opening_meant input rows Opening.Whole = due (table_of input rows) (ascii "V")
-opening_meant input rows (Opening.Until end next) = due (table_of (take end input) rows) (drop next input)
+unfoldable pub opening_meant : Bytes → Words → Result (Option (ℕ × ℕ)) Refusal → Bytes
+opening_meant input rows (Err r) = refused_bytes (reason_number r.reason) r.line
+opening_meant input rows (Ok None) = due (table_of input rows) (ascii "V")
+opening_meant input rows (Ok (Some (end, next))) = due (table_of (take end input) rows) (drop next input)
 
 -- where the table loaded, its rows may be asked; an input with questions is not too long
-abbrev pub opening_holds : Bytes → Words → Opening → Type 0
-opening_holds input rows (Opening.Refused n line) = Unit {0}
-opening_holds input rows Opening.Whole = Library input rows
-opening_holds input rows (Opening.Until end next) = (end ≤ length input) × (next ≤ length input) × Library (take end input) rows × (length input ≤ max_text)
+abbrev pub opening_holds : Bytes → Words → Result (Option (ℕ × ℕ)) Refusal → Type 0
+opening_holds input rows (Err r) = Unit {0}
+opening_holds input rows (Ok None) = Library input rows
+opening_holds input rows (Ok (Some (end, next))) = (end ≤ length input) × (next ≤ length input) × Library (take end input) rows × (length input ≤ max_text)
 
-pub record Opens (input : Bytes) (r : Opening) (rows : Words) : Type 0 where
+pub record Opens (input : Bytes) (r : Result (Option (ℕ × ℕ)) Refusal) (rows : Words) : Type 0 where
   pub says : typeask input ≡ opening_meant input rows r
   pub holds : opening_holds input rows r

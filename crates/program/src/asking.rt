@@ -8,11 +8,10 @@ ghost use Rattle.answer.specs.Lent.{Lent};
 ghost use Rattle.program.specs.Steps.{Shows, Prints, refused_room};
 
 use first_hits::FirstHit;
-use input::{Next, next_question};
+use input::next_question;
 use multiples::EmbeddedType;
 use replies::Filled;
 use replies::fill::fill;
-use reply::Done;
 use reply::one_line::say_refused;
 
 // The line of a refusal.
@@ -20,11 +19,7 @@ pub fn put_refused(n: u32, line: u32, out: &mut [u8]) -> usize
     requires { refused_room ≤ length out.old }
     ensures { Shows (refused_bytes n line) out.new result }
 {
-    match say_refused(out, n, line) {
-        Done::Refused(_, _) => 0,
-        Done::Said(k) => k,
-        Done::Long(_) => 0,
-    }
+    say_refused(out, n, line).unwrap_or(0)
 }
 
 // The answers to as many questions as the buffer holds; for one whose answer alone is longer, refusal 13. No question is taken where none is left.
@@ -49,9 +44,9 @@ pub fn next_piece(
     if 0 < f.at {
         return f;
     }
-    let Next::Is(_, next) = next_question(questions, 0) else {
+    let Some((_, next)) = next_question(questions, 0) else {
         return f;
     };
     let n = put_refused(13, 0, out);
-    Filled { at: next, n: n }
+    Filled { at: next, n }
 }

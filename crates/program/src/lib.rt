@@ -16,14 +16,6 @@ use objects::bounds::ALL_WORDS;
 use std::io;
 use std::io::Write;
 
-// A refusal and its line, or a loaded table: all of the input, or up to a place, with the questions from another on.
-#[derive(Clone, Copy)]
-pub enum Opening {
-    Refused(u32, u32),
-    Whole,
-    Until(usize, usize),
-}
-
 // Writes all that is due for the input, `typeask input`. WHAT IS PROVED OF THE OUTPUT:
 // - `open_input`: `typeask input` is the line of a refusal, or what is due for the questions (Opens);
 // - `refuse`: the buffer that it hands to `write_all` is that line (Shows);
@@ -40,9 +32,12 @@ pub fn run<W: Write>(to: &mut W, input: &[u8]) -> io::Result<usize>
     ensures bytes { OnOk result (Appends (W.contents to.old) (W.contents to.new) (typeask input.now)) }
 {
     let mut rows = [0u32; ALL_WORDS];
-    match open_input(input, &mut rows) {
-        Opening::Refused(n, line) => refuse(to, input, n, line),
-        Opening::Whole => print_all(to, input, &rows, b"V"),
-        Opening::Until(end, next) => print_all(to, &input[0..end], &rows, &input[next..]),
+    let parts = match open_input(input, &mut rows) {
+        Ok(parts) => parts,
+        Err(refusal) => return refuse(to, input, refusal.reason.number(), refusal.line),
+    };
+    match parts {
+        None => print_all(to, input, &rows, b"V"),
+        Some((end, next)) => print_all(to, &input[0..end], &rows, &input[next..]),
     }
 }

@@ -11,6 +11,8 @@ use borrow.Author.Tests.{leb-true, leb-false, lt-ltb, le-ltb}
 use borrow.Rule.Slice.PartMut.{mid_of, put_mid, post_of, Post-is, put_same}
 use Rattle.std.specs.declared.option.Option as code
 use Rattle.std.specs.Prelude.{Some, None}
+use Rattle.std.specs.Prelude.{Result, Ok, Err}
+use Rattle.objects.specs.declared.refusals.Reason.{Reason}
 use Rattle.objects.specs.Lists.{Bytes, flat}
 use Rattle.objects.specs.Table.{Table}
 use Rattle.objects.proofs.ListLaws.{flat_append}
@@ -18,7 +20,7 @@ use Rattle.text.specs.Cursors.{part}
 use Rattle.rules.specs.Asked.{say, replied, number_of, written}
 use Rattle.rules.specs.AskedAll.{question_lines, reply_bytes, replied_all}
 use Rattle.input.specs.Parts.{questions_at, next_meant, next_within, Follows}
-use Rattle.reply.specs.declared.Done.{Done}
+use Rattle.reply.specs.declared.Unsaid.{Unsaid}
 use Rattle.reply.specs.Done.{number_read, Fits}
 use Rattle.replies.specs.declared.Filled.{Filled}
 use Rattle.replies.specs.Replies.{Full, Filling, Fills, said_of, Ends}
@@ -158,11 +160,11 @@ module _ (T : Table) (questions : Bytes) where
 -- ---- all or none
 
 module _ (before bytes : Bytes) where
-  pub ends-long : length before < length bytes → Ends (say bytes) (Done.Refused 13 0) before before
+  pub ends-long : length before < length bytes → Ends (say bytes) (Err (Unsaid.Refused (record { reason = Reason.AnswerShort; line = 0 }))) before before
   unfolding number_read number_of written Fits
   ends-long h = let z = lt-ltb (length before) (length bytes) h in record { number = rw z; answer = rw z; holds = λ k. tt }
 
-  pub ends-said : length bytes ≤ length before → {n : ℕ} {after : Bytes} → n ≡ length bytes → after ≡ bytes ++ drop (length bytes) before → Ends (say bytes) (Done.Said n) before after
+  pub ends-said : length bytes ≤ length before → {n : ℕ} {after : Bytes} → n ≡ length bytes → after ≡ bytes ++ drop (length bytes) before → Ends (say bytes) (Ok n) before after
   unfolding number_read number_of written Fits
   ends-said h {n} e w = let z = le-ltb (length before) (length bytes) h in record { number = rw (z, e); answer = w ∙ (rw z); holds = λ k. omega (arith, e, h, k) }
 
@@ -187,10 +189,10 @@ module _ (T : Table) (questions stage answers : Bytes) {r : Filled} {staged : By
   all-length = omega (arith, ap length all-parts, length-append (staged_bytes) left_bytes, h.filling.count)
 
   -- 13
-  pub stage-long : length answers < r.n → Ends (say all) (Done.Refused 13 0) answers answers
+  pub stage-long : length answers < r.n → Ends (say all) (Err (Unsaid.Refused (record { reason = Reason.AnswerShort; line = 0 }))) answers answers
   stage-long l = ends-long answers all (omega (arith, l, all-length))
 
-  pub left-long : r.n ≤ length answers → leb (length left_bytes) (length answers - r.n) ≡ false → Ends (say all) (Done.Refused 13 0) answers answers
+  pub left-long : r.n ≤ length answers → leb (length left_bytes) (length answers - r.n) ≡ false → Ends (say all) (Err (Unsaid.Refused (record { reason = Reason.AnswerShort; line = 0 }))) answers answers
   left-long room e = ends-long answers all (let k = leb-false (length left_bytes) (length answers - r.n) e in omega (arith, room, k, all-length))
 
   module _ (room : r.n ≤ length answers) {out : Bytes} (put : out ≡ take r.n staged ++ drop r.n answers) where
@@ -206,7 +208,7 @@ module _ (T : Table) (questions stage answers : Bytes) {r : Filled} {staged : By
       pub all_room : r.n + s.n ≤ length answers
       all_room = let k = leb-true (length left_bytes) (length answers - r.n) e in omega (arith, room, k, last-filled.0)
 
-      pub all_said : Ends (say all) (Done.Said (r.n + s.n)) answers (put_mid r.n (length out - r.n) out tail)
+      pub all_said : Ends (say all) (Ok (r.n + s.n)) answers (put_mid r.n (length out - r.n) out tail)
       all_said =
           let n : r.n + s.n ≡ length all = omega (arith, all-length, last-filled.0) in
           let m : r.n + length left_bytes ≡ length all = omega (arith, all-length) in
@@ -215,7 +217,7 @@ module _ (T : Table) (questions stage answers : Bytes) {r : Filled} {staged : By
 
 -- ---- either call
 
-module _ (q : Bytes) (T : Table) {r : Done} {before after : Bytes} {all : Bool} where
+module _ (q : Bytes) (T : Table) {r : Result ℕ Unsaid} {before after : Bytes} {all : Bool} where
   pub ends_as : {b : Bool} → all ≡ b → Ends (said_of b q T) r before after → Ends (said_of all q T) r before after
   ends_as e h = subst (λ a. Ends (said_of a q T) r before after) (sym e) h
 

@@ -4,17 +4,19 @@ use mathlib.Core.List.{List, []}
 use Prim.Native.Nat.{ℕ, ◌*◌, ◌^◌, ◌≤◌, ◌<◌}
 use native.Mathlib.Omega.{arith}
 use lib.Dec.{ltb}
+use lib.IntN.{ℤ, pos}
 use lib.ListN.{length, take, replicate, length-replicate, get_or-replicate, length-take}
 use lib.Seq.{get_or-take}
 use borrow.Author.Tests.{ltb-false}
+use Rattle.std.specs.Prelude.{Result, Ok, Err}
 use Rattle.objects.specs.Lists.{Bytes}
 use Rattle.objects.specs.Rows.{Words, type_count, member_count_of}
 use Rattle.objects.proofs.ListLaws.{cases}
-use Rattle.rules.specs.Asked.{Outcome, refuse, say, fitted, number_of}
+use Rattle.rules.specs.Asked.{Outcome, refuse, say, fitted, refusal, number_of}
 use Rattle.multiples.specs.Records.{Record, max_records, record_words}
 use Rattle.first_hits.specs.Hits.{FirstHit, hit_words, Rooms}
-use Rattle.reply.specs.declared.Done.{Done}
-use Rattle.reply.specs.Done.{done_of, Does, number_read, Fits}
+use Rattle.reply.specs.declared.Unsaid.{Unsaid}
+use Rattle.reply.specs.Done.{Done, done_meant, done_of, Does, number_read, Fits}
 use Rattle.answer.specs.declared.Need.{Need}
 use Rattle.answer.specs.Lent.{search_words, Walks, Lent, Enough}
 use Rattle.replies.specs.Replies.{Ends}
@@ -66,19 +68,41 @@ lent-new words w r l m = record { searches = record { walks = w; long = l }; lis
 
 -- ---- a question alone
 
-number-done : (room : ℕ) (o : Outcome) → number_read (done_of room o) ≡ number_of (fitted room o)
-unfolding number_read done_of number_of
+abbrev told : Done → ℤ
+told (Done.Refused n line) = refusal n line
+told (Done.Said n) = pos n
+told (Done.Long n) = refusal 13 0
+
+abbrev Holds : Done → Type 0
+Holds (Done.Refused n line) = Unit {0}
+Holds (Done.Said n) = n < 2 ^ 63
+Holds (Done.Long n) = Unit {0}
+
+number-told : (r : Result ℕ Unsaid) → number_read r ≡ told (done_meant r)
+unfolding number_read done_meant
+number-told (Ok n) = refl
+number-told (Err (Unsaid.Refused x)) = refl
+number-told (Err (Unsaid.Long n)) = refl
+
+fits-held : (r : Result ℕ Unsaid) → Holds (done_meant r) → Fits r
+unfolding Fits done_meant
+fits-held (Ok n) h = h
+fits-held (Err (Unsaid.Refused x)) h = tt
+fits-held (Err (Unsaid.Long n)) h = tt
+
+number-done : (room : ℕ) (o : Outcome) → told (done_of room o) ≡ number_of (fitted room o)
+unfolding done_of number_of
 number-done room (refuse n line) = refl
 number-done room (say bytes) = cases (ltb room (length bytes)) (λ z. rw z) (λ z. rw z)
 
-done-holds : (room : ℕ) (o : Outcome) → room < 2 ^ 63 → Fits (done_of room o)
-unfolding Fits done_of
+done-holds : (room : ℕ) (o : Outcome) → room < 2 ^ 63 → Holds (done_of room o)
+unfolding done_of
 done-holds room (refuse n line) h = tt
 done-holds room (say bytes) h = cases (ltb room (length bytes)) (λ z. rw z tt) (λ z. rw z (let k = ltb-false room (length bytes) z in omega arith))
 
-pub ends-does : {o : Outcome} {r : Done} {before after : Bytes} → Does o r before after → Ends o r before after
+pub ends-does : {o : Outcome} {r : Result ℕ Unsaid} {before after : Bytes} → Does o r before after → Ends o r before after
 ends-does {o} {r} {before} d = record {
-  number = ap number_read d.told ∙ number-done (length before) o;
+  number = number-told r ∙ ap told d.told ∙ number-done (length before) o;
   answer = d.answer;
-  holds = λ h. subst Fits (sym d.told) (done-holds (length before) o h);
+  holds = λ h. fits-held r (subst Holds (sym d.told) (done-holds (length before) o h));
 }

@@ -6,6 +6,9 @@ use native.Mathlib.Omega.{arith}
 use lib.Dec.{ltb}
 use lib.ListN.{length, drop}
 use borrow.Author.Tests.{ltb-true, ltb-false}
+use Rattle.std.specs.Prelude.{Result, Ok, Err}
+use Rattle.objects.specs.declared.refusals.Refusal.{Refusal}
+use Rattle.objects.specs.Refusals.{reason_number}
 use Rattle.objects.specs.Lists.{Bytes}
 use Rattle.objects.specs.Rows.{Words}
 use Rattle.objects.specs.Table.{Table}
@@ -15,8 +18,8 @@ use Rattle.rules.specs.AskedAll.{refused_bytes, printed, reply_bytes}
 use Rattle.multiples.specs.Records.{Record}
 use Rattle.walk_rows.specs.State.{Wide}
 use Rattle.first_hits.specs.Hits.{FirstHit}
-use Rattle.reply.specs.declared.Done.{Done}
-use Rattle.reply.specs.Done.{done_said, done_of, Does}
+use Rattle.reply.specs.declared.Unsaid.{Unsaid}
+use Rattle.reply.specs.Done.{Done, done_meant, done_said, done_of, Does}
 use Rattle.reply.proofs.Saying.{does-as}
 use Rattle.answer.specs.declared.Need.{Need}
 use Rattle.answer.specs.Lent.{Walks, Lent, Enough, Kept}
@@ -62,53 +65,60 @@ line_in (Done.Long n) = 0
 tag-said : (room n : ℕ) → tag (done_said room n) ≡ 0 → ⊥
 tag-said room n e = cases (ltb room n) (λ z. let k = rw z at e in omega arith) (λ z. let k = rw z at e in omega arith)
 
-module _ {before after : Bytes} {r : Done} where
-  done_refused : (o : Outcome) {n line : ℕ} → Does o r before after → r ≡ Done.Refused n line → (o ≡ refuse n line) × (after ≡ before)
-  unfolding done_of written
-  done_refused (refuse a b) {n} {line} d e =
-      let same : Done.Refused a b ≡ Done.Refused n line = sym d.told ∙ e in
-      let m : a ≡ n = ap number same in let l : b ≡ line = ap line_in same in
+module _ {before after : Bytes} {r : Result ℕ Unsaid} where
+  done_refused : (o : Outcome) {x : Refusal} → Does o r before after → r ≡ Err (Unsaid.Refused x) → (o ≡ refuse (reason_number x.reason) x.line) × (after ≡ before)
+  unfolding done_of done_meant written
+  done_refused (refuse a b) {x} d e =
+      let same : Done.Refused a b ≡ Done.Refused (reason_number x.reason) x.line = sym d.told ∙ ap done_meant e in
+      let m : a ≡ reason_number x.reason = ap number same in let l : b ≡ x.line = ap line_in same in
       (rw (m, l), d.answer)
-  done_refused (say bytes) d e = absurd (tag-said (length before) (length bytes) (ap tag (sym d.told ∙ e)))
+  done_refused (say bytes) d e = absurd (tag-said (length before) (length bytes) (ap tag (sym d.told ∙ ap done_meant e)))
 
   -- not refused: the bytes of the answer
-  printed-as : (o : Outcome) → Does o r before after → (tag r ≡ 0 → ⊥) → Does (say (printed o)) r before after
+  printed-as : (o : Outcome) → Does o r before after → (tag (done_meant r) ≡ 0 → ⊥) → Does (say (printed o)) r before after
   unfolding done_of
   printed-as (refuse a b) d not = absurd (not (ap tag d.told))
   printed-as (say bytes) d not = d
 
-  module _ {bytes : Bytes} {n : ℕ} (d : Does (say bytes) r before after) where
-    pub said-is : r ≡ Done.Said n → (n ≡ length bytes) × (length bytes ≤ length before) × (after ≡ bytes ++ drop (length bytes) before)
-    unfolding done_of written
+  module _ {bytes : Bytes} (d : Does (say bytes) r before after) where
+    pub said-is : {n : ℕ} → r ≡ Ok n → (n ≡ length bytes) × (length bytes ≤ length before) × (after ≡ bytes ++ drop (length bytes) before)
+    unfolding done_of done_meant written
     said-is e =
         cases (ltb (length before) (length bytes))
-        (λ z. let k : 2 ≡ 1 = ap tag (sym (rw z at d.told) ∙ e) in absurd (omega arith))
-        (λ z. (ap number (sym e ∙ (rw z at d.told)), ltb-false (length before) (length bytes) z, rw z at d.answer))
+        (λ z. let k : 2 ≡ 1 = ap tag (sym (rw z at d.told) ∙ ap done_meant e) in absurd (omega arith))
+        (λ z. (ap number (sym (ap done_meant e) ∙ (rw z at d.told)), ltb-false (length before) (length bytes) z, rw z at d.answer))
 
-    pub long-is : r ≡ Done.Long n → (n ≡ length bytes) × (length before < length bytes) × (after ≡ before)
-    unfolding done_of written
+    pub long-is : {n : ℕ} → r ≡ Err (Unsaid.Long n) → (n ≡ length bytes) × (length before < length bytes) × (after ≡ before)
+    unfolding done_of done_meant written
     long-is e =
         cases (ltb (length before) (length bytes))
-        (λ z. (ap number (sym e ∙ (rw z at d.told)), ltb-true (length before) (length bytes) z, rw z at d.answer))
-        (λ z. let k : 1 ≡ 2 = ap tag (sym (rw z at d.told) ∙ e) in absurd (omega arith))
+        (λ z. (ap number (sym (ap done_meant e) ∙ (rw z at d.told)), ltb-true (length before) (length bytes) z, rw z at d.answer))
+        (λ z. let k : 1 ≡ 2 = ap tag (sym (rw z at d.told) ∙ ap done_meant e) in absurd (omega arith))
 
-  pub never-refused : {bytes : Bytes} {n line : ℕ} → Does (say bytes) r before after → r ≡ Done.Refused n line → ⊥
-  unfolding done_of
-  never-refused {bytes} d e = tag-said (length before) (length bytes) (ap tag (sym d.told ∙ e))
+    pub never-refused : {x : Refusal} → r ≡ Err (Unsaid.Refused x) → ⊥
+    unfolding done_of done_meant
+    never-refused e = tag-said (length before) (length bytes) (ap tag (sym d.told ∙ ap done_meant e))
+
+    -- unsaid: there is no room
+    pub unsaid-is : (u : Unsaid) → r ≡ Err u → (length before < length bytes) × (after ≡ before)
+    unsaid-is (Unsaid.Refused x) e = absurd (never-refused e)
+    unsaid-is (Unsaid.Long n) e = let z = long-is e in (z.1, z.2)
 
 -- ---- what stands for the question
 
-module _ (T : Table) (line : Bytes) {before mid : Bytes} {d : Done} (h : Does (replied line T) d before mid) where
-  pub reply-refused : {n at : ℕ} → d ≡ Done.Refused n at → {r : Done} {after : Bytes} → Does (say (refused_bytes n at)) r mid after → Does (say (reply_bytes T line)) r before after
+module _ (T : Table) (line : Bytes) {before mid : Bytes} {d : Result ℕ Unsaid} (h : Does (replied line T) d before mid) where
+  pub reply-refused : {x : Refusal} {n : ℕ} → d ≡ Err (Unsaid.Refused x) → n ≡ reason_number x.reason → {r : Result ℕ Unsaid} {after : Bytes}
+      → Does (say (refused_bytes n x.line)) r mid after → Does (say (reply_bytes T line)) r before after
   unfolding reply_bytes
-  reply-refused e {r} {after} s =
-      let x = done_refused (replied line T) h e in
-      subst (λ b. Does (say (reply_bytes T line)) r b after) x.1 (does-as (ap (λ o. say (printed o)) (sym x.0)) s)
+  reply-refused {x} {n} e m {r} {after} s =
+      let z = done_refused (replied line T) h e in
+      let same : refuse n x.line ≡ replied line T = ap (λ k. refuse k x.line) m ∙ sym z.0 in
+      subst (λ b. Does (say (reply_bytes T line)) r b after) z.1 (does-as (ap (λ o. say (printed o)) same) s)
 
-  pub reply-said : {n : ℕ} → d ≡ Done.Said n → Does (say (reply_bytes T line)) d before mid
-  unfolding reply_bytes
-  reply-said e = printed-as (replied line T) h (λ z. let k : 1 ≡ 0 = ap tag (sym e) ∙ z in omega arith)
+  pub reply-said : {n : ℕ} → d ≡ Ok n → Does (say (reply_bytes T line)) d before mid
+  unfolding reply_bytes done_meant
+  reply-said e = printed-as (replied line T) h (λ z. let k : 1 ≡ 0 = ap (λ r. tag (done_meant r)) (sym e) ∙ z in omega arith)
 
-  pub reply-long : {n : ℕ} → d ≡ Done.Long n → Does (say (reply_bytes T line)) d before mid
-  unfolding reply_bytes
-  reply-long e = printed-as (replied line T) h (λ z. let k : 2 ≡ 0 = ap tag (sym e) ∙ z in omega arith)
+  pub reply-long : {n : ℕ} → d ≡ Err (Unsaid.Long n) → Does (say (reply_bytes T line)) d before mid
+  unfolding reply_bytes done_meant
+  reply-long e = printed-as (replied line T) h (λ z. let k : 2 ≡ 0 = ap (λ r. tag (done_meant r)) (sym e) ∙ z in omega arith)

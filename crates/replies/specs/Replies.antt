@@ -1,11 +1,11 @@
 -- What the answers to many questions are made of, and what a call with them ends with.
-use Rattle.std.specs.Prelude.{◌≡◌, Bool, true, false, List, [], ◌∷◌, ◌++◌, ℕ, ◌+◌, ◌^◌, ◌≤◌, ◌<◌, length, drop}
+use Rattle.std.specs.Prelude.{Result, ◌≡◌, Bool, true, false, List, [], ◌∷◌, ◌++◌, ℕ, ◌+◌, ◌^◌, ◌≤◌, ◌<◌, length, drop}
 use Rattle.objects.specs.Lists.{Bytes, flat}
 use Rattle.objects.specs.Table.{Table}
 use Rattle.rules.specs.Asked.{Outcome, fitted, replied, number_of, written}
 use Rattle.rules.specs.AskedAll.{question_lines, reply_bytes, replied_all}
 use Rattle.input.specs.Parts.{questions_at}
-use Rattle.reply.specs.declared.Done.{Done}
+use Rattle.reply.specs.declared.Unsaid.{Unsaid}
 use Rattle.reply.specs.Done.{number_read, Fits}
 use Rattle.replies.specs.declared.Filled.{Filled}
 
@@ -34,7 +34,7 @@ said_of true questions T = replied_all questions T
 said_of false question T = replied question T
 
 -- Of what is due, whatever the room: the number that a call gives for r, and the buffer.
-pub record Ends (o : Outcome) (r : Done) (before after : Bytes) : Type 0 where
+pub record Ends (o : Outcome) (r : Result ℕ Unsaid) (before after : Bytes) : Type 0 where
   pub number : number_read r ≡ number_of (fitted (length before) o)
   pub answer : after ≡ written (fitted (length before) o) before
   pub holds : length before < 2 ^ 63 → Fits r

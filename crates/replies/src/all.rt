@@ -14,10 +14,17 @@ use crate::reply;
 use first_hits::FirstHit;
 use input::next_question;
 use multiples::EmbeddedType;
-use reply::Done;
+use objects::refusals::{Reason, Refusal};
+use reply::Unsaid;
 
 // The bytes of the stage.
 pub const STAGE: usize = 16_384;
+
+// 13
+const SHORT: Refusal = Refusal {
+    reason: Reason::AnswerShort,
+    line: 0,
+};
 
 // The length of what stands for a question.
 fn reply_length(
@@ -38,9 +45,9 @@ fn reply_length(
 {
     let mut none = [0u8; 1];
     match reply(text, rows, marks, walk, hits, words, line, &mut none) {
-        Done::Refused(_, _) => 0,
-        Done::Said(n) => n,
-        Done::Long(n) => n,
+        Ok(n) => n,
+        Err(Unsaid::Long(n)) => n,
+        Err(Unsaid::Refused(_)) => 0,
     }
 }
 
@@ -96,7 +103,7 @@ pub fn reply_all(
     words: &mut [u32],
     questions: &[u8],
     answers: &mut [u8],
-) -> Done
+) -> Result<usize, Unsaid>
     requires library { Library text.now rows.now }
     requires mark_words_in_bounds { (mark_words ≤ length marks.old) × Lent rows.now walk.old hits.old words.old }
     requires marks_value { marks.old ≡ replicate (length marks.old) 0 }
@@ -107,7 +114,7 @@ pub fn reply_all(
     let first = fill(text, rows, marks, walk, hits, words, questions, &mut stage);
     let n = first.n;
     if answers.len() < n {
-        return Done::Refused(13, 0);
+        return Err(Unsaid::Refused(SHORT));
     }
     let at = first.at;
     let rest = &questions[at..];
@@ -125,7 +132,7 @@ pub fn reply_all(
             &mut answers[n..],
         );
         let total = n + last.n;
-        return Done::Said(total);
+        return Ok(total);
     }
-    Done::Refused(13, 0)
+    Err(Unsaid::Refused(SHORT))
 }

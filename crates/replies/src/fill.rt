@@ -10,7 +10,6 @@ use crate::{Filled, reply};
 use first_hits::FirstHit;
 use input::next_question;
 use multiples::EmbeddedType;
-use reply::Done;
 
 // Stops at the end of the questions, or at the first whose answer has no room behind the others.
 pub fn fill(
@@ -38,12 +37,11 @@ pub fn fill(
         };
         let line = &questions[at..end];
         match reply(text, rows, marks, walk, hits, words, line, &mut out[n..]) {
-            Done::Said(k) => {
+            Ok(k) => {
                 n += k;
                 at = next;
             }
-            Done::Refused(_, _) => return Filled { at, n },
-            Done::Long(_) => return Filled { at, n },
+            Err(_) => return Filled { at, n },
         }
     }
 }

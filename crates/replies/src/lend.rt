@@ -17,7 +17,7 @@ use first_hits::HIT_WORDS;
 use multiples::{MAX_RECORDS, RECORD_WORDS};
 use objects::bounds::{FEW_RECORDS, MAX_MEMBERS, SOME_MEMBERS, SOME_RECORDS};
 use objects::rows::{member_count, type_count};
-use reply::Done;
+use reply::Unsaid;
 
 // I, C, V and lines of wrong form.
 fn with_nothing(
@@ -26,7 +26,7 @@ fn with_nothing(
     marks: &mut [u32],
     line: &[u8],
     answer: &mut [u8],
-) -> Done
+) -> Result<usize, Unsaid>
     requires library { Library text.now rows.now }
     requires mark_words_in_bounds { (mark_words ≤ length marks.old) × (need_of (question_of (table_of text.now rows.now) line.now) ≡ Need.Nothing) }
     requires marks_value { marks.old ≡ replicate (length marks.old) 0 }
@@ -42,7 +42,13 @@ fn with_nothing(
 }
 
 // S and N.
-fn with_walk(text: &[u8], rows: &[u32], marks: &mut [u32], line: &[u8], answer: &mut [u8]) -> Done
+fn with_walk(
+    text: &[u8],
+    rows: &[u32],
+    marks: &mut [u32],
+    line: &[u8],
+    answer: &mut [u8],
+) -> Result<usize, Unsaid>
     requires library { Library text.now rows.now }
     requires mark_words_in_bounds { (mark_words ≤ length marks.old) × (need_of (question_of (table_of text.now rows.now) line.now) ≡ Need.Walk) }
     requires marks_value { marks.old ≡ replicate (length marks.old) 0 }
@@ -66,7 +72,7 @@ fn with_walk_of<const RECORDS: usize>(
     marks: &mut [u32],
     line: &[u8],
     answer: &mut [u8],
-) -> Done
+) -> Result<usize, Unsaid>
     requires library { Library text.now rows.now }
     requires mark_words_in_bounds { (mark_words ≤ length marks.old) × (need_of (question_of (table_of text.now rows.now) line.now) ≡ Need.Walk) }
     requires marks_value { marks.old ≡ replicate (length marks.old) 0 }
@@ -90,7 +96,7 @@ fn with_all(
     line: &[u8],
     answer: &mut [u8],
     all: bool,
-) -> Done
+) -> Result<usize, Unsaid>
     requires library { Library text.now rows.now }
     requires mark_words_in_bounds { mark_words ≤ length marks.old }
     requires marks_value { marks.old ≡ replicate (length marks.old) 0 }
@@ -120,7 +126,7 @@ fn with_all_of<const RECORDS: usize, const MEMBERS: usize, const WORDS: usize>(
     line: &[u8],
     answer: &mut [u8],
     all: bool,
-) -> Done
+) -> Result<usize, Unsaid>
     requires library { Library text.now rows.now }
     requires mark_words_in_bounds { mark_words ≤ length marks.old }
     requires marks_value { marks.old ≡ replicate (length marks.old) 0 }
@@ -149,7 +155,7 @@ pub fn replied(
     line: &[u8],
     answer: &mut [u8],
     all: bool,
-) -> Done
+) -> Result<usize, Unsaid>
     requires library { Library text.now rows.now }
     requires mark_words_in_bounds { mark_words ≤ length marks.old }
     requires marks_value { marks.old ≡ replicate (length marks.old) 0 }

@@ -17,7 +17,7 @@ ghost use Rattle.answer.specs.Lent.{Lent};
 use answer::answered;
 use first_hits::FirstHit;
 use multiples::EmbeddedType;
-use reply::Done;
+use reply::Unsaid;
 use reply::one_line::say_refused;
 
 // How far the questions are answered: the place of the first that is left, and the bytes that their answers take.
@@ -37,7 +37,7 @@ pub fn reply(
     words: &mut [u32],
     line: &[u8],
     out: &mut [u8],
-) -> Done
+) -> Result<usize, Unsaid>
     requires library { Library text.now rows.now }
     requires mark_words_in_bounds { (mark_words ≤ length marks.old) × Lent rows.now walk.old hits.old words.old }
     requires marks_value { marks.old ≡ replicate (length marks.old) 0 }
@@ -46,9 +46,11 @@ pub fn reply(
     ensures lent { Lent rows.now walk.new hits.new words.new }
 {
     let d = answered(text, rows, marks, walk, hits, words, line, out);
-    match d {
-        Done::Refused(n, at) => say_refused(out, n, at),
-        Done::Said(_) => d,
-        Done::Long(_) => d,
+    let Err(unsaid) = d else {
+        return d;
+    };
+    match unsaid {
+        Unsaid::Refused(r) => say_refused(out, r.reason.number(), r.line),
+        Unsaid::Long(_) => d,
     }
 }

@@ -1,10 +1,14 @@
 -- The stages of loading in order: what each return of the code says.
-use mathlib.Core.Path.{◌≡◌, refl, sym, ap, ◌∙◌}
+use mathlib.Core.Path.{◌≡◌, refl, sym, ap, subst, ◌∙◌}
 use mathlib.Core.Bool.{Bool, true, false, true≢false}
 use mathlib.Core.Option.{Option, none}
 use Prim.Native.Nat.{ℕ}
 use Rattle.objects.specs.Lists.{Bytes}
-use Rattle.objects.specs.declared.Stage.{Stage}
+use Rattle.std.specs.Prelude.{Some, None, Result, Ok, Err}
+use Rattle.std.specs.declared.option.Option as code
+use Rattle.objects.specs.declared.refusals.Reason.{Reason}
+use Rattle.objects.specs.declared.refusals.Refusal.{Refusal}
+use Rattle.objects.specs.Refusals.{reason_number}
 use Rattle.objects.specs.Types.{found}
 use Rattle.objects.specs.Table.{Table}
 use Rattle.objects.specs.Rows.{Words, table_of}
@@ -14,34 +18,46 @@ use Rattle.rules.specs.Load.{Loaded, refused, loaded, staged, checked}
 use Rattle.rules.specs.Stages.{first_unordered, first_item}
 use Rattle.rules.specs.Library.{rank_read}
 use Rattle.cycles.specs.Contained.{Contained}
-use Rattle.table.specs.declared.Loading.{Loading}
-use Rattle.table.specs.Loading.{loading_meant, Passes}
+use Rattle.table.specs.Loading.{loading_meant, stage_answer, Passes}
 
 -- what is due behind a stage that passed, and at one that found a line
-after-passed : {due : Loaded} {F : Option ℕ} {s : Stage} (n : ℕ) (rest : Loaded) → due ≡ staged n F rest → found s ≡ F → s ≡ Stage.Passed → due ≡ rest
+after-passed : {due : Loaded} {F : Option ℕ} {s : code.Option ℕ} (n : ℕ) (rest : Loaded) → due ≡ staged n F rest → found s ≡ F → s ≡ None → due ≡ rest
 unfolding staged found
 after-passed n rest e p q = cc
 
-after-bad : {due : Loaded} {line : ℕ} {F : Option ℕ} {s : Stage} (n : ℕ) (rest : Loaded) → due ≡ staged n F rest → found s ≡ F → s ≡ Stage.Bad line → due ≡ refused n line
+after-bad : {due : Loaded} {line : ℕ} {F : Option ℕ} {s : code.Option ℕ} (n : ℕ) (rest : Loaded) → due ≡ staged n F rest → found s ≡ F → s ≡ Some line → due ≡ refused n line
 unfolding staged found
 after-bad n rest e p q = cc
 
 -- 7 passed
-pub passed_none : {F : Option ℕ} {s : Stage} → found s ≡ F → s ≡ Stage.Passed → F ≡ none
+pub passed_none : {F : Option ℕ} {s : code.Option ℕ} → found s ≡ F → s ≡ None → F ≡ none
 unfolding found
 passed_none p q = cc
 
-abbrev is_refused : Loading → Bool
-is_refused (Loading.Refused n line) = true
-is_refused Loading.Loaded = false
+abbrev is_refused : Result (Unit {0}) Refusal → Bool
+is_refused (Err r) = true
+is_refused (Ok u) = false
 
-pub never-loaded : {n line : ℕ} → Loading.Refused n line ≡ Loading.Loaded → ⊥
+pub never-loaded : {r : Refusal} → ◌≡◌ {A = Result (Unit {0}) Refusal} (Err r) (Ok tt) → ⊥
 never-loaded h = true≢false (ap is_refused h)
 
+-- what the answer of a stage says of what it found
+same-refusal : {a b : Refusal} → ◌≡◌ {A = Result (Unit {0}) Refusal} (Err a) (Err b) → a ≡ b
+same-refusal e = cc
+
+pub stage-passed : (reason : Reason) (s : code.Option ℕ) {p : Result (Unit {0}) Refusal} → p ≡ stage_answer reason s → p ≡ Ok tt → s ≡ None
+stage-passed reason None a e = refl
+stage-passed reason (Some line) a e = absurd (never-loaded (sym a ∙ e))
+
+pub refused-by : {text : Bytes} {due : Loaded} {rows : Words} (reason : Reason) (s : code.Option ℕ) {p r : Result (Unit {0}) Refusal} {e : Refusal}
+    → p ≡ stage_answer reason s → p ≡ Err e → r ≡ Err e → ((line : ℕ) → s ≡ Some line → Passes text due (Err (record { reason = reason; line = line })) rows) → Passes text due r rows
+refused-by reason None a w q f = absurd (never-loaded (sym w ∙ a))
+refused-by {text} {due} {rows} reason (Some line) a w q f = subst (λ x. Passes text due x rows) (sym (q ∙ ap Err (same-refusal (sym w ∙ a)))) (f line refl)
+
 -- a refusal does not look at the rows
-refusal-passes : (text : Bytes) (due : Loaded) (rows : Words) (n line : ℕ) → due ≡ refused n line → Laid rows → Passes text due (Loading.Refused n line) rows
+refusal-passes : (text : Bytes) (due : Loaded) (rows : Words) (r : Refusal) → due ≡ refused (reason_number r.reason) r.line → Laid rows → Passes text due (Err r) rows
 unfolding loading_meant
-refusal-passes text due rows n line e l = record { says = sym e; laid = l; ranked = λ h. absurd (never-loaded h); unsigned = λ h. absurd (never-loaded h) }
+refusal-passes text due rows r e l = record { says = sym e; laid = l; ranked = λ h. absurd (never-loaded h); unsigned = λ h. absurd (never-loaded h) }
 
 module _ (text : Bytes) (rows : Words) (laid : Laid rows) where
   abbrev T : Table
@@ -65,39 +81,39 @@ module _ (text : Bytes) (rows : Words) (laid : Laid rows) where
   from7 = staged 7 (finds lacking) from8
 
   -- the stages that pass, one after the other
-  pub to-7 : {s : Stage} → found s ≡ first_unordered T.packages → s ≡ Stage.Passed → checked T ≡ from7
+  pub to-7 : {s : code.Option ℕ} → found s ≡ first_unordered T.packages → s ≡ None → checked T ≡ from7
   unfolding checked
   to-7 p q = after-passed 14 from7 refl p q
 
-  pub to-8 : checked T ≡ from7 → {s : Stage} → found s ≡ finds lacking → s ≡ Stage.Passed → checked T ≡ from8
+  pub to-8 : checked T ≡ from7 → {s : code.Option ℕ} → found s ≡ finds lacking → s ≡ None → checked T ≡ from8
   to-8 due p q = after-passed 7 from8 due p q
 
-  pub to-9 : checked T ≡ from8 → {s : Stage} → found s ≡ finds forbidden → s ≡ Stage.Passed → checked T ≡ from9
+  pub to-9 : checked T ≡ from8 → {s : code.Option ℕ} → found s ≡ finds forbidden → s ≡ None → checked T ≡ from9
   to-9 due p q = after-passed 8 from9 due p q
 
-  pub to-10 : checked T ≡ from9 → {s : Stage} → found s ≡ finds clashing → s ≡ Stage.Passed → checked T ≡ from10
+  pub to-10 : checked T ≡ from9 → {s : code.Option ℕ} → found s ≡ finds clashing → s ≡ None → checked T ≡ from10
   to-10 due p q = after-passed 9 from10 due p q
 
   -- and the one that finds a line
-  pub refused-14 : {s : Stage} {line : ℕ} → found s ≡ first_unordered T.packages → s ≡ Stage.Bad line → Passes text (checked T) (Loading.Refused 14 line) rows
+  pub refused-14 : {s : code.Option ℕ} {line : ℕ} → found s ≡ first_unordered T.packages → s ≡ Some line → Passes text (checked T) (Err (record { reason = Reason.PackageOrder; line = line })) rows
   unfolding checked
-  refused-14 p q = refusal-passes text _ rows 14 _ (after-bad 14 from7 refl p q) laid
+  refused-14 p q = refusal-passes text _ rows _ (after-bad 14 from7 refl p q) laid
 
-  pub refused-7 : checked T ≡ from7 → {s : Stage} {line : ℕ} → found s ≡ finds lacking → s ≡ Stage.Bad line → Passes text (checked T) (Loading.Refused 7 line) rows
-  refused-7 due p q = refusal-passes text _ rows 7 _ (after-bad 7 from8 due p q) laid
+  pub refused-7 : checked T ≡ from7 → {s : code.Option ℕ} {line : ℕ} → found s ≡ finds lacking → s ≡ Some line → Passes text (checked T) (Err (record { reason = Reason.Lacking; line = line })) rows
+  refused-7 due p q = refusal-passes text _ rows _ (after-bad 7 from8 due p q) laid
 
-  pub refused-8 : checked T ≡ from8 → {s : Stage} {line : ℕ} → found s ≡ finds forbidden → s ≡ Stage.Bad line → Passes text (checked T) (Loading.Refused 8 line) rows
-  refused-8 due p q = refusal-passes text _ rows 8 _ (after-bad 8 from9 due p q) laid
+  pub refused-8 : checked T ≡ from8 → {s : code.Option ℕ} {line : ℕ} → found s ≡ finds forbidden → s ≡ Some line → Passes text (checked T) (Err (record { reason = Reason.Forbidden; line = line })) rows
+  refused-8 due p q = refusal-passes text _ rows _ (after-bad 8 from9 due p q) laid
 
-  pub refused-9 : checked T ≡ from9 → {s : Stage} {line : ℕ} → found s ≡ finds clashing → s ≡ Stage.Bad line → Passes text (checked T) (Loading.Refused 9 line) rows
-  refused-9 due p q = refusal-passes text _ rows 9 _ (after-bad 9 from10 due p q) laid
+  pub refused-9 : checked T ≡ from9 → {s : code.Option ℕ} {line : ℕ} → found s ≡ finds clashing → s ≡ Some line → Passes text (checked T) (Err (record { reason = Reason.Clash; line = line })) rows
+  refused-9 due p q = refusal-passes text _ rows _ (after-bad 9 from10 due p q) laid
 
-  module _ (due : checked T ≡ from10) (after : Words) {s : Stage} (p : Contained rows s after) where
-    pub refused-10 : {line : ℕ} → s ≡ Stage.Bad line → Passes text (checked T) (Loading.Refused 10 line) after
-    refused-10 q = refusal-passes text _ after 10 _ (after-bad 10 (loaded T) due (p.line text) q) p.holds.laid
+  module _ (due : checked T ≡ from10) (after : Words) {s : code.Option ℕ} (p : Contained rows s after) where
+    pub refused-10 : {line : ℕ} → s ≡ Some line → Passes text (checked T) (Err (record { reason = Reason.Containing; line = line })) after
+    refused-10 q = refusal-passes text _ after _ (after-bad 10 (loaded T) due (p.line text) q) p.holds.laid
 
     -- the rows say that there are no signs: ranks stay
-    pub passes-all : s ≡ Stage.Passed → (last : Words) → SignedPut after 0 last → Passes text (checked T) Loading.Loaded last
+    pub passes-all : s ≡ None → (last : Words) → SignedPut after 0 last → Passes text (checked T) (Ok tt) last
     unfolding loading_meant rank_read
     passes-all q last u = record {
       says = ap loaded (u.beside.holds.held text ∙ p.holds.held text) ∙ sym (after-passed 10 (loaded T) due (p.line text) q);

@@ -1,22 +1,21 @@
 -- From the text read to the table loaded: what the two returns of `load` say.
 use mathlib.Core.Path.{◌≡◌, sym, ap, ◌∙◌}
-use Prim.Native.Nat.{ℕ}
 use Rattle.objects.specs.Lists.{Bytes}
 use Rattle.objects.specs.Rows.{Words, table_of}
 use Rattle.rules.specs.Load.{then_checked, checked, load}
-use Rattle.lines.specs.declared.Read.{Read}
+use Rattle.std.specs.Prelude.{Result, Ok, Err}
+use Rattle.objects.specs.declared.refusals.Refusal.{Refusal}
 use Rattle.lines.specs.Reading.{read_meant}
-use Rattle.table.specs.declared.Loading.{Loading}
 use Rattle.table.specs.Loading.{loading_meant, Passes, Loads}
 use Rattle.table.proofs.Staging.{never-loaded}
 
 -- 2 to 6
-pub refused-early : (text : Bytes) (rows : Words) {r : Read} {n line : ℕ} → load text ≡ then_checked (read_meant text rows r) → r ≡ Read.Refused n line → Loads text (Loading.Refused n line) rows
+pub refused-early : (text : Bytes) (rows : Words) {r : Result (Unit {0}) Refusal} {e : Refusal} → load text ≡ then_checked (read_meant text rows r) → r ≡ Err e → Loads text (Err e) rows
 unfolding loading_meant read_meant
-refused-early text rows e q = record { says = sym (e ∙ ap (λ z. then_checked (read_meant text rows z)) q); holds = λ h. absurd (never-loaded h) }
+refused-early text rows p q = record { says = sym (p ∙ ap (λ z. then_checked (read_meant text rows z)) q); holds = λ h. absurd (never-loaded h) }
 
 -- 7 to 10, or a library
-pub loads-after : (text : Bytes) (rows after : Words) {r : Read} {s : Loading} → load text ≡ then_checked (read_meant text rows r) → r ≡ Read.Lines → Passes text (checked (table_of text rows)) s after → Loads text s after
+pub loads-after : (text : Bytes) (rows after : Words) {r s : Result (Unit {0}) Refusal} → load text ≡ then_checked (read_meant text rows r) → r ≡ Ok tt → Passes text (checked (table_of text rows)) s after → Loads text s after
 unfolding loading_meant read_meant
 loads-after text rows after {s = s} e q p = record {
   says = says;

@@ -43,7 +43,7 @@ assembled-lines packages kinds = ap (λ r. map package_line packages ++ r) (kind
 
 -- ---- where the lines stand
 
-from_next : (first n : ℕ) → from first (suc n) ≡ first ∷ from (suc first) n
+pub from_next : (first n : ℕ) → from first (suc n) ≡ first ∷ from (suc first) n
 from_next first zero = let e : first + 0 ≡ first = omega arith in ap (λ x. x ∷ []) e
 from_next first (suc n) =
     let e : first + suc n ≡ suc first + n = omega arith in

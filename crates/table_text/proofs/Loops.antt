@@ -46,27 +46,3 @@ module _ (f : ℕ → Bytes) (first count : ℕ) where
         past = omega (arith, l, ap length none, ap length left-all);
         text = sym (ap (written o at) (sym left-all) ∙ e ∙ ap (written out i) none ∙ written-nothing out i);
       }
-
--- all pieces from number 0 on; n is their count, as it was read
-module _ (f : ℕ → Bytes) (count : ℕ) {n : ℕ} (q : n ≡ count) (j : ℕ) where
-  same : f j ≡ f (0 + j)
-  same = let e : 0 + j ≡ j = omega arith in rw e
-
-  module _ (h : j < n) where
-    pub zero_room : (o : Bytes) (at i : ℕ) (out : Bytes) → i + length (left_from f 0 count j) ≡ at + length (left_from f 0 count 0)
-        → at + length (pieces_from f 0 count) ≤ length o → length out ≡ length o
-        → i + length (f j) ≤ length out
-    zero_room o at i out e l s = rw same (next-room f 0 count j (rw q at h) o at i out e l s)
-
-    pub zero-wrote : {out out' : Bytes} {i r : ℕ} → Wrote out i (f j) out' r → written out i (left_from f 0 count j) ≡ written out' r (left_from f 0 count (j + 1))
-    zero-wrote d = next-wrote f 0 count j (rw q at h) (rw same at d)
-
-    pub zero-place : {out out' : Bytes} {i r : ℕ} (m : ℕ) → Wrote out i (f j) out' r → i + length (left_from f 0 count j) ≡ m → r + length (left_from f 0 count (j + 1)) ≡ m
-    zero-place m d e = next_place f 0 count j (rw q at h) m (rw same at d) e
-
-  pub zero-all : (o : Bytes) (at : ℕ) (out : Bytes) (i : ℕ) → n ≤ j → written o at (left_from f 0 count 0) ≡ written out i (left_from f 0 count j)
-      → i + length (left_from f 0 count j) ≡ at + length (left_from f 0 count 0) → Wrote o at (pieces_from f 0 count) out i
-  zero-all o at out i h e l = all-wrote f 0 count o at out i j (rw q at h) e l
-
-pub less_as : {j n m : ℕ} → n ≡ m → j < n → j < m
-less_as q h = rw q at h

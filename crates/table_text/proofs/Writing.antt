@@ -1,30 +1,29 @@
 -- Laws of the T lines that the code writes (specs/Rows.antt): the bytes of a part, the word of a kind, and its numbers.
 use mathlib.Core.Path.{◌≡◌, refl, sym, ap, ◌∙◌}
 use mathlib.Core.Bool.{cond}
-use mathlib.Core.List.{[], ◌∷◌, ◌++◌}
+use mathlib.Core.List.{[], ◌∷◌, ◌++◌, append_assoc}
 use Prim.Native.Nat.{ℕ, zero, suc, ◌+◌, ◌≤◌, ◌<◌}
 use native.Mathlib.Omega.{arith}
 use lib.Dec.{eqb, ltb, leb}
-use lib.ListN.{length, get_or, take, drop, set, length-map, length-append, drop_of_length-le, get_or-map}
-use lib.Seq.{drop-cons}
-use native.Mathlib.Numerals.{add-one}
+use lib.ListN.{length, get_or, take, drop, length-append}
 use borrow.Author.Tests.{ne_eqb, eqb-true, eqb-false, lt-ltb, le-ltb, ltb-true, leb-true}
 use Rattle.objects.specs.Bounds.{word_values}
 use Rattle.objects.specs.Lists.{Bytes}
 use Rattle.objects.specs.declared.TypeKey.{TypeKey}
 use Rattle.objects.specs.Rows.{Words, bytes_at, dir_at, type_word, element_at, elements_from, kind_of, kind_read}
 use Rattle.objects.specs.Types.{number_of, number_read, first_read, total_read}
-use Rattle.objects.proofs.RowLaws.{by_kind, named-kind, elements-length, elements-at}
+use Rattle.objects.proofs.RowLaws.{by_kind, named-kind}
 use Rattle.objects.proofs.ListLaws.{cases, map-map}
 use Rattle.objects.proofs.PartLaws.{every-In, get_or-all}
 use Rattle.text.specs.Bytes.{decimal}
 use Rattle.rules.specs.Answer.{tabbed}
-use Rattle.print.specs.Written.{number_line, line_end, written, Wrote}
+use Rattle.print.specs.Written.{number_line, line_end, Wrote}
 use Rattle.print.proofs.LineLaws.{end_none, end-some}
-use Rattle.print.proofs.WrittenLaws.{written-more, written-nothing, written_byte, wrote-length, then-wrote, wrote_as}
+use Rattle.print.proofs.WrittenLaws.{wrote-length, then-wrote, wrote_as}
 use Rattle.edits.specs.TableText.{type_bytes, line_body, line_of_type}
-use Rattle.objects.specs.Table.{dir_number, type_key}
-use Rattle.table_text.specs.Rows.{carried_number, carried_type, carried_kind, kind_word, number_counts, first_number, element_numbers, type_text}
+use Rattle.objects.specs.Table.{dir_number}
+use Rattle.table_text.specs.Rows.{carried_number, carried_type, carried_kind, kind_word, number_counts, first_number, element_numbers, type_text, pieces_from}
+use Rattle.table_text.proofs.AssembledText.{from_next}
 
 -- ---- parts
 
@@ -106,58 +105,20 @@ module _ (numbers rows : Words) (t : TypeKey) where
   unfolding type_text kind_read
   type-line-any text = ap (λ l. line_body l ++ (10 ∷ [])) (sym (line-any numbers rows _ _ _ _ _ text _))
 
--- ---- the elements of a tuple, one after the other: n is the number of element j
+-- ---- the elements of a tuple are pieces
 
-module _ (numbers rows : Words) (first count : ℕ) where
-  elements-count : length (element_numbers numbers rows first count) ≡ count
-  unfolding element_numbers
-  elements-count = length-map (elements_from [] rows first count) (λ (e : TypeKey). carried_number numbers e.0) ∙ elements-length [] rows first count
+module _ (numbers rows : Words) where
+  -- a tab and the number of an element
+  abbrev pub element_piece : ℕ → Bytes
+  element_piece k = 9 ∷ decimal (carried_number numbers (element_at rows k).0)
 
-  element-here : (j : ℕ) → j < count → drop j (element_numbers numbers rows first count) ≡ carried_number numbers (element_at rows (first + j)).0 ∷ drop (j + 1) (element_numbers numbers rows first count)
-  unfolding element_numbers
-  element-here j h =
-      let l = elements-count in
-      let d = drop-cons (element_numbers numbers rows first count) j (carried_number numbers (type_key 0).0) (omega arith) in
-      let g : get_or (element_numbers numbers rows first count) j (carried_number numbers (type_key 0).0) ≡ carried_number numbers (element_at rows (first + j)).0 =
-      get_or-map (λ (e : TypeKey). carried_number numbers e.0) (elements_from [] rows first count) j (type_key 0)
-      ∙ ap (λ (e : TypeKey). carried_number numbers e.0) (elements-at [] rows first count j (type_key 0) h) in
-      rw (add-one j) (d ∙ ap (λ x. x ∷ drop (suc j) (element_numbers numbers rows first count)) g)
-
-  -- what is still to be written from element j on
-  pub elements_left : ℕ → Bytes
-  elements_left j = line_end (drop j (element_numbers numbers rows first count))
-
-  pub elements-all : elements_left 0 ≡ line_end (element_numbers numbers rows first count)
-  unfolding elements_left
-  elements-all = refl
-
-  module _ (j : ℕ) (h : j < count) {n : ℕ} (p : n ≡ carried_number numbers (element_at rows (first + j)).0) where
-    element-next : elements_left j ≡ (9 ∷ decimal n) ++ elements_left (j + 1)
-    unfolding elements_left
-    element-next = ap line_end (element-here j h) ∙ end-some (carried_number numbers (element_at rows (first + j)).0) (drop (j + 1) (element_numbers numbers rows first count)) ∙ rw p
-
-    pub element-length : length (elements_left j) ≡ 1 + length (decimal n) + length (elements_left (j + 1))
-    element-length = omega (arith, ap length element-next, length-append (9 ∷ decimal n) (elements_left (j + 1)))
-
-    pub element-wrote : {out out' : Bytes} {i r : ℕ} → Wrote out i (9 ∷ decimal n) out' r → written out i (elements_left j) ≡ written out' r (elements_left (j + 1))
-    element-wrote {out} {out'} {i} {r} d = ap (written out i) element-next ∙ sym (rw (d.past, d.text) (written-more out i (9 ∷ decimal n) (elements_left (j + 1))))
-
-  module _ (j : ℕ) (h : count ≤ j) where
-    elements-none : elements_left j ≡ 10 ∷ []
-    unfolding elements_left
-    elements-none =
-        let l : length (element_numbers numbers rows first count) ≤ j = omega (arith, elements-count) in
-        ap line_end (drop_of_length-le (element_numbers numbers rows first count) l) ∙ end_none
-
-    pub none-length : length (elements_left j) ≡ 1
-    none-length = ap length elements-none
-
-    pub elements-wrote : (o : Bytes) (at : ℕ) (out : Bytes) (i : ℕ) → written o at (elements_left 0) ≡ written out i (elements_left j) → i + length (elements_left j) ≡ at + length (elements_left 0)
-        → Wrote o at (line_end (element_numbers numbers rows first count)) (set out i 10) (i + 1)
-    elements-wrote o at out i e l = record {
-      past = omega (arith, l, none-length, ap length elements-all);
-      text = sym (ap (written o at) (sym elements-all) ∙ e ∙ ap (written out i) elements-none ∙ written_byte out i 10 [] ∙ written-nothing (set out i 10) (i + 1));
-    }
+  pub elements-pieces : (first count : ℕ) → line_end (element_numbers numbers rows first count) ≡ pieces_from element_piece first count ++ (10 ∷ [])
+  unfolding element_numbers elements_from pieces_from
+  elements-pieces first zero = end_none
+  elements-pieces first (suc n) =
+      rw (from_next first n)
+      (end-some (carried_number numbers (element_at rows first).0) (element_numbers numbers rows (suc first) n)
+      ∙ ap (λ r. element_piece first ++ r) (elements-pieces (suc first) n) ∙ sym (append_assoc (element_piece first) (pieces_from element_piece (suc first) n) (10 ∷ [])))
 
 -- ---- the parts of a T line, written one after the other
 

@@ -3,3 +3,4 @@
 pub mod Numbered
 pub mod Shaped
 pub mod Rows
+pub mod Pieces

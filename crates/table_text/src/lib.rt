@@ -13,6 +13,7 @@ ghost use Rattle.edits.specs.TableText.{text_of};
 ghost use Rattle.table_text.specs.Rows.{members_text, type_lines_text, packages_text, types_text, Small};
 
 use crate::lines::{put_member_line, put_package_line, put_type_line};
+use crate::pieces::put_pieces;
 use objects::kinds::STRUCT;
 use objects::rows::{first_member, kind_number, member_total, package_count, type_count};
 use objects::{ObjKey, PackageKey, TypeKey};
@@ -20,6 +21,7 @@ use print::put_word;
 
 pub mod lines; // one line
 pub mod parts; // what a line is made of
+pub mod pieces; // one after the other
 
 // The lines of count members from a first one on.
 fn put_members(
@@ -34,11 +36,9 @@ fn put_members(
     requires { (first + count < word_values) × (at + length (members_text numbers.now text.now rows.now first count) ≤ length out.old) }
     ensures { Wrote out.old at (members_text numbers.now text.now rows.now first count) out.new result }
 {
-    let mut i = at;
-    for j in 0..count {
-        i = put_member_line(out, i, text, rows, numbers, ObjKey(first + j));
-    }
-    i
+    put_pieces(out, at, first, count, |o, i, j| {
+        put_member_line(o, i, text, rows, numbers, ObjKey(j))
+    })
 }
 
 // THE LINES OF A TYPE: its T line, and its F or M lines. The kinds before struct have no members.
@@ -67,12 +67,9 @@ pub fn put_packages(out: &mut [u8], at: usize, text: &[u8], rows: &[u32]) -> usi
     requires { at + length (packages_text text.now rows.now) ≤ length out.old }
     ensures { Wrote out.old at (packages_text text.now rows.now) out.new result }
 {
-    let count = package_count(rows);
-    let mut i = at;
-    for j in 0..count {
-        i = put_package_line(out, i, text, rows, PackageKey(j));
-    }
-    i
+    put_pieces(out, at, 0, package_count(rows), |o, i, j| {
+        put_package_line(o, i, text, rows, PackageKey(j))
+    })
 }
 
 // All types with their members.
@@ -80,12 +77,9 @@ fn put_types(out: &mut [u8], at: usize, text: &[u8], rows: &[u32], numbers: &[u3
     requires { Small rows.now × (at + length (types_text numbers.now text.now rows.now) ≤ length out.old) }
     ensures { Wrote out.old at (types_text numbers.now text.now rows.now) out.new result }
 {
-    let count = type_count(rows);
-    let mut i = at;
-    for j in 0..count {
-        i = put_type(out, i, text, rows, numbers, TypeKey(j));
-    }
-    i
+    put_pieces(out, at, 0, type_count(rows), |o, i, j| {
+        put_type(o, i, text, rows, numbers, TypeKey(j))
+    })
 }
 
 // THE TEXT OF THE TABLE THAT THE ROWS HOLD.

@@ -9,6 +9,7 @@ use crate::parts::{
     carried, first_number, form_flag, number_count, put_end, put_kind, put_letter, put_package,
     put_part, put_tag,
 };
+use crate::pieces::put_pieces;
 use objects::kinds::TUPLE;
 use objects::rows::{
     element, first_member, kind_number, member_total, member_word, package_word, type_word,
@@ -28,14 +29,10 @@ fn put_elements(
     requires { (first + count < word_values) × (at + length (line_end (element_numbers numbers.now rows.now first count)) ≤ length out.old) }
     ensures { Wrote out.old at (line_end (element_numbers numbers.now rows.now first count)) out.new result }
 {
-    let mut i = at;
-    for j in 0..count {
-        let e = element(rows, first + j);
-        let n = carried(numbers, e.0);
-        i = put_field(out, i, n);
-    }
-    out[i] = 10;
-    i + 1
+    let i = put_pieces(out, at, first, count, |o, i, j| {
+        put_field(o, i, carried(numbers, element(rows, j).0))
+    });
+    put_end(out, i)
 }
 
 // THE T LINE OF A TYPE. A row's first element and their count are numbers of 32 bits together, as in every table that was loaded.

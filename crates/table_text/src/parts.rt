@@ -17,8 +17,16 @@ pub fn put_part(out: &mut [u8], at: usize, s: &[u8], from: usize, count: usize) 
     put_word(out, at, span(s, from, count))
 }
 
+// How many numbers stand on the T line of kind k.
+pub fn number_count(k: u32) -> usize
+    requires { k ≤ 10 }
+    ensures { result ≡ get_or number_counts k 0 }
+{
+    let counts = [1, 2, 1, 1, 2, 2, 0, 3, 0, 0, 1];
+    counts[k as usize]
+}
+
 // `T` and the word of kind k.
-#[tactic(auto, unfolding(crate::specs::Rows::kind_word))]
 fn kind_word(k: u32) -> &'static [u8]
     requires { k ≤ 10 }
     ensures { result.now ≡ kind_word k }
@@ -36,15 +44,6 @@ fn kind_word(k: u32) -> &'static [u8]
         9 => b"T\tiface",
         _ => b"T\tnamed",
     }
-}
-
-// How many numbers stand on the T line of kind k.
-pub fn number_count(k: u32) -> usize
-    requires { k ≤ 10 }
-    ensures { result ≡ get_or number_counts k 0 }
-{
-    let counts = [1, 2, 1, 1, 2, 2, 0, 3, 0, 0, 1];
-    counts[k as usize]
 }
 
 // The same, written.
@@ -114,7 +113,6 @@ pub fn form_flag(form: u32) -> u32
 }
 
 // A tab and the tag of a field, if it has one.
-#[tactic(auto, unfolding(crate::specs::Rows::form_tag))]
 pub fn put_tag(
     out: &mut [u8],
     at: usize,

@@ -11,7 +11,8 @@ use Rattle.rules.specs.Asked.{say, written}
 use Rattle.rules.specs.Library.{Library}
 use Rattle.print.specs.Written.{Wrote}
 use Rattle.print.proofs.WrittenLaws.{written-answer, wrote_as}
-use Rattle.reply.specs.declared.Done.{Done}
+use Rattle.std.proofs.Common.{Ok, Err}
+use Rattle.reply.specs.declared.Unsaid.{Unsaid}
 use Rattle.reply.specs.Done.{Does}
 use Rattle.reply.proofs.Saying.{too-long, fits_said}
 use Rattle.edits.specs.Tidy.{tidied}
@@ -31,7 +32,7 @@ module _ (text : Bytes) (rows : Words) (lib : Library text rows) where
   output-room o h = omega (arith, tidied-shorter text (table_of text rows) lib.loads, h)
 
   pub output-said : (o : Bytes) → length text ≤ length o → {after : Bytes} {r : ℕ} → Wrote o 0 (text_of (tidied (table_of text rows))) after r
-      → Does (say (text_of (tidied (table_of text rows)))) (Done.Said r) o after
+      → Does (say (text_of (tidied (table_of text rows)))) (Ok r) o after
   output-said o h w = fits_said o (text_of (tidied (table_of text rows))) refl (omega (arith, output-room o h)) w
 
   -- as many as were counted
@@ -51,8 +52,8 @@ module _ (o bytes : Bytes) (h : 0 + length bytes ≤ length o) {o₁ : Bytes} {n
   unfolding written
   front-is = rw (size_is, d.text ∙ written-answer o bytes (omega arith)) (take_at bytes (drop (length bytes) o) (length bytes) refl)
 
-  pub aside-long : (output : Bytes) → length output < n → Does (say bytes) (Done.Long n) output output
+  pub aside-long : (output : Bytes) → length output < n → Does (say bytes) (Err (Unsaid.Long n)) output output
   aside-long output l = too-long output bytes size_is l
 
-  pub aside-said : {output after part : Bytes} {r : ℕ} → n ≤ length output → part ≡ take (n - 0) o₁ → Wrote output 0 part after r → Does (say bytes) (Done.Said r) output after
+  pub aside-said : {output after part : Bytes} {r : ℕ} → n ≤ length output → part ≡ take (n - 0) o₁ → Wrote output 0 part after r → Does (say bytes) (Ok r) output after
   aside-said {output} l p e = let z : n - 0 ≡ n = omega arith in fits_said output bytes size_is l (wrote_as (sym front-is ∙ ap (λ k. take k o₁) (sym z) ∙ sym p) refl e)

@@ -16,7 +16,7 @@ use crate::writer::put_tidied;
 use objects::bounds::{MAX_TEXT, MAX_TYPES};
 use objects::rows::type_count;
 use print::put_word;
-use reply::Done;
+use reply::Unsaid;
 use twins::least_twins;
 
 pub mod numbers; // the new number of each type
@@ -31,7 +31,7 @@ fn say_aside(
     twins: &[u32],
     numbers: &[u32],
     output: &mut [u8],
-) -> Done
+) -> Result<usize, Unsaid>
     requires library { Library text.now rows.now }
     requires twinned { Twinned text.now rows.now twins.now × Renumbered text.now rows.now numbers.now }
     requires rows_in_bounds { (type_count rows.now ≤ length twins.now) × (type_count rows.now ≤ length numbers.now) }
@@ -40,14 +40,20 @@ fn say_aside(
 {
     let n = put_tidied(aside, 0, text, rows, twins, numbers);
     if output.len() < n {
-        return Done::Long(n);
+        return Err(Unsaid::Long(n));
     }
     let end = put_word(output, 0, &aside[0..n]);
-    Done::Said(end)
+    Ok(end)
 }
 
 // The same with bytes of its own: as many as a text may have.
-fn say_short(text: &[u8], rows: &[u32], twins: &[u32], numbers: &[u32], output: &mut [u8]) -> Done
+fn say_short(
+    text: &[u8],
+    rows: &[u32],
+    twins: &[u32],
+    numbers: &[u32],
+    output: &mut [u8],
+) -> Result<usize, Unsaid>
     requires library { Library text.now rows.now }
     requires twinned { Twinned text.now rows.now twins.now × Renumbered text.now rows.now numbers.now }
     requires rows_in_bounds { (type_count rows.now ≤ length twins.now) × (type_count rows.now ≤ length numbers.now) }
@@ -58,7 +64,13 @@ fn say_short(text: &[u8], rows: &[u32], twins: &[u32], numbers: &[u32], output: 
 }
 
 // The same, written at once into an output that is as long as the text that was loaded.
-fn say_tidied(text: &[u8], rows: &[u32], twins: &[u32], numbers: &[u32], output: &mut [u8]) -> Done
+fn say_tidied(
+    text: &[u8],
+    rows: &[u32],
+    twins: &[u32],
+    numbers: &[u32],
+    output: &mut [u8],
+) -> Result<usize, Unsaid>
     requires library { Library text.now rows.now }
     requires twinned { Twinned text.now rows.now twins.now × Renumbered text.now rows.now numbers.now }
     requires rows_in_bounds { (type_count rows.now ≤ length twins.now) × (type_count rows.now ≤ length numbers.now) }
@@ -68,11 +80,11 @@ fn say_tidied(text: &[u8], rows: &[u32], twins: &[u32], numbers: &[u32], output:
         return say_short(text, rows, twins, numbers, output);
     }
     let n = put_tidied(output, 0, text, rows, twins, numbers);
-    Done::Said(n)
+    Ok(n)
 }
 
 // THE TABLE WRITTEN OUT TIDY.
-pub fn tidy(text: &[u8], rows: &[u32], output: &mut [u8]) -> Done
+pub fn tidy(text: &[u8], rows: &[u32], output: &mut [u8]) -> Result<usize, Unsaid>
     requires { Library text.now rows.now }
     ensures { Does (says_tidied (table_of text.now rows.now)) result output.old output.new }
 {

@@ -15,6 +15,7 @@ ghost use Rattle.tidy.specs.Text.{own_text, remaining_text};
 use objects::TypeKey;
 use objects::rows::type_count;
 use print::put_word;
+use table_text::pieces::put_pieces;
 use table_text::{put_packages, put_type};
 
 // The lines of a type that is its own twin; nothing of another.
@@ -48,12 +49,9 @@ fn put_remaining(
     requires { Small rows.now × (type_count rows.now ≤ length twins.now) × (at + length (remaining_text text.now rows.now twins.now numbers.now) ≤ length out.old) }
     ensures { Wrote out.old at (remaining_text text.now rows.now twins.now numbers.now) out.new result }
 {
-    let count = type_count(rows);
-    let mut i = at;
-    for j in 0..count {
-        i = put_own(out, i, text, rows, twins, numbers, TypeKey(j));
-    }
-    i
+    put_pieces(out, at, 0, type_count(rows), |o, i, j| {
+        put_own(o, i, text, rows, twins, numbers, TypeKey(j))
+    })
 }
 
 // THE TEXT OF THE TIDIED TABLE.

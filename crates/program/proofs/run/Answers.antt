@@ -5,30 +5,30 @@ use Rattle.program.proofs.run.Goals as goal
 
 pub refuse-requires : goal.refuse-requires
 unfolding opening_meant
-refuse-requires g c = c.in-Refused.ensures.says
+refuse-requires g c = rw c.number.ensures c.in-Err.ensures.says
 
-pub returns-in-Refused-clause-place : goal.returns-in-Refused-clause-place
+pub returns-in-Err-clause-place : goal.returns-in-Err-clause-place
 unfolding opening_meant
-returns-in-Refused-clause-place g c = rw c.in-Refused.ensures.says c.refuse.ensures.place
+returns-in-Err-clause-place g c = rw c.in-Err.ensures.says (rw c.number.ensures at c.refuse.ensures.place)
 
-pub returns-in-Refused-clause-bytes : goal.returns-in-Refused-clause-bytes
+pub returns-in-Err-clause-bytes : goal.returns-in-Err-clause-bytes
 unfolding opening_meant
-returns-in-Refused-clause-bytes g c = rw c.in-Refused.ensures.says c.refuse.ensures.bytes
+returns-in-Err-clause-bytes g c = rw c.in-Err.ensures.says (rw c.number.ensures at c.refuse.ensures.bytes)
 
-pub returns-in-Whole-clause-place : goal.returns-in-Whole-clause-place
+pub returns-in-None-clause-place : goal.returns-in-None-clause-place
 unfolding opening_meant
-returns-in-Whole-clause-place g c = rw c.in-Whole.ensures.says c.print_all.ensures.place
+returns-in-None-clause-place g c = rw (rw c.in-None.is at c.in-Ok.ensures.says) c.print_all.ensures.place
 
-pub returns-in-Whole-clause-bytes : goal.returns-in-Whole-clause-bytes
+pub returns-in-None-clause-bytes : goal.returns-in-None-clause-bytes
 unfolding opening_meant
-returns-in-Whole-clause-bytes g c = rw c.in-Whole.ensures.says c.print_all.ensures.bytes
+returns-in-None-clause-bytes g c = rw (rw c.in-None.is at c.in-Ok.ensures.says) c.print_all.ensures.bytes
 
-pub returns-in-Until-clause-place : goal.returns-in-Until-clause-place
+pub returns-in-Some-clause-place : goal.returns-in-Some-clause-place
 unfolding opening_meant
-returns-in-Until-clause-place g c =
-    rw (c.in-Until.ensures.says, due-parts c.args.input.now c.in-Until.end c.open_input.new.rows c.in-Until.next) c.print_all-in-Until.ensures.place
+returns-in-Some-clause-place g c =
+    rw (rw c.in-Some.is at c.in-Ok.ensures.says, due-parts c.args.input.now c.in-Some.end c.open_input.new.rows c.in-Some.next) c.print_all-in-Some.ensures.place
 
-pub returns-in-Until-clause-bytes : goal.returns-in-Until-clause-bytes
+pub returns-in-Some-clause-bytes : goal.returns-in-Some-clause-bytes
 unfolding opening_meant
-returns-in-Until-clause-bytes g c =
-    rw (c.in-Until.ensures.says, due-parts c.args.input.now c.in-Until.end c.open_input.new.rows c.in-Until.next) c.print_all-in-Until.ensures.bytes
+returns-in-Some-clause-bytes g c =
+    rw (rw c.in-Some.is at c.in-Ok.ensures.says, due-parts c.args.input.now c.in-Some.end c.open_input.new.rows c.in-Some.next) c.print_all-in-Some.ensures.bytes

@@ -9,7 +9,7 @@ use Rattle.lines.proofs.adding.add_tuple.Goals as goal
 
 pub put_type-requires : goal.put_type-requires
 put_type-requires c =
-    let few : type_count c.args.rows.now < max_types = omega (arith, c.type_count.ensures, c.if-type_count-lt-TYPES.true) in
+    let few : type_count c.args.rows.now < max_types = omega (arith, c.type_count.ensures, c.if-type_count-ge-TYPES.false) in
     (c.requires.0, few, c.requires.3 few)
 
 pub put_elements-requires : goal.put_elements-requires
@@ -22,15 +22,15 @@ put_elements-requires c = (
 
 pub returns-then-put_elements : goal.returns-then-put_elements
 returns-then-put_elements c =
-    tuple-added _ _ _ c.requires.0 _ c.put_elements.ensures.value c.if-put_elements.true c.type_count.ensures _ c.put_type.ensures.holds c.if-type_count-lt-TYPES.true _ c.put_elements.ensures.laid c.put_elements.ensures.rows_after c.put_type.ensures.rows_unchanged c.put_elements.ensures.rows_after_2
+    tuple-added _ _ _ c.requires.0 _ c.put_elements.ensures.value c.if-put_elements.true c.type_count.ensures _ c.put_type.ensures.holds c.if-type_count-ge-TYPES.false _ c.put_elements.ensures.laid c.put_elements.ensures.rows_after c.put_type.ensures.rows_unchanged c.put_elements.ensures.rows_after_2
 
-pub returns-then-type_count-lt-TYPES : goal.returns-then-type_count-lt-TYPES
-returns-then-type_count-lt-TYPES c =
+pub returns-else-put_elements : goal.returns-else-put_elements
+returns-else-put_elements c =
     tuple-wrong _ _ _ c.requires.0 _ c.put_elements.ensures.value c.put_elements.ensures.laid c.if-put_elements.false
 
 pub returns-then-listed : goal.returns-then-listed
 returns-then-listed c =
-    tuple-full _ _ _ c.requires.0 _ c.listed.ensures c.if-listed.true c.type_count.ensures c.if-type_count-lt-TYPES.false
+    tuple-full _ _ _ c.requires.0 _ c.listed.ensures c.if-listed.true c.type_count.ensures c.if-type_count-ge-TYPES.true
 
-pub returns : goal.returns
-returns c = tuple-wrong _ _ _ c.requires.0 _ c.listed.ensures c.requires.0 c.if-listed.false
+pub returns-else-listed : goal.returns-else-listed
+returns-else-listed c = tuple-wrong _ _ _ c.requires.0 _ c.listed.ensures c.requires.0 c.if-listed.false

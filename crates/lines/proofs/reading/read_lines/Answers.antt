@@ -31,10 +31,10 @@ pub add_line-requires : goal.add_line-requires
 add_line-requires c =
     (c.requires.0, c.loop-from.invariant.1, line-room c.args.text.now c.loop-from.at c.loop-from.line (table_of c.args.text.now c.loop-from.rows) c.loop-from.invariant.3 c.line_end-end.ensures c.if-end-text.false c.line.ensures c.loop-from.rows c.loop-from.invariant.2, omega (arith, c.loop-from.invariant.5, c.requires.5))
 
-pub returns-in-Refused : goal.returns-in-Refused
+pub returns-in-Err : goal.returns-in-Err
 unfolding read_meant
-returns-in-Refused c =
-    record { text_value = c.loop-from.invariant.0 ∙ line_refused c.args.text.now c.loop-from.at c.loop-from.line (table_of c.args.text.now c.loop-from.rows) c.loop-from.invariant.3 c.line_end-end.ensures c.if-end-text.false c.line.ensures c.loop-from.rows _ _ refl c.add_line.ensures.meant c.in-Refused.is; laid = c.add_line.ensures.laid }
+returns-in-Err c =
+    record { text_value = c.loop-from.invariant.0 ∙ line_refused c.args.text.now c.loop-from.at c.loop-from.line (table_of c.args.text.now c.loop-from.rows) c.loop-from.invariant.3 c.line_end-end.ensures c.if-end-text.false c.line.ensures c.loop-from.rows _ _ refl c.add_line.ensures.meant c.in-Err.is; laid = c.add_line.ensures.laid }
 
 pub overflow_add-at : goal.overflow_add-at
 overflow_add-at c =
@@ -49,4 +49,4 @@ loop-from-smaller c =
 
 pub loop-from-preserved : goal.loop-from-preserved
 loop-from-preserved c =
-    (c.loop-from.invariant.0 ∙ line_read c.args.text.now c.loop-from.at c.loop-from.line (table_of c.args.text.now c.loop-from.rows) c.loop-from.invariant.3 c.line_end-end.ensures c.if-end-text.false c.line.ensures c.loop-from.rows _ _ refl c.add_line.ensures.meant c.in-Added.is, c.add_line.ensures.laid, line-brings c.args.text.now c.loop-from.at c.loop-from.line (table_of c.args.text.now c.loop-from.rows) c.loop-from.invariant.3 c.line_end-end.ensures c.if-end-text.false c.line.ensures c.loop-from.rows _ c.loop-from.invariant.2 (subst (Grown _ _ _ _ _) c.in-Added.is c.add_line.ensures), omega (arith, end-within c.args.text.now c.loop-from.at c.loop-from.line (table_of c.args.text.now c.loop-from.rows) c.loop-from.invariant.3 c.line_end-end.ensures, c.if-end-text.false), omega (arith, end-behind c.args.text.now c.loop-from.at c.loop-from.line (table_of c.args.text.now c.loop-from.rows) c.loop-from.invariant.3 c.line_end-end.ensures, c.loop-from.invariant.4), search rules)
+    (c.loop-from.invariant.0 ∙ line_read c.args.text.now c.loop-from.at c.loop-from.line (table_of c.args.text.now c.loop-from.rows) c.loop-from.invariant.3 c.line_end-end.ensures c.if-end-text.false c.line.ensures c.loop-from.rows _ _ refl c.add_line.ensures.meant c.in_default.is, c.add_line.ensures.laid, line-brings c.args.text.now c.loop-from.at c.loop-from.line (table_of c.args.text.now c.loop-from.rows) c.loop-from.invariant.3 c.line_end-end.ensures c.if-end-text.false c.line.ensures c.loop-from.rows _ c.loop-from.invariant.2 (subst (Grown _ _ _ _ _) c.in_default.is c.add_line.ensures), omega (arith, end-within c.args.text.now c.loop-from.at c.loop-from.line (table_of c.args.text.now c.loop-from.rows) c.loop-from.invariant.3 c.line_end-end.ensures, c.if-end-text.false), omega (arith, end-behind c.args.text.now c.loop-from.at c.loop-from.line (table_of c.args.text.now c.loop-from.rows) c.loop-from.invariant.3 c.line_end-end.ensures, c.loop-from.invariant.4), search rules)

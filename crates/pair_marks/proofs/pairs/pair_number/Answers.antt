@@ -3,14 +3,6 @@ use Rattle.objects.specs.Bounds.{max_types}
 use Rattle.pair_marks.proofs.PairLaws.{pairs-up, pair-up, pair-down}
 use Rattle.pair_marks.proofs.pairs.pair_number.Goals as goal
 
-pub overflow_add-result : goal.overflow_add-result
-overflow_add-result c =
-    let args = c.args in omega (arith, pairs-up args.y.0 max_types (omega arith))
-
-pub overflow_add-result-else-a-b : goal.overflow_add-result-else-a-b
-overflow_add-result-else-a-b c =
-    let args = c.args in omega (arith, pairs-up args.x.0 max_types (omega arith))
-
 pub returns-then-a-b : goal.returns-then-a-b
 returns-then-a-b c =
     let args = c.args in omega (arith, pair-up args.x args.y (omega arith))

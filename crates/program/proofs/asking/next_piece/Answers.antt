@@ -18,4 +18,4 @@ put_refused-n-requires c =
 
 pub returns-clause-prints : goal.returns-clause-prints
 returns-clause-prints c =
-    refused-printed (table_of c.args.text.now c.args.rows.now) _ _ c.requires.mark_words_in_bounds.2 c.fill-f.ensures.fills c.next_question.ensures (omega arith) c.in-Is.is c.put_refused-n.ensures
+    refused-printed (table_of c.args.text.now c.args.rows.now) _ _ c.requires.mark_words_in_bounds.2 c.fill-f.ensures.fills c.next_question.ensures (omega arith) c.in-Some.is c.put_refused-n.ensures

@@ -5,7 +5,7 @@ use native.Mathlib.Omega.{arith}
 use lib.ListN.{length}
 use borrow.Rule.Slice.PartMut.{same_len_mid}
 use Rattle.text.specs.Cursors.{part}
-use Rattle.replies.proofs.Replying.{said-is, long-is, never-refused}
+use Rattle.replies.proofs.Replying.{said-is, unsaid-is}
 use Rattle.replies.proofs.Filling.{none_filled, out-length, full-end, full-next, filling-kept, filled_next, within}
 use Rattle.replies.proofs.fill.fill.Goals as goal
 
@@ -65,7 +65,7 @@ reply-requires c =
 pub overflow_add-n : goal.overflow_add-n
 unfolding part
 overflow_add-n c =
-    let said = said-is c.reply.ensures.does c.in-Said.is in
+    let said = said-is c.reply.ensures.does c.in-Ok.is in
     let next = filled_next _ _ c.args.out.now c.loop-end.invariant.5 c.next_question.ensures c.in-Some.is said.0 said.1 said.2 in
     record { fits = below next.room (omega arith) }
 
@@ -76,7 +76,7 @@ loop-end-smaller c =
 pub loop-end-preserved : goal.loop-end-preserved
 unfolding part
 loop-end-preserved c =
-    let said = said-is c.reply.ensures.does c.in-Said.is in (
+    let said = said-is c.reply.ensures.does c.in-Ok.is in (
       c.reply.ensures.marks_unchanged ∙ c.loop-end.invariant.0,
       c.reply.auto.walk ∙ c.loop-end.invariant.1,
       c.reply.auto.hits ∙ c.loop-end.invariant.2,
@@ -85,43 +85,24 @@ loop-end-preserved c =
       filled_next _ _ _ c.loop-end.invariant.5 c.next_question.ensures c.in-Some.is said.0 said.1 said.2,
     )
 
-pub shape_of-marks-in-Refused : goal.shape_of-marks-in-Refused
-shape_of-marks-in-Refused c = ap length (c.reply.ensures.marks_unchanged ∙ c.loop-end.invariant.0)
+pub shape_of-marks-in-Err : goal.shape_of-marks-in-Err
+shape_of-marks-in-Err c = ap length (c.reply.ensures.marks_unchanged ∙ c.loop-end.invariant.0)
 
-pub shape_of-walk-in-Refused : goal.shape_of-walk-in-Refused
-shape_of-walk-in-Refused c = c.reply.auto.walk ∙ c.loop-end.invariant.1
+pub shape_of-walk-in-Err : goal.shape_of-walk-in-Err
+shape_of-walk-in-Err c = c.reply.auto.walk ∙ c.loop-end.invariant.1
 
-pub shape_of-hits-in-Refused : goal.shape_of-hits-in-Refused
-shape_of-hits-in-Refused c = c.reply.auto.hits ∙ c.loop-end.invariant.2
+pub shape_of-hits-in-Err : goal.shape_of-hits-in-Err
+shape_of-hits-in-Err c = c.reply.auto.hits ∙ c.loop-end.invariant.2
 
-pub shape_of-words-in-Refused : goal.shape_of-words-in-Refused
-shape_of-words-in-Refused c = c.reply.auto.words ∙ c.loop-end.invariant.3
+pub shape_of-words-in-Err : goal.shape_of-words-in-Err
+shape_of-words-in-Err c = c.reply.auto.words ∙ c.loop-end.invariant.3
 
-pub shape_of-out-in-Refused : goal.shape_of-out-in-Refused
-shape_of-out-in-Refused c =
+pub shape_of-out-in-Err : goal.shape_of-out-in-Err
+shape_of-out-in-Err c =
     same_len_mid c.loop-end.n (length c.loop-end.out - c.loop-end.n) c.loop-end.out c.reply.new.out c.reply.auto.out ∙ out-length _ _ _ c.loop-end.invariant.5
 
-pub returns-in-Refused : goal.returns-in-Refused
-returns-in-Refused c = absurd (never-refused c.reply.ensures.does c.in-Refused.is)
-
-pub shape_of-marks-in-Long : goal.shape_of-marks-in-Long
-shape_of-marks-in-Long c = ap length (c.reply.ensures.marks_unchanged ∙ c.loop-end.invariant.0)
-
-pub shape_of-walk-in-Long : goal.shape_of-walk-in-Long
-shape_of-walk-in-Long c = c.reply.auto.walk ∙ c.loop-end.invariant.1
-
-pub shape_of-hits-in-Long : goal.shape_of-hits-in-Long
-shape_of-hits-in-Long c = c.reply.auto.hits ∙ c.loop-end.invariant.2
-
-pub shape_of-words-in-Long : goal.shape_of-words-in-Long
-shape_of-words-in-Long c = c.reply.auto.words ∙ c.loop-end.invariant.3
-
-pub shape_of-out-in-Long : goal.shape_of-out-in-Long
-shape_of-out-in-Long c =
-    same_len_mid c.loop-end.n (length c.loop-end.out - c.loop-end.n) c.loop-end.out c.reply.new.out c.reply.auto.out ∙ out-length _ _ _ c.loop-end.invariant.5
-
-pub returns-in-Long : goal.returns-in-Long
+pub returns-in-Err : goal.returns-in-Err
 unfolding part
-returns-in-Long c =
-    let long = long-is c.reply.ensures.does c.in-Long.is in
-    record { fills = record { filling = filling-kept _ _ _ c.loop-end.invariant.5 long.2; full = full-next _ _ _ c.loop-end.invariant.5 c.next_question.ensures c.in-Some.is long.1 }; marks_unchanged = c.reply.ensures.marks_unchanged ∙ c.loop-end.invariant.0; lent = c.reply.ensures.lent }
+returns-in-Err c =
+    let long = unsaid-is c.reply.ensures.does _ c.in-Err.is in
+    record { fills = record { filling = filling-kept _ _ _ c.loop-end.invariant.5 long.1; full = full-next _ _ _ c.loop-end.invariant.5 c.next_question.ensures c.in-Some.is long.0 }; marks_unchanged = c.reply.ensures.marks_unchanged ∙ c.loop-end.invariant.0; lent = c.reply.ensures.lent }

@@ -1,5 +1,4 @@
 -- `new_numbers` meets its contract.
-use Prim.Native.Nat.{◌-◌, ◌≤◌}
 use mathlib.Core.Path.{◌≡◌}
 use lib.ListN.{length}
 use Rattle.tidy.specs.Numbers.{own_below, NewNumbers}
