@@ -5,14 +5,14 @@ use mathlib.Core.List.{List, [], ◌∷◌, ◌++◌, append-nil, append_assoc}
 use mathlib.Core.Logic.{◌≢◌}
 use Prim.Native.Nat.{ℕ}
 use Rattle.objects.specs.Lists.{Bytes, any, keep, In}
-use Rattle.objects.specs.Table.{bit}
 use Rattle.objects.specs.Rows.{Words}
 use Rattle.objects.proofs.ListLaws.{cases, clash, or_assoc, or-false}
 use Rattle.rules.proofs.MemberLaws.{same_id-true, same_id-eq}
 use Rattle.multiples.specs.Records.{Record}
 use Rattle.levels.specs.declared.Found.{Found}
 use Rattle.first_hits.specs.Names.{identity_at, Listed}
-use Rattle.first_hits.specs.Hits.{FirstHit, hit_at, hit_row, Room, beside, above, hidden_if, named, Settles, Hides, Covered}
+use Rattle.first_hits.specs.declared.FirstHit.{FirstHit}
+use Rattle.first_hits.specs.Hits.{hit_at, hit_row, hit_place, hit_hidden, Room, beside, above, hidden_if, named, Settles, Hides, Covered}
 use Rattle.first_hits.proofs.HitLaws.{hidden-else, hidden-row, hidden-place, hidden-mark}
 use Rattle.first_hits.proofs.SettleLaws.{any-more, keep-more, keep-past, key_one}
 
@@ -24,7 +24,7 @@ module _ (text : Bytes) (rows : Words) (walk : List Record) where
     hides = λ k i. let d = s.decides k i in record {
       others = d.others;
       first = d.first;
-      hidden = d.again ∙ ap bit (sym (or-false (any (λ v. beside walk (hit_row hits k) v.row) d.others)));
+      hidden = d.again ∙ sym (or-false (any (λ v. beside walk (hit_row hits k) v.row) d.others));
     };
   }
 
@@ -43,12 +43,15 @@ module _ (text : Bytes) (rows : Words) (walk : List Record) where
 
     -- a name that the field has not
     hides-kept : {after : List FirstHit} (k : ℕ) → In k l → named text rows k w ≡ false → hit_at after k ≡ hit_at hits k → Now k after
-    hides-kept k i e same =
+    hides-kept {after} k i e same =
+        let row : hit_row after k ≡ hit_row hits k = ap (λ (h : FirstHit). h.row) same in
+        let place : hit_place after k ≡ hit_place hits k = ap (λ (h : FirstHit). h.place) same in
+        let mark : hit_hidden after k ≡ hit_hidden hits k = ap (λ (h : FirstHit). h.hidden) same in
         let d = s.hides k i in
         rw (keep-past (named text rows k) F w e) record {
           others = d.others;
-          first = rw same d.first;
-          hidden = rw same d.hidden;
+          first = rw (row, place) d.first;
+          hidden = rw (mark, row) d.hidden;
         }
 
     -- its name has a key
@@ -68,7 +71,7 @@ module _ (text : Bytes) (rows : Words) (walk : List Record) where
             others = d.others;
             first = rw (row, place) d.first;
             hidden = rw row (hidden-mark hide k hits room (level || any over fields) d.hidden
-                ∙ ap bit (or_assoc level (any over fields) hide ∙ ap (λ b. level || b) (sym (any-more over fields w))));
+                ∙ or_assoc level (any over fields) hide ∙ ap (λ b. level || b) (sym (any-more over fields w)));
           }
 
       pub covered_more : Covered text rows walk M (F ++ (w ∷ [])) l (hidden_if hide k hits)

@@ -15,10 +15,11 @@ use Rattle.rules.specs.Library.{Library}
 use Rattle.multiples.specs.Records.{Record}
 use Rattle.levels.specs.declared.Found.{Found}
 use Rattle.first_hits.specs.Names.{identity_at, id_at, Listed, Placed}
-use Rattle.first_hits.specs.Hits.{FirstHit, hit_row, Room, beside, above, hidden_if, Held}
+use Rattle.first_hits.specs.declared.FirstHit.{FirstHit}
+use Rattle.first_hits.specs.Hits.{hit_row, Room, beside, above, hidden_if, Held}
 use Rattle.first_hits.proofs.SearchLaws.{found_at, found_in, new-at, new_in, same-identity}
 use Rattle.first_hits.proofs.HitLaws.{put-room, hidden-room}
-use Rattle.first_hits.proofs.SettleLaws.{listed-few, listed-put, other_key, settles-again, settles-new, Carries}
+use Rattle.first_hits.proofs.SettleLaws.{fresh, listed-few, listed-put, other_key, settles-again, settles-new, Carries}
 use Rattle.first_hits.proofs.CoverLaws.{covered_more, covered-past, Covers}
 
 module _ (text : Bytes) (rows : Words) where
@@ -80,7 +81,7 @@ module _ (text : Bytes) (rows : Words) where
         put = take i l ++ (m ∷ drop i l)
 
         abbrev kept : List FirstHit
-        kept = set hits m (w.row ∷ w.place ∷ 0 ∷ [])
+        kept = set hits m (fresh w)
 
         pub new-place : i ≤ n
         new-place = new_in text rows names n (held_fits h) (id_at text rows m) s e
@@ -111,7 +112,7 @@ module _ (text : Bytes) (rows : Words) where
             listed = subst (Listed text rows) (sym read) listed-new;
             few = let f = new-fits in omega arith;
             long = let b = h.long in omega arith;
-            room = λ j b. put-room hits m (w.row ∷ w.place ∷ 0 ∷ []) (omega arith) j (h.room j b);
+            room = λ j b. put-room hits m (fresh w) j (h.room j b);
           }
 
           pub new-carries : (walk : List Record) → Carries text rows walk (w ∷ []) names n hits after (n + 1) kept

@@ -53,7 +53,7 @@ under-within text rows lib u i =
 -- ---- the members of a row's type
 
 pub row_typed : {types : ℕ} {walk : List Record} {n : ℕ} → Walked types walk n → (i : ℕ) → i < n → (row_of walk i).type.0 < types
-row_typed {walk = walk} h i l = rw (row_type walk i) (row_in h i l (record_at walk i) (λ c. refl))
+row_typed {walk = walk} h i l = rw (row_type walk i) (row_in h i l (record_at walk i) refl)
 
 -- the row's type, what the code reads of it and, if it has members there, their first and how many they are
 module _ (rows : Words) (walk : List Record) (i : ℕ) {u : TypeKey} (at : u ≡ (row_of walk i).type) where

@@ -6,8 +6,7 @@ use mathlib.Core.Logic.{◌≢◌}
 use Prim.Native.Nat.{ℕ, ◌<◌, ◌≤◌}
 use lib.ListN.{length, take, drop, set}
 use Rattle.objects.specs.Lists.{Bytes, any, keep, In, Sorted}
-use Rattle.objects.specs.Table.{bit}
-use Rattle.objects.specs.Rows.{Words, word_at, member_count_of}
+use Rattle.objects.specs.Rows.{Words, member_count_of}
 use Rattle.objects.proofs.ListLaws.{cases, clash, either, or-false, any_append, keep_append, keep-none, any_none, In-map, map-In-to}
 use Rattle.objects.proofs.PartLaws.{all_snoc}
 use Rattle.objects.proofs.Pigeons.{Distinct, pigeons}
@@ -17,9 +16,14 @@ use Rattle.rules.proofs.MemberLaws.{same_id-true, same_id-eq}
 use Rattle.multiples.specs.Records.{Record}
 use Rattle.levels.specs.declared.Found.{Found}
 use Rattle.first_hits.specs.Names.{identity_at, id_at, AllBelow, AllAbove, Listed}
-use Rattle.first_hits.specs.Hits.{FirstHit, hit_at, hit_row, Room, beside, hidden_if, named, Decides, Settles}
+use Rattle.first_hits.specs.declared.FirstHit.{FirstHit}
+use Rattle.first_hits.specs.Hits.{hit_at, hit_row, hit_place, hit_hidden, Room, beside, hidden_if, named, Decides, Settles}
 use Rattle.first_hits.proofs.SortedParts.{In-put, put-In, put-In-self, In-parts, sorted-put, sorted-either}
 use Rattle.first_hits.proofs.HitLaws.{put-here, put-else, hidden-else, hidden-row, hidden-place, hidden-mark}
+
+-- what is kept of a name when its first method is met
+abbrev pub fresh : Found → FirstHit
+fresh w = record { row = w.row; place = w.place; hidden = false }
 
 -- ---- a list with one more
 
@@ -86,12 +90,15 @@ module _ (text : Bytes) (rows : Words) where
 
     -- a hit that stays decides what it decided
     decides-kept : {after : List FirstHit} (k : ℕ) → In k l → named text rows k w ≡ false → hit_at after k ≡ hit_at hits k → Decides text rows walk (keep (named text rows k) (P ++ (w ∷ []))) k after
-    decides-kept k i e same =
+    decides-kept {after} k i e same =
+        let row : hit_row after k ≡ hit_row hits k = ap (λ (h : FirstHit). h.row) same in
+        let place : hit_place after k ≡ hit_place hits k = ap (λ (h : FirstHit). h.place) same in
+        let mark : hit_hidden after k ≡ hit_hidden hits k = ap (λ (h : FirstHit). h.hidden) same in
         let d = s.decides k i in
         rw (keep-past (named text rows k) P w e) record {
           others = d.others;
-          first = rw same d.first;
-          again = rw same d.again;
+          first = rw (row, place) d.first;
+          again = rw (mark, row) d.again;
         }
 
     -- its name has a key
@@ -111,7 +118,7 @@ module _ (text : Bytes) (rows : Words) where
           record {
             others = d.others ++ (w ∷ []);
             first = rw (row, place) (keep-more (named text rows k) P w (same_id-eq _ _ (sym same)) ∙ ap (λ met. met ++ (w ∷ [])) d.first);
-            again = rw row (hidden-mark hide k hits room (any level d.others) d.again ∙ ap bit (sym (any-more level d.others w)));
+            again = rw row (hidden-mark hide k hits room (any level d.others) d.again ∙ sym (any-more level d.others w));
           }
 
       pub settles-again : Settles text rows walk (P ++ (w ∷ [])) l marked
@@ -125,7 +132,7 @@ module _ (text : Bytes) (rows : Words) where
     -- it has none: it gets one
     module _ (i : ℕ) (none : (k : ℕ) → In k l → identity_at text rows k ≢ identity_at text rows new) (room : Room hits new) where
       abbrev put : List FirstHit
-      put = set hits new (w.row ∷ w.place ∷ 0 ∷ [])
+      put = set hits new (fresh w)
 
       -- nothing before it had the name
       none-met : keep (named text rows new) P ≡ []
@@ -135,13 +142,14 @@ module _ (text : Bytes) (rows : Words) where
           (λ e. e)))
 
       decides-new : Decides text rows walk (keep (named text rows new) (P ++ (w ∷ []))) new put
-      unfolding word_at
       decides-new =
-          let here = put-here hits new (w.row ∷ w.place ∷ 0 ∷ []) room.inside in
+          let here = put-here hits new (fresh w) room.inside in
+          let row : hit_row put new ≡ w.row = ap (λ (h : FirstHit). h.row) here in
+          let place : hit_place put new ≡ w.place = ap (λ (h : FirstHit). h.place) here in
           record {
             others = [];
-            first = rw here (keep-more (named text rows new) P w (same_id-eq _ _ refl) ∙ ap (λ met. met ++ (w ∷ [])) none-met);
-            again = rw here;
+            first = rw (row, place) (keep-more (named text rows new) P w (same_id-eq _ _ refl) ∙ ap (λ met. met ++ (w ∷ [])) none-met);
+            again = ap (λ (h : FirstHit). h.hidden) here;
           }
 
       pub settles-new : Settles text rows walk (P ++ (w ∷ [])) (take i l ++ (new ∷ drop i l)) put
@@ -153,7 +161,7 @@ module _ (text : Bytes) (rows : Words) where
             (λ q. rw q decides-new)
             (λ q. decides-kept k q
             (cases (named text rows k w) (λ e. absurd (none k q (sym (same_id-true _ _ e)))) (λ e. e))
-            (put-else hits new (w.row ∷ w.place ∷ 0 ∷ []) k (λ z. none k q (ap (identity_at text rows) z))));
+            (put-else hits new (fresh w) k (λ z. none k q (ap (identity_at text rows) z))));
       }
 
 -- ---- nothing is met

@@ -1,55 +1,44 @@
 -- What the rows' members make of the names of methods: the methods and fields that are met, in the order of rows, and what is kept of each name.
-use Rattle.std.specs.Prelude.{◌≡◌, Bool, cond, ◌||◌, List, [], ◌∷◌, ◌++◌, map, ℕ, zero, suc, ◌+◌, ◌<◌, ◌≤◌, eqb, leb, length, get_or, take, set}
+use Rattle.std.specs.Prelude.{◌≡◌, Bool, true, false, cond, ◌||◌, List, [], ◌∷◌, ◌++◌, map, ℕ, zero, suc, ◌+◌, ◌<◌, ◌≤◌, eqb, leb, length, get_or, take, set}
 use Rattle.objects.specs.Lists.{Bytes, any, keep, In}
-use Rattle.objects.specs.Table.{obj_key, bit}
-use Rattle.objects.specs.Rows.{Words, word_at, type_count, member_count_of}
+use Rattle.objects.specs.Table.{obj_key}
+use Rattle.objects.specs.Rows.{Words, type_count, member_count_of}
 use Rattle.objects.specs.Types.{named_read, number_read, under_read, first_read, total_read}
 use Rattle.rules.specs.Members.{same_id}
 use Rattle.rules.specs.Library.{Library}
 use Rattle.multiples.specs.Records.{Record}
 use Rattle.walk_rows.specs.Records.{row_of, level_of}
 use Rattle.levels.specs.declared.Found.{Found}
+use Rattle.first_hits.specs.declared.FirstHit.{FirstHit}
 use Rattle.first_hits.specs.declared.Stretch.{Stretch}
 use Rattle.first_hits.specs.Names.{identity_at, Listed}
 
 -- ---- what is kept of a name
 
-abbrev pub FirstHit : Type 0
-FirstHit = Words
-
-abbrev pub hit_words : ℕ
-hit_words = 3
-
--- the row where the first method of the name was met
-abbrev pub row_column : ℕ
-row_column = 0
-
--- its place there
-abbrev pub place_column : ℕ
-place_column = 1
-
--- 1 if the name is hidden
-abbrev pub hidden_column : ℕ
-hidden_column = 2
+abbrev pub empty : FirstHit
+empty = record { row = 0; place = 0; hidden = false }
 
 abbrev pub hit_at : List FirstHit → ℕ → FirstHit
-hit_at hits k = get_or hits k []
+hit_at hits k = get_or hits k empty
 
 -- the row that it says
 abbrev pub hit_row : List FirstHit → ℕ → ℕ
-hit_row hits k = word_at (hit_at hits k) row_column
+hit_row hits k = (hit_at hits k).row
 
 abbrev pub hit_place : List FirstHit → ℕ → ℕ
-hit_place hits k = word_at (hit_at hits k) place_column
+hit_place hits k = (hit_at hits k).place
 
 -- the mark
-abbrev pub hit_hidden : List FirstHit → ℕ → ℕ
-hit_hidden hits k = word_at (hit_at hits k) hidden_column
+abbrev pub hit_hidden : List FirstHit → ℕ → Bool
+hit_hidden hits k = (hit_at hits k).hidden
 
--- there is one under key k, and it has its words
+-- one that is marked
+abbrev pub hidden : FirstHit → FirstHit
+hidden h = record { row = h.row; place = h.place; hidden = true }
+
+-- there is one under key k
 pub record Room (hits : List FirstHit) (k : ℕ) : Type 0 where
   pub inside : k < length hits
-  pub wide : length (hit_at hits k) ≡ hit_words
 
 -- there is one for each member
 abbrev pub Rooms : Words → List FirstHit → Type 0
@@ -65,7 +54,7 @@ above walk i j = leb (level_of walk i) (level_of walk j)
 
 -- the name under key k is hidden, if it is to be
 unfoldable pub hidden_if : Bool → ℕ → List FirstHit → List FirstHit
-hidden_if hide k hits = cond hide (set hits k (set (hit_at hits k) hidden_column 1)) hits
+hidden_if hide k hits = cond hide (set hits k (hidden (hit_at hits k))) hits
 
 -- a method of the name is met again, at a row
 unfoldable pub marked_if : List Record → ℕ → ℕ → List FirstHit → List FirstHit
@@ -131,7 +120,7 @@ module _ (text : Bytes) (rows : Words) where
   pub record Decides (walk : List Record) (met : List Found) (k : ℕ) (hits : List FirstHit) : Type 0 where
     pub others : List Found
     pub first : met ≡ record { row = hit_row hits k; place = hit_place hits k; member = obj_key k } ∷ others
-    pub again : hit_hidden hits k ≡ bit (any (λ v. beside walk (hit_row hits k) v.row) others)
+    pub again : hit_hidden hits k ≡ any (λ v. beside walk (hit_row hits k) v.row) others
 
   -- The methods met have their names among the keys, and each of these is decided by the methods met of it.
   pub record Settles (walk : List Record) (met : List Found) (keys : List ℕ) (hits : List FirstHit) : Type 0 where
@@ -142,7 +131,7 @@ module _ (text : Bytes) (rows : Words) where
   pub record Hides (walk : List Record) (methods fields : List Found) (k : ℕ) (hits : List FirstHit) : Type 0 where
     pub others : List Found
     pub first : methods ≡ record { row = hit_row hits k; place = hit_place hits k; member = obj_key k } ∷ others
-    pub hidden : hit_hidden hits k ≡ bit (any (λ v. beside walk (hit_row hits k) v.row) others || any (λ v. above walk v.row (hit_row hits k)) fields)
+    pub hidden : hit_hidden hits k ≡ any (λ v. beside walk (hit_row hits k) v.row) others || any (λ v. above walk v.row (hit_row hits k)) fields
 
   pub record Covered (walk : List Record) (methods fields : List Found) (keys : List ℕ) (hits : List FirstHit) : Type 0 where
     pub all : (w : Found) → In w methods → In (identity_at text rows w.member.0) (map (identity_at text rows) keys)

@@ -8,7 +8,7 @@ ghost use Rattle.first_hits.specs.Hits.{Held, Settles, Covered, Room, covered_if
 
 use crate::gather::{level_at, meet_methods, parts};
 use crate::names::place_of;
-use crate::{FirstHit, HIDDEN, ROW, Stretch};
+use crate::{FirstHit, Stretch};
 use levels::Found;
 use multiples::EmbeddedType;
 use obj::id_of;
@@ -20,9 +20,9 @@ fn hide(walk: &[EmbeddedType], hits: &mut [FirstHit], k: u32, row: u32)
     requires { Room hits.old k }
     ensures { hits.new ≡ covered_if walk.now row k hits.old }
 {
-    let first = hits[k as usize][ROW];
+    let first = hits[k as usize].row;
     if level_at(walk, row) <= level_at(walk, first) {
-        hits[k as usize][HIDDEN] = 1;
+        hits[k as usize].hidden = true;
     }
 }
 

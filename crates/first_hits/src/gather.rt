@@ -8,13 +8,13 @@ ghost use Rattle.walk_rows.specs.State.{Walked};
 ghost use Rattle.first_hits.specs.Hits.{Held, Settles, Room, Within, marked_if, stretch_met, declared_met, parts_met, methods_met};
 
 use crate::names::{place_of, put_name};
-use crate::{FirstHit, HIDDEN, ROW, Stretch};
+use crate::{FirstHit, Stretch};
 use levels::Found;
-use multiples::{EmbeddedType, LEVEL, TYP};
+use multiples::EmbeddedType;
 use obj::id_of;
+use objects::ObjKey;
 use objects::kinds::IFACE;
 use objects::rows::{first_member, kind_number, member_total, named_at, under};
-use objects::{ObjKey, TypeKey};
 use walk_rows::records::record_at;
 
 // ---- one method
@@ -22,7 +22,7 @@ use walk_rows::records::record_at;
 pub fn level_at(walk: &[EmbeddedType], i: u32) -> u32
     ensures { result ≡ level_of walk.now i }
 {
-    record_at(walk, i as usize)[LEVEL]
+    record_at(walk, i as usize).level
 }
 
 // The name under key k is met again, at a row: it is hidden if that is on the level of the first.
@@ -30,9 +30,9 @@ fn meet_again(walk: &[EmbeddedType], hits: &mut [FirstHit], k: u32, row: u32)
     requires { Room hits.old k }
     ensures { hits.new ≡ marked_if walk.now row k hits.old }
 {
-    let first = hits[k as usize][ROW];
+    let first = hits[k as usize].row;
     if level_at(walk, first) == level_at(walk, row) {
-        hits[k as usize][HIDDEN] = 1;
+        hits[k as usize].hidden = true;
     }
 }
 
@@ -60,7 +60,11 @@ fn meet(
         }
         Err(i) => {
             put_name(names, n, i, m.0);
-            hits[m.0 as usize] = [w.row, w.place, 0];
+            hits[m.0 as usize] = FirstHit {
+                row: w.row,
+                place: w.place,
+                hidden: false,
+            };
             n + 1
         }
     }
@@ -80,7 +84,7 @@ fn declared(rows: &[u32], walk: &[EmbeddedType], i: u32) -> Stretch
     ensures met { stretch_met result.row result.first result.total ≡ declared_met rows.now walk.now i }
     ensures within { Within rows.now walk.now i result }
 {
-    let u = TypeKey(record_at(walk, i as usize)[TYP]);
+    let u = record_at(walk, i as usize).typ;
     if !named_at(rows, u) {
         return EMPTY;
     }
@@ -96,7 +100,7 @@ pub fn parts(rows: &[u32], walk: &[EmbeddedType], i: u32, kind: u32) -> Stretch
     ensures met { stretch_met result.row result.first result.total ≡ parts_met rows.now walk.now kind i }
     ensures within { 8 ≤ kind → Within rows.now walk.now i result }
 {
-    let u = under(rows, TypeKey(record_at(walk, i as usize)[TYP]));
+    let u = under(rows, record_at(walk, i as usize).typ);
     if kind_number(rows, u) != kind {
         return EMPTY;
     }

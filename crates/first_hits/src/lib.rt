@@ -7,18 +7,24 @@ pub mod gather; // the methods, row by row
 pub mod names; // names in order
 
 // What is kept of a name, under the key of the method that was met first.
-pub const HIT_WORDS: usize = 3;
+#[derive(Clone, Copy, PartialEq, Eq)]
+pub struct FirstHit {
+    // the row where that method was met
+    pub row: u32,
+    // its place there
+    pub place: u32,
+    // whether the name is hidden
+    pub hidden: bool,
+}
 
-pub type FirstHit = [u32; HIT_WORDS];
-
-// the row where that method was met
-pub const ROW: usize = 0;
-
-// its place there
-pub const PLACE: usize = 1;
-
-// 1 if the name is hidden
-pub const HIDDEN: usize = 2;
+impl FirstHit {
+    // What a row of hits is filled with before the names are met.
+    pub const EMPTY: FirstHit = FirstHit {
+        row: 0,
+        place: 0,
+        hidden: false,
+    };
+}
 
 // Members of a row's type: so many from a first one on, which stand at the places from 0 on.
 #[derive(Clone, Copy)]

@@ -5,14 +5,12 @@ use mathlib.Core.Logic.{inl}
 use mathlib.Core.Option.{none, some}
 use Prim.Native.Nat.{ℕ, suc, ◌+◌, ◌-◌, ◌≤◌, ◌<◌}
 use native.Mathlib.Omega.{arith}
-use lib.Dec.{eqb}
-use lib.ListN.{get_or}
 use Rattle.std.specs.declared.option.Option as code
 use Rattle.std.specs.Prelude.{Some, None}
 use Rattle.objects.specs.Lists.{Bytes, In}
 use Rattle.objects.specs.declared.TypeKey.{TypeKey}
-use Rattle.objects.specs.Table.{Table, type_key, size, is_named, is_struct, is_iface, members_of, kind_at, under, fields_of, declared_of, all_methods, all_methods_of}
-use Rattle.objects.specs.Rows.{Words, word_at, member_at, table_of}
+use Rattle.objects.specs.Table.{Table, size, is_named, is_struct, is_iface, members_of, kind_at, under, fields_of, declared_of, all_methods, all_methods_of}
+use Rattle.objects.specs.Rows.{Words, member_at, table_of}
 use Rattle.objects.proofs.ListLaws.{either, In-append, In-keep}
 use Rattle.objects.proofs.KindLaws.{if-In}
 use Rattle.objects.proofs.RowLaws.{size-read, member-type-meant}
@@ -27,7 +25,7 @@ use Rattle.ways.proofs.Same.{One}
 use Rattle.ways.proofs.TableLaws.{places-from, one}
 use Rattle.selection.specs.declared.Own.{Own}
 use Rattle.selection.specs.Results.{first, own_meant}
-use Rattle.multiples.specs.Records.{Record, typ_column, indirect_column}
+use Rattle.multiples.specs.Records.{Record}
 use Rattle.walks.specs.Rows.{Row, walk_at}
 use Rattle.walk_rows.specs.Records.{record_at, row_meant, row_of, rows_of}
 use Rattle.walk_rows.proofs.StateLaws.{rows_at}
@@ -60,17 +58,17 @@ own-typed T sound t p i =
     (λ k. sound.typed u p.member (if-In (is_struct (kind_at T u)) (members_of (kind_at T u)) p.member (places-from 0 (fields_of (kind_at T u)) p k).1).1))
     (λ j. sound.typed u p.member (if-In (is_iface (kind_at T u)) (members_of (kind_at T u)) p.member (places-from 0 (all_methods_of (kind_at T u)) p j).1).1)
 
--- ---- the words of a row
+-- ---- the fields of a row
 
 -- a record that reads as record i
-module _ (e : Record) (walk : List Record) (i : ℕ) (read : (c : ℕ) → word_at e c ≡ word_at (record_at walk i) c) where
-  pub type-read : type_key (get_or e typ_column 0) ≡ (row_of walk i).type
-  unfolding row_of row_meant word_at
-  type-read = ap type_key (read typ_column)
+module _ (e : Record) (walk : List Record) (i : ℕ) (read : e ≡ record_at walk i) where
+  pub type-read : e.typ ≡ (row_of walk i).type
+  unfolding row_of row_meant
+  type-read = ap (λ (r : Record). r.typ) read
 
-  pub flag-read : eqb (get_or e indirect_column 0) 1 ≡ (row_of walk i).flag
-  unfolding row_of row_meant word_at
-  flag-read = ap (λ k. eqb k 1) (read indirect_column)
+  pub flag-read : e.indirect ≡ (row_of walk i).flag
+  unfolding row_of row_meant
+  flag-read = ap (λ (r : Record). r.indirect) read
 
 -- ---- the next row
 

@@ -19,14 +19,12 @@ use Rattle.selection.specs.Results.{result_meant, called_right, Typed, Selects}
 use Rattle.multiples.specs.Records.{Record, max_records}
 use Rattle.walks.specs.Rows.{walk_at, range}
 use Rattle.walk_rows.specs.Records.{rows_of, level_of}
-use Rattle.walk_rows.specs.State.{Wide}
 use Rattle.levels.specs.declared.Found.{Found}
 
 -- What a search is lent: two records for each type of the table, and room for the places of two ways.
 pub record Scratch (rows : Words) (walk : List Record) (places : Words) : Type 0 where
   pub room : 2 * type_count rows ≤ length walk
   pub most : length walk ≤ max_records
-  pub wide : Wide walk
   pub long : 2 * max_places ≤ length places
 
 -- ---- ways

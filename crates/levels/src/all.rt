@@ -5,7 +5,6 @@ ghost use Rattle.rules.specs.Library.{Library};
 ghost use Rattle.ways.specs.OfTable.{graph};
 ghost use Rattle.multiples.specs.Records.{max_records};
 ghost use Rattle.walks.specs.Rows.{kept_rows};
-ghost use Rattle.walk_rows.specs.State.{Wide};
 ghost use Rattle.levels.specs.All.{Keeps};
 
 use multiples::EmbeddedType;
@@ -16,7 +15,7 @@ use walk_rows::records::put_root;
 // The rows of the kept walks from type t, f true if a pointer was removed to come to it. Answers how many they are.
 pub fn walk_all(text: &[u8], rows: &[u32], walk: &mut [EmbeddedType], t: TypeKey, f: bool) -> usize
     requires library { Library text.now rows.now }
-    requires t_bound { (t.0 < type_count rows.now) × (2 * type_count rows.now ≤ length walk.old) × (length walk.old ≤ max_records) × Wide walk.old }
+    requires t_bound { (t.0 < type_count rows.now) × (2 * type_count rows.now ≤ length walk.old) × (length walk.old ≤ max_records) }
     ensures { Keeps rows.now walk.new result (kept_rows (graph (table_of text.now rows.now)) t f) }
 {
     put_root(walk, t, f);

@@ -8,8 +8,7 @@ ghost use Rattle.walk_rows.specs.State.{Walked};
 ghost use Rattle.levels.specs.Hits.{Tells};
 
 use crate::Found;
-use multiples::{EmbeddedType, TYP};
-use objects::TypeKey;
+use multiples::EmbeddedType;
 use selection::{Name, own_member};
 use walk_rows::records::record_at;
 
@@ -29,7 +28,7 @@ pub fn next_hit(
 {
     for row in lo..n as u32 {
         let e = record_at(walk, row as usize);
-        if let Some(own) = own_member(text, rows, TypeKey(e[TYP]), names, q) {
+        if let Some(own) = own_member(text, rows, e.typ, names, q) {
             return Some(Found {
                 row,
                 place: own.place,

@@ -10,12 +10,12 @@ ghost use Rattle.ways.specs.Graph.{select};
 ghost use Rattle.ways.specs.OfTable.{graph};
 ghost use Rattle.selection.specs.Results.{Selects, name_meant};
 ghost use Rattle.walk_rows.specs.Records.{level_of};
-ghost use Rattle.walk_rows.specs.State.{Rowed, Wide};
+ghost use Rattle.walk_rows.specs.State.{Rowed};
 ghost use Rattle.levels.specs.Hits.{Alone, Answers, Beside, Inside, Scratch, ways_told};
 
 use crate::hits::next_hit;
 use crate::{Found, Start};
-use multiples::{EmbeddedType, INDIRECT};
+use multiples::EmbeddedType;
 use objects::ObjKey;
 use objects::bounds::MAX_PLACES;
 use objects::rows::{has_ptr, is_method};
@@ -70,7 +70,7 @@ fn verdict(
         }
         None => {
             let e = record_at(walk, i as usize);
-            let result = alone(text, rows, w.member, e[INDIRECT] == 1, a);
+            let result = alone(text, rows, w.member, e.indirect, a);
             Selection { result, count }
         }
     }
@@ -89,8 +89,7 @@ pub fn search(
     requires library { Library text.now rows.now }
     requires typ_bound { (s.typ.0 < type_count rows.now) × (has_package (table_of text.now rows.now) (package_meant q.pkg) ≡ true) }
     requires scratch { Scratch rows.now walk.old places.old }
-    ensures answers { Answers text.now rows.now (name_meant text.now rows.now names.now q) result places.new (select (graph (table_of text.now rows.now)) (name_meant text.now rows.now names.now q) s.typ s.flag s.addressable) }
-    ensures wide { Wide walk.new }
+    ensures { Answers text.now rows.now (name_meant text.now rows.now names.now q) result places.new (select (graph (table_of text.now rows.now)) (name_meant text.now rows.now names.now q) s.typ s.flag s.addressable) }
 {
     put_root(walk, s.typ, s.flag);
     let mut lo: u32 = 0;

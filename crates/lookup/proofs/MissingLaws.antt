@@ -43,7 +43,6 @@ use Rattle.selection.specs.Finds.{first_from, or_else, first_plain}
 use Rattle.selection.proofs.FindLaws.{members-left}
 use Rattle.selection.proofs.OwnLaws.{first-owned, members-row, list-packaged, list-fits, under-in}
 use Rattle.multiples.specs.Records.{Record}
-use Rattle.walk_rows.specs.State.{Wide}
 use Rattle.levels.specs.Hits.{Scratch}
 use Rattle.lookup.specs.Answers.{name_read, InTable, lack_of}
 
@@ -57,8 +56,8 @@ module _ {before after : Words} (e : after ≡ before) where
   long-still n h = rw e h
 
 -- what a search leaves of what it was lent serves the next
-pub scratch-still : {rows : Words} {walk after : List Record} {places written : Words} → Scratch rows walk places → length after ≡ length walk → length written ≡ length places → Wide after → Scratch rows after written
-scratch-still lent a b wide = record { room = rw a lent.room; most = rw a lent.most; wide = wide; long = rw b lent.long }
+pub scratch-still : {rows : Words} {walk after : List Record} {places written : Words} → Scratch rows walk places → length after ≡ length walk → length written ≡ length places → Scratch rows after written
+scratch-still lent a b = record { room = rw a lent.room; most = rw a lent.most; long = rw b lent.long }
 
 -- ---- the first of an interface's list
 

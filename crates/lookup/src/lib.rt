@@ -12,7 +12,6 @@ ghost use Rattle.text.specs.Bytes.{is_blank};
 ghost use Rattle.rules.specs.Library.{Library};
 ghost use Rattle.rules.specs.Ways.{notfound, searched, select};
 ghost use Rattle.selection.specs.Results.{name_meant, Selects};
-ghost use Rattle.walk_rows.specs.State.{Wide};
 ghost use Rattle.levels.specs.Hits.{Scratch};
 ghost use Rattle.lookup.specs.Answers.{without_method};
 
@@ -68,8 +67,7 @@ pub fn lookup_field_or_method_impl(
     requires library { Library text.now rows.now }
     requires t_bound { (t.0 < type_count rows.now) × (has_package (table_of text.now rows.now) (package_meant q.pkg) ≡ true) }
     requires scratch { Scratch rows.now walk.old places.old }
-    ensures selects { Selects text.now rows.now result places.new (cond (is_blank (name_meant text.now rows.now names.now q).name) notfound (searched (table_of text.now rows.now) (name_meant text.now rows.now names.now q) t a)) }
-    ensures wide { Wide walk.new }
+    ensures { Selects text.now rows.now result places.new (cond (is_blank (name_meant text.now rows.now names.now q).name) notfound (searched (table_of text.now rows.now) (name_meant text.now rows.now names.now q) t a)) }
 {
     if blank_name(text, rows, names, q) || pointer_to_interface(rows, t) {
         return Selection::NOT_FOUND;
@@ -98,8 +96,7 @@ pub fn lookup_field_or_method(
     requires library { Library text.now rows.now }
     requires t_bound { (t.0 < type_count rows.now) × (has_package (table_of text.now rows.now) (package_meant q.pkg) ≡ true) }
     requires scratch { Scratch rows.now walk.old places.old }
-    ensures selects { Selects text.now rows.now result places.new (select (table_of text.now rows.now) (name_meant text.now rows.now names.now q) t a) }
-    ensures wide { Wide walk.new }
+    ensures { Selects text.now rows.now result places.new (select (table_of text.now rows.now) (name_meant text.now rows.now names.now q) t a) }
 {
     if named_pointer(rows, t) {
         let u = under(rows, t);

@@ -7,7 +7,6 @@ ghost use Rattle.objects.specs.Types.{iface_read, member_type_read};
 ghost use Rattle.rules.specs.Library.{Library};
 ghost use Rattle.rules.specs.Missing.{compared, unmet_by, unmet, first_unmet, missing};
 ghost use Rattle.selection.specs.Results.{result_meant, called_right, Typed, missing_meant};
-ghost use Rattle.walk_rows.specs.State.{Wide};
 ghost use Rattle.levels.specs.Hits.{Scratch};
 ghost use Rattle.lookup.specs.Answers.{name_read, InTable, lack_of};
 
@@ -130,7 +129,6 @@ fn unmet(
     requires marks_value { marks.old ≡ replicate (length marks.old) 0 }
     ensures result_value { missing_meant text.now rows.now result ≡ lack_of (member_at text.now rows.now m) (unmet (table_of text.now rows.now) t s (member_at text.now rows.now m)) }
     ensures marks_unchanged { marks.new ≡ marks.old }
-    ensures wide { Wide walk.new }
 {
     if iface_under(rows, t) {
         return unmet_there(text, rows, marks, t, m, s);
@@ -160,7 +158,6 @@ fn first_unmet(
     requires marks_value { marks.old ≡ replicate (length marks.old) 0 }
     ensures result_value { missing_meant text.now rows.now result ≡ first_unmet (table_of text.now rows.now) t s (members_from text.now rows.now first n) }
     ensures marks_unchanged { marks.new ≡ marks.old }
-    ensures wide { Wide walk.new }
 {
     for i in 0..n {
         let lack = unmet(text, rows, marks, walk, places, t, ObjKey(first + i), s);
@@ -188,7 +185,6 @@ pub fn missing_method(
     requires marks_value { marks.old ≡ replicate (length marks.old) 0 }
     ensures result_value { missing_meant text.now rows.now result ≡ missing (table_of text.now rows.now) t i s }
     ensures marks_unchanged { marks.new ≡ marks.old }
-    ensures wide { Wide walk.new }
 {
     if iface_under(rows, i) {
         let u = under(rows, i);

@@ -33,7 +33,8 @@ use Rattle.walk_rows.specs.Records.{level_of}
 use Rattle.levels.specs.declared.Found.{Found}
 use Rattle.levels.specs.All.{Keeps}
 use Rattle.first_hits.specs.Names.{identity_at, id_at, Listed}
-use Rattle.first_hits.specs.Hits.{FirstHit, Held, Covered, methods_met, fields_met, hit_row}
+use Rattle.first_hits.specs.declared.FirstHit.{FirstHit}
+use Rattle.first_hits.specs.Hits.{Held, Covered, methods_met, fields_met, hit_row}
 use Rattle.first_hits.proofs.HeldLaws.{held_fits}
 use Rattle.method_set.specs.Sets.{empty_read, in_set, sel_at, sel_numbers, SetHeld}
 use Rattle.method_set.proofs.MetLaws.{all_met, met-names, method-met}

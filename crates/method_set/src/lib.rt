@@ -8,14 +8,13 @@ ghost use Rattle.objects.specs.Rows.{type_count};
 ghost use Rattle.rules.specs.Library.{Library};
 ghost use Rattle.multiples.specs.Records.{max_records};
 ghost use Rattle.walk_rows.specs.Records.{level_of};
-ghost use Rattle.walk_rows.specs.State.{Wide};
 ghost use Rattle.first_hits.specs.Hits.{Held, Room, Rooms, hit_row};
 ghost use Rattle.method_set.specs.Sets.{empty_read, flag_read, in_set, sel_at, SetHeld};
 
+use first_hits::FirstHit;
 use first_hits::cover::first_hits;
-use first_hits::{FirstHit, HIDDEN, PLACE, ROW};
 use levels::all::walk_all;
-use multiples::{EmbeddedType, INDIRECT, TYP};
+use multiples::EmbeddedType;
 use objects::rows::{bare, has_ptr, iface_under, named_pointer, pointer_at};
 use objects::{ObjKey, TypeKey};
 use walk_rows::places::write_places;
@@ -28,7 +27,7 @@ fn flag_at(rows: &[u32], walk: &[EmbeddedType], i: u32) -> bool
     ensures { result ≡ flag_read rows.now walk.now i }
 {
     let e = record_at(walk, i as usize);
-    e[INDIRECT] == 1 || iface_under(rows, TypeKey(e[TYP]))
+    e.indirect || iface_under(rows, e.typ)
 }
 
 // Whether the name under key k is in the set.
@@ -37,7 +36,7 @@ fn in_set(rows: &[u32], walk: &[EmbeddedType], hits: &[FirstHit], k: u32) -> boo
     ensures { result ≡ in_set rows.now walk.now hits.now k }
 {
     let h = hits[k as usize];
-    h[HIDDEN] != 1 && (!has_ptr(rows, ObjKey(k)) || flag_at(rows, walk, h[ROW]))
+    !h.hidden && (!has_ptr(rows, ObjKey(k)) || flag_at(rows, walk, h.row))
 }
 
 // ---- the set
@@ -82,9 +81,9 @@ pub fn new(
     hits: &mut [FirstHit],
 ) -> usize
     requires library { Library text.now rows.now }
-    requires t_bound { (t.0 < type_count rows.now) × (2 * type_count rows.now ≤ length walk.old) × (length walk.old ≤ max_records) × Wide walk.old × Held text.now rows.now names.old 0 hits.old }
+    requires t_bound { (t.0 < type_count rows.now) × (2 * type_count rows.now ≤ length walk.old) × (length walk.old ≤ max_records) × Held text.now rows.now names.old 0 hits.old }
     ensures set_held { SetHeld text.now rows.now t walk.new names.new hits.new result }
-    ensures wide { Wide walk.new × Rooms rows.now hits.new }
+    ensures rooms { Rooms rows.now hits.new }
 {
     if empty_set(rows, t) {
         return 0;
@@ -106,9 +105,9 @@ pub fn selection(
     ensures { (take result out.new ≡ sel_at rows.now walk.now hits.now k) × (result ≤ max_places + 2) }
 {
     let h = hits[k as usize];
-    let flag = flag_at(rows, walk, h[ROW]);
+    let flag = flag_at(rows, walk, h.row);
     out[0] = k;
     out[1] = u32::from(flag);
-    let count = write_places(walk, &mut out[2..], h[ROW], h[PLACE]);
+    let count = write_places(walk, &mut out[2..], h.row, h.place);
     count + 2
 }

@@ -14,7 +14,7 @@ use Rattle.objects.specs.Lists.{Bytes, keep, flat, In}
 use Rattle.objects.specs.declared.ObjKey.{ObjKey}
 use Rattle.objects.specs.declared.TypeKey.{TypeKey}
 use Rattle.objects.specs.Table.{Table, Member, type_key, obj_key, is_embedded, is_struct, members_of, fields_of, kind_at, under}
-use Rattle.objects.specs.Rows.{Words, word_at, type_count, type_word, member_at, members_from, table_of}
+use Rattle.objects.specs.Rows.{Words, type_count, type_word, member_at, members_from, table_of}
 use Rattle.objects.specs.Types.{member_type_read, embedded_read, bare_read, pointer_read, under_read, number_read, first_read, total_read}
 use Rattle.objects.specs.Laid.{end_of}
 use Rattle.objects.proofs.ListLaws.{cases, either, keep_append, map-append, flat_append}
@@ -27,7 +27,7 @@ use Rattle.rules.proofs.RangeLaws.{under-in}
 use Rattle.rules.proofs.Sounds.{library-sound}
 use Rattle.ways.specs.OfTable.{graph, step_of}
 use Rattle.ways.proofs.TableLaws.{bare-in}
-use Rattle.multiples.specs.Records.{Record, typ_column, indirect_column, level_column}
+use Rattle.multiples.specs.Records.{Record}
 use Rattle.walks.specs.Rows.{Row, root_row, row, entered, enter_all, embeds, range}
 use Rattle.walks.proofs.RowsKept.{range-append}
 use Rattle.walks.proofs.Loops.{enter-grows, enter-append, embeds-old}
@@ -56,7 +56,7 @@ module _ {types : ℕ} {walk : List Record} {n : ℕ} where
     rows = k.rows;
   }
 
-  pub enters-row : Walked types walk n → (e : Record) → word_at e typ_column < types → {after : List Record} {end : ℕ} → length after ≡ length walk → Holds after end (entered (rows_of walk n) (row_meant e)) → Enters types walk n (row_meant e ∷ []) after end
+  pub enters-row : Walked types walk n → (e : Record) → e.typ.0 < types → {after : List Record} {end : ℕ} → length after ≡ length walk → Holds after end (entered (rows_of walk n) (row_meant e)) → Enters types walk n (row_meant e ∷ []) after end
   unfolding row_meant
   enters-row h e t l k = enters-one h (row_meant e) t l k
 
@@ -102,19 +102,19 @@ module _ {types : ℕ} {walk : List Record} {n : ℕ} where
     last_on lo i l h a b c d e = rw (level-old a d, level-old b e) (h a b (omega arith) d e)
 
 -- a row that was read
-module _ {types : ℕ} {walk : List Record} {n : ℕ} (h : Walked types walk n) (i : ℕ) (b : i < n) (e : Record) (read : (c : ℕ) → word_at e c ≡ word_at (record_at walk i) c) where
+module _ {types : ℕ} {walk : List Record} {n : ℕ} (h : Walked types walk n) (i : ℕ) (b : i < n) (e : Record) (read : e ≡ record_at walk i) where
   pub row_is : row (rows_of walk n) i ≡ row_meant e
   row_is = rows_at walk n i b ∙ row_read walk i e read
 
-  pub row_in : word_at e typ_column < types
+  pub row_in : e.typ.0 < types
   unfolding row_meant
   row_in = let k = rows-length walk n in let t = h.typed (row (rows_of walk n) i) (get_or-In (rows_of walk n) i _ (omega arith)) in rw row_is at t
 
-  pub level_in : word_at e level_column ≤ i
+  pub level_in : e.level ≤ i
   level_in = rw (level-read walk i e read, ← row-level walk i) (h.rowed.low i b)
 
   -- the rows below it
-  pub row-below : (from : ℕ) (flag : Bool) → i < from → from ≤ n → LastFrom walk i from → Below walk n (record { row = i; flag = flag; level = word_at e level_column + 1; from = from })
+  pub row-below : (from : ℕ) (flag : Bool) → i < from → from ≤ n → LastFrom walk i from → Below walk n (record { row = i; flag = flag; level = e.level + 1; from = from })
   row-below from flag l o last =
       let a = level_in in
       record {
@@ -135,16 +135,15 @@ module _ (text : Bytes) (rows : Words) (up : Above) (m : ObjKey) (place : ℕ) w
   field_plain e f = rw (embedded-meant text rows m ∙ sym e ∙ f)
 
   -- the record of the row below
-  abbrev pub field_record : TypeKey → ℕ → Record
-  field_record u flag = u.0 ∷ up.row ∷ place ∷ flag ∷ 0 ∷ m.0 ∷ up.level ∷ 0 ∷ []
+  abbrev pub field_record : TypeKey → Bool → Record
+  field_record u flag = record { typ = u; parent = up.row; place = place; indirect = flag; multiples = false; key = m; level = up.level; first = 0 }
 
-  pub field_fits : {types : ℕ} {walk : List Record} {n : ℕ} → Walked types walk n → Below walk n up → (u : TypeKey) (flag : ℕ) → u.0 < types → Fits walk up.from n (field_record u flag)
-  unfolding word_at
+  pub field_fits : {types : ℕ} {walk : List Record} {n : ℕ} → Walked types walk n → Below walk n up → (u : TypeKey) (flag : Bool) → u.0 < types → Fits walk up.from n (field_record u flag)
   field_fits h b u flag l =
       let room = h.room in
       let inside = b.inside in
       let order = b.order in
-      record { wide = refl; typed = omega arith; back = omega arith; low = b.low; plain = refl; order = b.order; earlier = b.earlier }
+      record { typed = omega arith; back = omega arith; low = b.low; plain = refl; order = b.order; earlier = b.earlier }
 
   module _ (lib : Library text rows) (typed : (member_type_read rows m).0 < type_count rows) {t : TypeKey} (et : t ≡ member_type_read rows m) where
     in-table : t.0 < type_count rows
@@ -156,11 +155,11 @@ module _ (text : Bytes) (rows : Words) (up : Above) (m : ObjKey) (place : ℕ) w
         let b = bare-in (table_of text rows) (library-sound lib) t (rw s in-table) in
         rw (e, ← bare-read text rows t in-table, ← s) b
 
-    pub field_row : {b : Bool} → b ≡ embedded_read rows m → b ≡ true → {u : TypeKey} → u ≡ bare_read rows t → {p : Bool} → p ≡ pointer_read rows t → {f : Bool} → f ≡ up.flag || p → (flag : ℕ) → eqb flag 1 ≡ f
-        → row_meant (field_record u flag) ∷ [] ≡ rows_below (table_of text rows) up field
-    unfolding rows_below row_meant word_at
-    field_row e g eu ep ef flag eb =
-        rw (embedded-meant text rows m ∙ sym e ∙ g, member-key text rows m, member-type-meant text rows m ∙ sym et, bare-read text rows t in-table ∙ sym eu, pointer-read text rows t in-table ∙ sym ep, eb, ef)
+    pub field_row : {b : Bool} → b ≡ embedded_read rows m → b ≡ true → {u : TypeKey} → u ≡ bare_read rows t → {p : Bool} → p ≡ pointer_read rows t → (f : Bool) → f ≡ up.flag || p
+        → row_meant (field_record u f) ∷ [] ≡ rows_below (table_of text rows) up field
+    unfolding rows_below row_meant
+    field_row e g eu ep f ef =
+        rw (embedded-meant text rows m ∙ sym e ∙ g, member-key text rows m, member-type-meant text rows m ∙ sym et, bare-read text rows t in-table ∙ sym eu, pointer-read text rows t in-table ∙ sym ep, ef)
 
 -- ---- the fields of a struct
 
@@ -209,17 +208,17 @@ module _ (text : Bytes) (rows : Words) (up : Above) (first : ℕ) where
 
 module _ (text : Bytes) (rows : Words) (walk : List Record) (n i from : ℕ) (e : Record) (is : row (rows_of walk n) i ≡ row_meant e) where
   abbrev t : TypeKey
-  t = type_key (word_at e typ_column)
+  t = e.typ
 
   -- what the rows below have of it
   abbrev above : Above
-  above = record { row = i; flag = eqb (word_at e indirect_column) 1; level = word_at e level_column + 1; from = from }
+  above = record { row = i; flag = e.indirect; level = e.level + 1; from = from }
 
   embeds-are : embeds (graph (table_of text rows)) (rows_of walk n) i ≡ rows_below (table_of text rows) above (places_from 0 (fields_of (kind_at (table_of text rows) (under (table_of text rows) t))))
   unfolding rows_below row_meant
-  embeds-are = rw (is, add-one (word_at e level_column))
+  embeds-are = rw (is, add-one e.level)
 
-  module _ (lib : Library text rows) (typed : word_at e typ_column < type_count rows) {u : TypeKey} (eu : u ≡ under_read rows t) where
+  module _ (lib : Library text rows) (typed : e.typ.0 < type_count rows) {u : TypeKey} (eu : u ≡ under_read rows t) where
     pub under-typed : u.0 < type_count rows
     under-typed =
         let s = size-read text rows in

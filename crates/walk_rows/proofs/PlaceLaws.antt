@@ -5,8 +5,8 @@ use Prim.Native.Nat.{ℕ, zero, suc, ◌+◌, ◌-◌, ◌≤◌, ◌<◌}
 use native.Mathlib.Omega.{arith}
 use lib.ListN.{length, set, take, drop, length-set}
 use lib.Seq.{drop-cons, drop-set-lt, get_or-set_same}
-use Rattle.objects.specs.Rows.{Words, word_at}
-use Rattle.multiples.specs.Records.{Record, parent_column, place_column}
+use Rattle.objects.specs.Rows.{Words}
+use Rattle.multiples.specs.Records.{Record}
 use Rattle.walks.specs.Rows.{Row, row, places_to, walk_at}
 use Rattle.walk_rows.specs.Records.{record_at, row_of, rows_of, level_of}
 use Rattle.walk_rows.specs.State.{Rowed, places_read, Written}
@@ -51,7 +51,7 @@ module _ (walk : List Record) (d i last : ℕ) where
   }
 
   module _ {places : Words} {left at : ℕ} (h : Climbs walk d i last places left at) where
-    pub climb-more : 0 < left → d < length places → (e : Record) → ((c : ℕ) → word_at e c ≡ word_at (record_at walk at) c) → Climbs walk d i last (set places (left - 1) (word_at e place_column)) (left - 1) (word_at e parent_column)
+    pub climb-more : 0 < left → d < length places → (e : Record) → e ≡ record_at walk at → Climbs walk d i last (set places (left - 1) (e.place)) (left - 1) (e.parent)
     unfolding places_read
     climb-more some l e read =
         let o = h.order in
@@ -61,9 +61,9 @@ module _ (walk : List Record) (d i last : ℕ) where
           order = omega arith;
           way = h.way
               ∙ ap₂ (λ n r. places_read walk n at ++ r) s (ap (λ n. written places n d) t)
-              ∙ ap₂ (λ p v. (places_read walk (left - 1) p ++ (v ∷ [])) ++ written places (left - 1 + 1) d) (row-parent walk at ∙ sym (read parent_column)) (row-place walk at ∙ sym (read place_column))
-              ∙ append_assoc (places_read walk (left - 1) (word_at e parent_column)) (word_at e place_column ∷ []) (written places (left - 1 + 1) d)
-              ∙ ap (λ r. places_read walk (left - 1) (word_at e parent_column) ++ r) (sym (written-more places (left - 1) d (word_at e place_column) (omega arith) (omega arith)));
+              ∙ ap₂ (λ p v. (places_read walk (left - 1) p ++ (v ∷ [])) ++ written places (left - 1 + 1) d) (row-parent walk at ∙ ap (λ (r : Record). r.parent) (sym read)) (row-place walk at ∙ ap (λ (r : Record). r.place) (sym read))
+              ∙ append_assoc (places_read walk (left - 1) (e.parent)) (e.place ∷ []) (written places (left - 1 + 1) d)
+              ∙ ap (λ r. places_read walk (left - 1) (e.parent) ++ r) (sym (written-more places (left - 1) d (e.place) (omega arith) (omega arith)));
         }
 
     pub climb-end : left ≤ 0 → d ≡ level_of walk i → Written walk i last places (d + 1)

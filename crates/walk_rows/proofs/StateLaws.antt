@@ -18,7 +18,7 @@ use Rattle.walks.specs.Kept.{count}
 use Rattle.walks.specs.Rows.{Row, root_row, row}
 use Rattle.walks.proofs.Few.{at_most}
 use Rattle.walk_rows.specs.Records.{row_of, rows_of, mark_of, first_of}
-use Rattle.walk_rows.specs.State.{HasRoom, Wide, times_in, Told, Rowed}
+use Rattle.walk_rows.specs.State.{HasRoom, times_in, Told, Rowed}
 use Rattle.walk_rows.proofs.ListLaws.{times, times_more, times-same}
 
 -- ---- the first n rows
@@ -119,7 +119,6 @@ module _ {walk : List Record} {n : ℕ} (h : Rowed walk n) where
 -- Row n is x, and nothing else changes but the first row and the marks of x's type.
 pub record Grows (walk : List Record) (n : ℕ) (x : Row) (after : List Record) : Type 0 where
   pub long : length after ≡ length walk
-  pub wide : Wide after
   pub old : (j : ℕ) → j < n → row_of after j ≡ row_of walk j
   pub new : row_of after n ≡ x
   pub firsts : (u : TypeKey) → same_type x.type u ≡ false → first_of after u ≡ first_of walk u
@@ -152,7 +151,6 @@ module _ {walk : List Record} {n : ℕ} {x : Row} {after : List Record} (g : Gro
   pub grown : Rowed walk n → HasRoom walk x.type → x.parent ≤ n → x.level ≤ n → Told after (suc n) x.type → Rowed after (suc n)
   grown h typed back low told = record {
     most = rw g.long h.most;
-    wide = g.wide;
     typed = λ j l. rw g.long (each (λ k r. HasRoom walk r.type) h.typed typed j l);
     back = each (λ k r. r.parent ≤ k) h.back back;
     low = each (λ k r. r.level ≤ k) h.low low;

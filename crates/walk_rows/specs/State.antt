@@ -4,23 +4,19 @@ use Rattle.objects.specs.Lists.{In, keep}
 use Rattle.objects.specs.declared.TypeKey.{TypeKey}
 use Rattle.objects.specs.Table.{Table, obj_key, is_embedded}
 use Rattle.objects.specs.Types.{member_type_read}
-use Rattle.objects.specs.Rows.{Words, word_at, type_count}
+use Rattle.objects.specs.Rows.{Words, type_count}
 use Rattle.rules.specs.Ways.{Place}
 use Rattle.ways.specs.Graph.{Step}
 use Rattle.ways.specs.OfTable.{step_of}
-use Rattle.multiples.specs.Records.{max_records, Record, record_words, typ_column, parent_column, multiples_column, level_column}
+use Rattle.multiples.specs.Records.{max_records, Record}
 use Rattle.walks.specs.Kept.{count}
 use Rattle.walks.specs.Rows.{Row, enter_all}
 use Rattle.walk_rows.specs.declared.Above.{Above}
-use Rattle.walk_rows.specs.Records.{record_at, row_of, rows_of, level_of, mark_of, first_of}
+use Rattle.walk_rows.specs.Records.{row_of, rows_of, level_of, mark_of, first_of}
 
 -- so many records have room for two of each type up to u
 abbrev pub HasRoom : List Record → TypeKey → Type 0
 HasRoom walk u = 2 * u.0 + 2 ≤ length walk
-
--- every record has its words
-abbrev pub Wide : List Record → Type 0
-Wide walk = (j : ℕ) → j < length walk → length (record_at walk j) ≡ record_words
 
 -- how many of the first n rows are of type u
 unfoldable pub times_in : List Record → ℕ → TypeKey → ℕ
@@ -40,7 +36,6 @@ pub record Told (walk : List Record) (n : ℕ) (u : TypeKey) : Type 0 where
 -- The first n rows: each reached from a row no later than itself, at a level no later than itself, and the words of the types tell them.
 pub record Rowed (walk : List Record) (n : ℕ) : Type 0 where
   pub most : length walk ≤ max_records
-  pub wide : Wide walk
   pub typed : (j : ℕ) → j < n → HasRoom walk (row_of walk j).type
   pub back : (j : ℕ) → j < n → (row_of walk j).parent ≤ j
   pub low : (j : ℕ) → j < n → (row_of walk j).level ≤ j
@@ -48,13 +43,12 @@ pub record Rowed (walk : List Record) (n : ℕ) : Type 0 where
 
 -- A record that may be put as row n: of a type that there is room for, reached from a row no later than itself, not marked, and below the rows before `from`.
 pub record Fits (walk : List Record) (from n : ℕ) (e : Record) : Type 0 where
-  pub wide : length e ≡ record_words
-  pub typed : 2 * word_at e typ_column + 2 ≤ length walk
-  pub back : word_at e parent_column ≤ n
-  pub low : word_at e level_column ≤ n
-  pub plain : word_at e multiples_column ≡ 0
+  pub typed : 2 * e.typ.0 + 2 ≤ length walk
+  pub back : e.parent ≤ n
+  pub low : e.level ≤ n
+  pub plain : e.multiples ≡ false
   pub order : from ≤ n
-  pub earlier : (j : ℕ) → j < from → level_of walk j < word_at e level_column
+  pub earlier : (j : ℕ) → j < from → level_of walk j < e.level
 
 -- The rows are R.
 pub record Holds (walk : List Record) (n : ℕ) (R : List Row) : Type 0 where

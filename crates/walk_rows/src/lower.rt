@@ -14,12 +14,12 @@ ghost use Rattle.walk_rows.specs.State.{Walked, Enters, LastFrom, Below, FieldsT
 use crate::Above;
 use crate::enter::enter;
 use crate::records::record_at;
-use multiples::{EmbeddedType, INDIRECT, LEVEL, TYP};
+use multiples::EmbeddedType;
+use objects::ObjKey;
 use objects::kinds::STRUCT;
 use objects::rows::{
     bare, first_member, is_embedded, kind_number, member_total, member_type, pointer_at, under,
 };
-use objects::{ObjKey, TypeKey};
 
 // Member m, at a place among the fields of a row's type, if it is an embedded field.
 fn embed_field(
@@ -40,13 +40,17 @@ fn embed_field(
     }
     let t = member_type(rows, m);
     let target = bare(rows, t);
-    let flag = u32::from(up.flag || pointer_at(rows, t));
-    enter(
-        walk,
-        up.from,
-        n,
-        [target.0, up.row, place, flag, 0, m.0, up.level, 0],
-    )
+    let below = EmbeddedType {
+        typ: target,
+        parent: up.row,
+        place,
+        indirect: up.flag || pointer_at(rows, t),
+        multiples: false,
+        key: m,
+        level: up.level,
+        first: 0,
+    };
+    enter(walk, up.from, n, below)
 }
 
 // So many fields from a first one on.
@@ -84,14 +88,14 @@ fn embed(
     ensures { Enters (type_count rows.now) walk.old n (embeds (graph (table_of text.now rows.now)) (rows_of walk.old n) i) walk.new result }
 {
     let e = record_at(walk, i as usize);
-    let u = under(rows, TypeKey(e[TYP]));
+    let u = under(rows, e.typ);
     if kind_number(rows, u) != STRUCT {
         return n;
     }
     let up = Above {
         row: i,
-        flag: e[INDIRECT] == 1,
-        level: e[LEVEL] + 1,
+        flag: e.indirect,
+        level: e.level + 1,
         from,
     };
     let first = first_member(rows, u);

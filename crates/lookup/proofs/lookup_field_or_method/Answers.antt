@@ -9,8 +9,8 @@ lookup_field_or_method_impl-s-requires c =
 
 pub returns-then-named_pointer : goal.returns-then-named_pointer
 returns-then-named_pointer c =
-    record { selects = select-pointer _ _ _ c.requires.library _ c.requires.t_bound.0 _ _ c.named_pointer.ensures c.if-named_pointer.true c.under-u.ensures _ c.lookup_field_or_method_impl-s.ensures.selects c.without_method.ensures; wide = c.lookup_field_or_method_impl-s.ensures.wide }
+    select-pointer _ _ _ c.requires.library _ c.requires.t_bound.0 _ _ c.named_pointer.ensures c.if-named_pointer.true c.under-u.ensures _ c.lookup_field_or_method_impl-s.ensures c.without_method.ensures
 
 pub returns-else-named_pointer : goal.returns-else-named_pointer
 returns-else-named_pointer c =
-    record { selects = select-plain _ _ _ c.requires.library _ c.requires.t_bound.0 _ _ c.named_pointer.ensures c.if-named_pointer.false _ c.lookup_field_or_method_impl.ensures.selects; wide = c.lookup_field_or_method_impl.ensures.wide }
+    select-plain _ _ _ c.requires.library _ c.requires.t_bound.0 _ _ c.named_pointer.ensures c.if-named_pointer.false _ c.lookup_field_or_method_impl.ensures

@@ -3,8 +3,8 @@ use Rattle.lookup.proofs.SelectLaws.{bare-inside, blank-nothing, interface-nothi
 use Rattle.lookup.proofs.lookup_field_or_method_impl.Goals as goal
 use Rattle.lookup.proofs.lookup_field_or_method_impl.Goals.{then-blank_name-via-then-blank_name, then-blank_name-via-else-blank_name+then-pointer_to_interface}
 
-pub returns-then-blank_name-clause-selects : goal.returns-then-blank_name-clause-selects
-returns-then-blank_name-clause-selects c =
+pub returns-then-blank_name : goal.returns-then-blank_name
+returns-then-blank_name c =
     elim c.then-blank_name.branch [
       | then-blank_name-via-then-blank_name w ↦ blank-nothing _ _ c.requires.library _ c.requires.t_bound.0 _ _ c.blank_name.ensures _ w.if-blank_name.true
       | then-blank_name-via-else-blank_name+then-pointer_to_interface w ↦ interface-nothing _ _ c.requires.library _ c.requires.t_bound.0 _ _ c.blank_name.ensures _ w.if-blank_name.false w.pointer_to_interface.ensures w.if-pointer_to_interface.true
@@ -16,4 +16,4 @@ search-requires c =
 
 pub returns : goal.returns
 returns c =
-    record { selects = search-selects _ _ c.requires.library _ c.requires.t_bound.0 _ _ c.blank_name.ensures _ c.if-blank_name.false c.pointer_to_interface.ensures c.if-pointer_to_interface.false c.bare-u.ensures c.pointer_at-f.ensures _ c.search.ensures.answers; wide = c.search.ensures.wide }
+    search-selects _ _ c.requires.library _ c.requires.t_bound.0 _ _ c.blank_name.ensures _ c.if-blank_name.false c.pointer_to_interface.ensures c.if-pointer_to_interface.false c.bare-u.ensures c.pointer_at-f.ensures _ c.search.ensures

@@ -1,20 +1,15 @@
 -- `in_set` meets its contract.
 use mathlib.Core.Path.{ap, ◌∙◌}
 use mathlib.Core.Bool.{not}
-use borrow.Author.Tests.{eq-eqb}
-use Rattle.objects.specs.Rows.{word_at}
 use Rattle.method_set.proofs.KeepLaws.{in-hidden, in-pointer, in-value}
 use Rattle.method_set.proofs.in_set.Goals as goal
 
-pub returns-else-h-ne1 : goal.returns-else-h-ne1
-unfolding word_at
-returns-else-h-ne1 c = ap not (eq-eqb _ _ c.if-h-ne1.false) ∙ in-hidden _ _ c.args.hits.now c.args.k c.if-h-ne1.false
+pub returns-else-not-h : goal.returns-else-not-h
+returns-else-not-h c = c.if-not-h.false ∙ in-hidden _ _ c.args.hits.now c.args.k c.if-not-h.false
 
 pub returns-else-not-has_ptr : goal.returns-else-not-has_ptr
-unfolding word_at
 returns-else-not-has_ptr c =
-    in-pointer _ _ c.args.hits.now c.args.k c.if-h-ne1.true c.has_ptr.ensures c.if-not-has_ptr.false c.flag_at.ensures
+    in-pointer _ _ c.args.hits.now c.args.k c.if-not-h.true c.has_ptr.ensures c.if-not-has_ptr.false c.flag_at.ensures
 
 pub returns-then-not-has_ptr : goal.returns-then-not-has_ptr
-unfolding word_at
-returns-then-not-has_ptr c = ap not c.if-not-has_ptr.true ∙ in-value _ _ c.args.hits.now c.args.k c.if-h-ne1.true c.has_ptr.ensures c.if-not-has_ptr.true
+returns-then-not-has_ptr c = ap not c.if-not-has_ptr.true ∙ in-value _ _ c.args.hits.now c.args.k c.if-not-h.true c.has_ptr.ensures c.if-not-has_ptr.true

@@ -9,7 +9,7 @@ use Rattle.levels.proofs.all.walk_all.Goals as goal
 
 pub put_root-requires : goal.put_root-requires
 put_root-requires c =
-    (c.requires.t_bound.2, c.requires.t_bound.3, omega (arith, c.requires.t_bound.0, c.requires.t_bound.1))
+    (c.requires.t_bound.2, omega (arith, c.requires.t_bound.0, c.requires.t_bound.1))
 
 pub loop-lo-init : goal.loop-lo-init
 loop-lo-init c =

@@ -1,6 +1,5 @@
 -- `levels::hits::next_hit` meets its contract. The invariant: no row from lo up to this one has the name.
 use native.Mathlib.Omega.{arith}
-use Rattle.objects.specs.Rows.{word_at}
 use Rattle.walk_rows.proofs.StateLaws.{rows-most}
 use Rattle.walk_rows.proofs.LowerLaws.{row_in}
 use Rattle.levels.specs.Hits.{Tells}
@@ -15,7 +14,6 @@ overflow_cast-row-end c =
     omega (arith, rows-most c.requires.walked.0.rowed, c.requires.walked.0.rowed.most)
 
 pub own_member-requires : goal.own_member-requires
-unfolding word_at
 own_member-requires c =
     record { library = c.requires.library; t_bound = (row_in c.requires.walked.0 _ c.loop-row-test.true c.record_at-e.result c.record_at-e.ensures, c.requires.walked.2) }
 

@@ -10,7 +10,7 @@ use Rattle.levels.proofs.search.search.Goals as goal
 
 pub put_root-requires : goal.put_root-requires
 put_root-requires c =
-    (c.requires.scratch.most, c.requires.scratch.wide, omega (arith, c.requires.scratch.room, c.requires.typ_bound.0))
+    (c.requires.scratch.most, omega (arith, c.requires.scratch.room, c.requires.typ_bound.0))
 
 pub loop-lo-init : goal.loop-lo-init
 loop-lo-init c =
@@ -42,7 +42,7 @@ verdict-requires c =
 pub returns-in-Some : goal.returns-in-Some
 returns-in-Some c =
     let hit = tells_at _ _ _ _ _ _ c.next_hit.ensures c.in-Some.is in
-    record { answers = going-found _ _ _ _ _ _ c.loop-lo.invariant.0 c.requires.library c.requires.typ_bound.0 c.loop-lo-test.true hit _ c.next_hit-next.ensures c.verdict.ensures; wide = c.loop-lo.invariant.0.staged.state.rowed.wide }
+    going-found _ _ _ _ _ _ c.loop-lo.invariant.0 c.requires.library c.requires.typ_bound.0 c.loop-lo-test.true hit _ c.next_hit-next.ensures c.verdict.ensures
 
 pub lower-end-requires : goal.lower-end-requires
 lower-end-requires c =
@@ -63,4 +63,4 @@ loop-lo-preserved c =
 
 pub returns : goal.returns
 returns c =
-    record { answers = going_end _ _ _ _ _ _ c.loop-lo.invariant.0 c.loop-lo-test.false refl; wide = c.loop-lo.invariant.0.staged.state.rowed.wide }
+    going_end _ _ _ _ _ _ c.loop-lo.invariant.0 c.loop-lo-test.false refl

@@ -20,9 +20,8 @@ returns-then-iface_under c =
     record {
       result_value = methods _ _ _ c.first_unmet.ensures.result_value;
       marks_unchanged = c.first_unmet.ensures.marks_unchanged;
-      wide = c.first_unmet.ensures.wide;
     }
 
 pub returns-else-iface_under : goal.returns-else-iface_under
 returns-else-iface_under c =
-    record { result_value = no-methods _ _ c.requires.library _ c.requires.t_bound.1 c.iface_under.ensures c.if-iface_under.false _ _; marks_unchanged = refl; wide = c.requires.mark_words_in_bounds.1.wide }
+    record { result_value = no-methods _ _ c.requires.library _ c.requires.t_bound.1 c.iface_under.ensures c.if-iface_under.false _ _; marks_unchanged = refl }

@@ -13,4 +13,4 @@ lookup_field_or_method-found-requires c =
 
 pub returns : goal.returns
 returns c =
-    record { result_value = selected-unmet _ _ c.requires.library _ c.requires.t_bound.0 c.iface_under.ensures _ c.if-iface_under.false c.name_of-q.ensures _ _ c.lookup_field_or_method-found.ensures.selects _ _ c.unmet_by.ensures.by_index; marks_unchanged = c.unmet_by.ensures.marks_unchanged; wide = c.lookup_field_or_method-found.ensures.wide }
+    record { result_value = selected-unmet _ _ c.requires.library _ c.requires.t_bound.0 c.iface_under.ensures _ c.if-iface_under.false c.name_of-q.ensures _ _ c.lookup_field_or_method-found.ensures _ _ c.unmet_by.ensures.by_index; marks_unchanged = c.unmet_by.ensures.marks_unchanged }

@@ -1,13 +1,11 @@
 -- `embed`.
 use Prim.Native.Nat.{◌<◌}
 use native.Mathlib.Omega.{arith}
-use Rattle.objects.specs.Rows.{word_at}
 use Rattle.walk_rows.proofs.StateLaws.{rows-most}
 use Rattle.walk_rows.proofs.LowerLaws.{enters_none, enters-as, row_is, row_in, level_in, row-below, embeds-none, embeds-some, fields_fit, fields-typed}
 use Rattle.walk_rows.proofs.lower.embed.Goals as goal
 
 pub returns-then-kind_number-ne-STRUCT : goal.returns-then-kind_number-ne-STRUCT
-unfolding word_at
 returns-then-kind_number-ne-STRUCT c =
     let inside : c.args.i < c.args.n = omega arith in
     let is = row_is c.requires.walked.0 c.args.i inside c.record_at-e.result c.record_at-e.ensures in
@@ -15,7 +13,6 @@ returns-then-kind_number-ne-STRUCT c =
     enters-as _ _ (embeds-none c.args.text.now c.args.rows.now c.args.walk.now c.args.n c.args.i c.args.from c.record_at-e.result is c.requires.library typed c.under-u.ensures c.kind_number.ensures c.if-kind_number-ne-STRUCT.true) (enters_none c.requires.walked.0)
 
 pub overflow_add-up : goal.overflow_add-up
-unfolding word_at
 overflow_add-up c =
     let inside : c.args.i < c.args.n = omega arith in
     let is = row_is c.requires.walked.0 c.args.i inside c.record_at-e.result c.record_at-e.ensures in
@@ -25,7 +22,6 @@ overflow_add-up c =
     omega arith
 
 pub embed_fields-requires : goal.embed_fields-requires
-unfolding word_at
 embed_fields-requires c =
     let inside : c.args.i < c.args.n = omega arith in
     let is = row_is c.requires.walked.0 c.args.i inside c.record_at-e.result c.record_at-e.ensures in
@@ -33,7 +29,6 @@ embed_fields-requires c =
     record { library = c.requires.library; walked = (c.requires.walked.0, row-below c.requires.walked.0 c.args.i inside c.record_at-e.result c.record_at-e.ensures c.args.from _ c.requires.walked.1 c.requires.walked.2 c.requires.walked.3, fields_fit c.args.text.now c.args.rows.now c.args.walk.now c.args.n c.args.i c.args.from c.record_at-e.result is c.requires.library typed c.under-u.ensures c.kind_number.ensures c.if-kind_number-ne-STRUCT.false c.first_member-first.ensures c.member_total-total.ensures, fields-typed c.args.text.now c.args.rows.now c.args.walk.now c.args.n c.args.i c.args.from c.record_at-e.result is c.requires.library typed c.under-u.ensures c.kind_number.ensures c.if-kind_number-ne-STRUCT.false c.first_member-first.ensures c.member_total-total.ensures) }
 
 pub returns : goal.returns
-unfolding word_at
 returns c =
     let inside : c.args.i < c.args.n = omega arith in
     let is = row_is c.requires.walked.0 c.args.i inside c.record_at-e.result c.record_at-e.ensures in

@@ -2,7 +2,6 @@
 use mathlib.Core.Path.{ap, ◌∙◌}
 use native.Mathlib.Omega.{arith}
 use lib.ListN.{length}
-use Rattle.objects.specs.Rows.{word_at}
 use Rattle.walk_rows.specs.Records.{first_put}
 use Rattle.walk_rows.proofs.EnterLaws.{type-inside, first-room, first-long, first_holds}
 use Rattle.walk_rows.proofs.records.put_first.Goals as goal
@@ -22,19 +21,17 @@ overflow_cast-walk c =
     omega arith
 
 pub offset_bounds-walk-t : goal.offset_bounds-walk-t
-unfolding word_at
 offset_bounds-walk-t c =
     let l = type-inside c.args.walk.now 0 c.args.n c.args.e c.requires.0 c.requires.1 in
     omega arith
 
 pub bounds-walk-t : goal.bounds-walk-t
-unfolding word_at
 bounds-walk-t c =
     let l = type-inside c.args.walk.now 0 c.args.n c.args.e c.requires.0 c.requires.1 in
     let e = ap length c.put_record.ensures ∙ first-long c.args.walk.now 0 c.args.n c.args.e c.requires.0 c.requires.1 c.requires.2 in
     omega arith
 
 pub returns : goal.returns
-unfolding first_put word_at
+unfolding first_put
 returns c =
     first_holds c.args.walk.now 0 c.args.n c.args.e c.requires.0 c.requires.1 c.requires.2 c.put_record.ensures

@@ -1,9 +1,8 @@
 -- `put_record`.
 use Rattle.std.proofs.Common.{rules}
-use Rattle.objects.specs.Rows.{word_at}
 use Rattle.walk_rows.specs.Records.{record_put}
 use Rattle.walk_rows.proofs.records.put_record.Goals as goal
 
 pub returns : goal.returns
-unfolding record_put word_at
+unfolding record_put
 returns c = search rules

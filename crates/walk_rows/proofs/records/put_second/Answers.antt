@@ -1,6 +1,5 @@
 -- `put_second`.
 use native.Mathlib.Omega.{arith}
-use Rattle.objects.specs.Rows.{word_at}
 use Rattle.walk_rows.proofs.StateLaws.{rows-most}
 use Rattle.walk_rows.proofs.EnterLaws.{part-marks, marks-room, marks-most, second_holds}
 use Rattle.walk_rows.proofs.records.put_second.Goals as goal
@@ -13,15 +12,13 @@ pub slice_bounds-consolidate_multiples-end : goal.slice_bounds-consolidate_multi
 slice_bounds-consolidate_multiples-end c = rows-most c.requires.rowed.0
 
 pub put_record-requires : goal.put_record-requires
-unfolding word_at
 put_record-requires c =
-    let marks = part-marks c.args.walk.now c.args.from c.args.n c.args.e c.requires.rowed.0 c.requires.rowed.1 c.args.i c.requires.typ_column_value.0 c.requires.typ_column_value.1 c.requires.typ_column_value.2 c.consolidate_multiples.ensures in
-    let room = marks-room c.args.walk.now c.args.from c.args.n c.args.e c.requires.rowed.0 c.requires.rowed.1 c.args.i c.requires.typ_column_value.0 c.requires.typ_column_value.1 in
-    let most = marks-most c.args.walk.now c.args.from c.args.n c.args.e c.requires.rowed.0 c.requires.rowed.1 c.args.i c.requires.typ_column_value.0 c.requires.typ_column_value.1 in
+    let marks = part-marks c.args.walk.now c.args.from c.args.n c.args.e c.requires.rowed.0 c.requires.rowed.1 c.args.i c.requires.first_unmarked.0 c.requires.first_unmarked.1 c.requires.first_unmarked.2 c.consolidate_multiples.ensures in
+    let room = marks-room c.args.walk.now c.args.from c.args.n c.args.e c.requires.rowed.0 c.requires.rowed.1 c.args.i c.requires.first_unmarked.0 c.requires.first_unmarked.1 in
+    let most = marks-most c.args.walk.now c.args.from c.args.n c.args.e c.requires.rowed.0 c.requires.rowed.1 c.args.i c.requires.first_unmarked.0 c.requires.first_unmarked.1 in
     (rw marks room, rw marks most)
 
 pub returns : goal.returns
-unfolding word_at
 returns c =
-    let marks = part-marks c.args.walk.now c.args.from c.args.n c.args.e c.requires.rowed.0 c.requires.rowed.1 c.args.i c.requires.typ_column_value.0 c.requires.typ_column_value.1 c.requires.typ_column_value.2 c.consolidate_multiples.ensures in
-    second_holds c.args.walk.now c.args.from c.args.n c.args.e c.requires.rowed.0 c.requires.rowed.1 c.args.i c.requires.typ_column_value.0 c.requires.typ_column_value.1 marks c.put_record.ensures
+    let marks = part-marks c.args.walk.now c.args.from c.args.n c.args.e c.requires.rowed.0 c.requires.rowed.1 c.args.i c.requires.first_unmarked.0 c.requires.first_unmarked.1 c.requires.first_unmarked.2 c.consolidate_multiples.ensures in
+    second_holds c.args.walk.now c.args.from c.args.n c.args.e c.requires.rowed.0 c.requires.rowed.1 c.args.i c.requires.first_unmarked.0 c.requires.first_unmarked.1 marks c.put_record.ensures
