@@ -6,7 +6,6 @@ use mathlib.Core.Logic.{inl, inr}
 use mathlib.Core.Option.{Option, none, some}
 use Prim.Native.Nat.{ℕ, suc, ◌+◌, ◌-◌, ◌<◌, ◌≤◌}
 use native.Mathlib.Omega.{arith}
-use lib.ListN.{length, replicate}
 use borrow.Author.Tests.{not-true, eqb-true}
 use Rattle.objects.specs.declared.TypeKey.{TypeKey}
 use Rattle.objects.specs.declared.ObjKey.{ObjKey}
@@ -42,23 +41,7 @@ use Rattle.selection.specs.Results.{first, name_meant, own_meant, key_of, result
 use Rattle.selection.specs.Finds.{first_from, or_else, first_plain}
 use Rattle.selection.proofs.FindLaws.{members-left}
 use Rattle.selection.proofs.OwnLaws.{first-owned, members-row, list-packaged, list-fits, under-in}
-use Rattle.multiples.specs.Records.{Record}
-use Rattle.walk_rows.specs.State.{Wide}
-use Rattle.levels.specs.Hits.{Scratch}
 use Rattle.lookup.specs.Answers.{name_read, InTable, lack_of}
-
--- ---- marks that a callee leaves as they were
-
-module _ {before after : Words} (e : after ≡ before) where
-  pub zeros-still : before ≡ replicate (length before) 0 → after ≡ replicate (length after) 0
-  zeros-still h = rw e h
-
-  pub long-still : (n : ℕ) → n ≤ length before → n ≤ length after
-  long-still n h = rw e h
-
--- what a search leaves of what it was lent serves the next
-pub scratch-still : {rows : Words} {walk after : List Record} {places written : Words} → Scratch rows walk places → length after ≡ length walk → length written ≡ length places → Wide after → Scratch rows after written
-scratch-still lent a b wide = record { room = rw a lent.room; most = rw a lent.most; wide = wide; long = rw b lent.long }
 
 -- ---- the first of an interface's list
 
@@ -116,9 +99,6 @@ module _ (text : Bytes) (rows : Words) (m : ObjKey) {q : Name} (pq : q ≡ name_
   pub own-packaged : InTable text rows m → has_package (table_of text rows) (package_meant q.pkg) ≡ true
   unfolding name_read
   own-packaged k = rw pq (member-has text rows m k.packaged refl)
-
-pub typed-as : (rows : Words) (m : ObjKey) {x : TypeKey} → x ≡ member_type_read rows m → (member_type_read rows m).0 < type_count rows → x.0 < type_count rows
-typed-as rows m e h = rw e h
 
 module _ (text : Bytes) (rows : Words) (m found : ObjKey) {x y : TypeKey} (px : x ≡ member_type_read rows m) (py : y ≡ member_type_read rows found)
     {r : Bool} (pr : r ≡ identical (table_of text rows) x y) where
@@ -250,9 +230,6 @@ module _ (text : Bytes) (rows : Words) where
   lack-none None e o = refl
 
 module _ (text : Bytes) (rows : Words) (t : TypeKey) (s : Bool) (from n : ℕ) where
-  pub unmet-start : first_unmet (table_of text rows) t s (members_from text rows from n) ≡ first_unmet (table_of text rows) t s (members_from text rows (from + 0) (n - 0))
-  unmet-start = let z : from + 0 ≡ from = omega arith in let y : n - 0 ≡ n = omega arith in rw (z, y)
-
   pub unmet-end : (i : ℕ) → i ≤ n → n ≤ i → missing_meant text rows None ≡ first_unmet (table_of text rows) t s (members_from text rows (from + i) (n - i))
   unfolding missing_meant members_from
   unmet-end i h k = let z : n - i ≡ 0 = omega arith in rw z

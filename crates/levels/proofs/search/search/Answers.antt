@@ -8,21 +8,9 @@ use Rattle.levels.proofs.HitLaws.{tells-nothing, tells_at}
 use Rattle.levels.proofs.SearchLaws.{going-first, going_on, going-short, going-beside, going-found, going_end}
 use Rattle.levels.proofs.search.search.Goals as goal
 
-pub put_root-requires : goal.put_root-requires
-put_root-requires c =
-    (c.requires.scratch.most, c.requires.scratch.wide, omega (arith, c.requires.scratch.room, c.requires.typ_bound.0))
-
 pub loop-lo-init : goal.loop-lo-init
 loop-lo-init c =
     (going-first _ _ _ _ _ _ (staged-first _ _ c.put_root.ensures.1 (omega (arith, c.put_root.ensures.0, c.requires.scratch.room)) c.requires.typ_bound.0), refl, refl)
-
-pub overflow_cast-lo : goal.overflow_cast-lo
-overflow_cast-lo c =
-    omega (arith, stage-begins c.loop-lo.invariant.0.staged, rows-most c.loop-lo.invariant.0.staged.state.rowed, c.loop-lo.invariant.0.staged.state.rowed.most)
-
-pub next_hit-requires : goal.next_hit-requires
-next_hit-requires c =
-    record { library = c.requires.library; walked = (c.loop-lo.invariant.0.staged.state, omega (arith, c.loop-lo-test.true), c.requires.typ_bound.1) }
 
 pub overflow_add-w : goal.overflow_add-w
 overflow_add-w c =
