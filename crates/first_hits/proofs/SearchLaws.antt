@@ -1,8 +1,8 @@
 -- The search for an id among the names that ascend, and what it tells of the member that has the id.
 use mathlib.Core.Path.{◌≡◌, refl, sym, ◌∙◌, subst}
 use mathlib.Core.Bool.{Bool, true, false}
-use mathlib.Core.List.{List, [], ◌∷◌}
-use Prim.Native.Nat.{ℕ, zero, suc, ◌+◌, ◌-◌, ◌/◌, ◌<◌, ◌≤◌}
+use mathlib.Core.List.{List}
+use Prim.Native.Nat.{ℕ, ◌+◌, ◌-◌, ◌/◌, ◌<◌, ◌≤◌}
 use native.Mathlib.Numerals.{add-one}
 use native.Mathlib.Omega.{arith}
 use lib.ListN.{length, get_or, take, drop}
@@ -72,15 +72,6 @@ module _ (text : Bytes) (rows : Words) where
     name-key i h = listed.keys (get_or names i 0) (subst (λ x. In x (take n names)) (get_or-take n names i 0 h) (get_or-In (take n names) i 0 (rw counted h)))
 
     module _ (q : Bytes) where
-      pub between_start : Between names n q 0 n
-      between_start = record { order = (omega arith, omega arith); below = λ k i. absurd i; above = λ k i. absurd (subst (In k) (nothing (take n names) n counted) i) }
-        where
-          nothing : (l : List ℕ) (n : ℕ) → length l ≡ n → drop n l ≡ []
-          nothing [] zero e = refl
-          nothing [] (suc n) e = refl
-          nothing (x ∷ l) zero e = absurd (omega arith)
-          nothing (x ∷ l) (suc n) e = nothing l n (omega arith)
-
       module _ (mid : ℕ) (h : mid < n) (x : Bytes) (p : x ≡ id_at text rows (get_or names mid 0)) (o : Ordering) (po : o ≡ order_of x q) where
         at_mid : get_or (take n names) mid 0 ≡ get_or names mid 0
         at_mid = get_or-take n names mid 0 h

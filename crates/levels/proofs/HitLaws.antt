@@ -99,9 +99,6 @@ module _ (text : Bytes) (rows : Words) (q : Identity) (walk : List Record) (n lo
     pub order : (lo ≤ i) × (i ≤ n)
     pub left : ways_from T q walk n lo ≡ ways_from T q walk n i
 
-  pub looked-start : lo ≤ n → Looked lo
-  looked-start h = record { order = (omega arith, h); left = refl }
-
   pub looked-end : (i : ℕ) → Looked i → n ≤ i → ways_from T q walk n lo ≡ []
   unfolding ways_from
   looked-end i h e = h.left ∙ (let z : n - i ≡ 0 = omega arith in rw z)

@@ -46,9 +46,6 @@ module _ (text : Bytes) (rows : Words) where
     Left i = first_from (table_of text rows) (name_meant text rows names q) 0 (members_from text rows from count)
         ≡ first_from (table_of text rows) (name_meant text rows names q) i (members_from text rows (from + i) (count - i))
 
-    pub find-start : Left 0
-    find-start = let z : from + 0 ≡ from = omega arith in let y : count - 0 ≡ count = omega arith in rw (z, y)
-
     module _ (i : ℕ) (h : i < count) (left : Left i) {r : Bool}
         (p : r ≡ same_id (identity_of (table_of text rows) (member_at text rows (obj_key (from + i)))) (asked_id text rows names q.at q.len q.pkg)) where
       pub find-here : r ≡ true → FoundAt text rows from count names q i
@@ -69,10 +66,6 @@ module _ (text : Bytes) (rows : Words) where
 pub asked-sign : (names : Bytes) (q : Name) {s : Bytes} → s ≡ take q.len (drop q.at names) → {sign : ℕ} → sign ≡ hash_from 0 s → sign ≡ hash_from 0 (bytes_at names q.at q.len)
 unfolding bytes_at
 asked-sign names q es er = er ∙ ap (hash_from 0) es
-
--- the signs of the members, as a part of the rows
-pub signs-part : (rows : Words) (from count : ℕ) {at : ℕ} → at ≡ signs_at rows → take (at + from + count - (at + from)) (drop (at + from) rows) ≡ take count (drop (signs_at rows + from) rows)
-signs-part rows from count {at = at} e = let z : at + from + count - (at + from) ≡ count = omega arith in rw (z, e)
 
 module _ (text : Bytes) (rows : Words) (from count : ℕ) (names : Bytes) (q : Name) {signs : Words} {sign : ℕ} (s : SignsAre text rows from count names q signs sign) (i : ℕ) (h : i < count) where
   sign-is : get_or signs i 0 ≡ sign_at rows (obj_key (from + i))

@@ -9,10 +9,10 @@ use Rattle.objects.specs.declared.ObjKey.{ObjKey}
 use Rattle.objects.specs.Lists.{Bytes, In}
 use Rattle.objects.specs.Table.{obj_key}
 use Rattle.objects.specs.Rows.{Words, type_count, member_count_of, element_count, signs_at, sign_at, member_at, table_of}
-use Rattle.objects.specs.Laid.{Laid, Beside, SignPut, SignedPut}
+use Rattle.objects.specs.Laid.{Beside, SignPut, SignedPut}
 use Rattle.objects.proofs.ListLaws.{cases}
 use Rattle.objects.proofs.RowLaws.{size-read}
-use Rattle.objects.proofs.Signs.{beside_none, beside-on, beside-member}
+use Rattle.objects.proofs.Signs.{beside-on, beside-member}
 use Rattle.text.specs.Hash.{hash_from}
 use Rattle.rules.specs.Checks.{contents}
 use Rattle.rules.specs.Load.{loaded}
@@ -23,33 +23,20 @@ use Rattle.signs.specs.Signing.{Signing}
 
 -- ---- one after the other
 
-pub signing-none : (text : Bytes) (rows : Words) → Laid rows → Signing text rows 0 rows
-signing-none text rows laid = record { beside = beside_none rows laid; signs = λ m h. absurd (omega arith) }
+module _ (text : Bytes) (rows after : Words) (m : ℕ) (s : Signing text rows m after) (here : m < member_count_of rows) where
+  -- the sign of member m is put
+  pub signing-on : {sign : ℕ} → sign ≡ hash_from 0 (member_at text after (obj_key m)).name → {later : Words} → SignPut after (obj_key m) sign later → Signing text rows (m + 1) later
+  signing-on {sign = sign} e {later = later} p = record { beside = beside-on s.beside p.beside; signs = each }
+    where
+      last : (n : ObjKey) → n.0 ≡ m → sign_at later n ≡ hash_from 0 (member_at text rows n).name
+      last n q = subst (λ (k : ObjKey). sign_at later k ≡ hash_from 0 (member_at text rows k).name) (sym (ap obj_key q))
+          (p.here ∙ e ∙ ap (λ x. hash_from 0 x.name) (beside-member s.beside text (obj_key m) here))
 
-module _ (text : Bytes) (rows after : Words) (m : ℕ) (s : Signing text rows m after) where
-  pub signing-room : signs_at rows + member_count_of rows + element_count rows ≤ length rows → signs_at after + member_count_of after + element_count after ≤ length after
-  signing-room room = rw (s.beside.long, s.beside.members, s.beside.elements) room
-
-  module _ (here : m < member_count_of rows) where
-    pub signing-here : m < member_count_of after
-    signing-here = rw s.beside.members here
-
-    -- the sign of member m is put
-    pub signing-on : {sign : ℕ} → sign ≡ hash_from 0 (member_at text after (obj_key m)).name → {later : Words} → SignPut after (obj_key m) sign later → Signing text rows (m + 1) later
-    signing-on {sign = sign} e {later = later} p = record { beside = beside-on s.beside p.beside; signs = each }
-      where
-        last : (n : ObjKey) → n.0 ≡ m → sign_at later n ≡ hash_from 0 (member_at text rows n).name
-        last n q = subst (λ (k : ObjKey). sign_at later k ≡ hash_from 0 (member_at text rows k).name) (sym (ap obj_key q))
-            (p.here ∙ e ∙ ap (λ x. hash_from 0 x.name) (beside-member s.beside text (obj_key m) here))
-
-        each : (n : ObjKey) → n.0 < m + 1 → sign_at later n ≡ hash_from 0 (member_at text rows n).name
-        each n h =
-            cases (eqb n.0 m)
-            (λ q. last n (eqb-true n.0 m q))
-            (λ q. let ne = eqb-false n.0 m q in p.elsewhere n ne ∙ s.signs n (omega arith))
-
-pub signing_end : (text : Bytes) (rows after : Words) {m n : ℕ} → n ≡ member_count_of rows → m ≤ n → n ≤ m → Signing text rows m after → Signing text rows (member_count_of rows) after
-signing_end text rows after {m = m} e l h s = let z : member_count_of rows ≡ m = omega arith in rw z s
+      each : (n : ObjKey) → n.0 < m + 1 → sign_at later n ≡ hash_from 0 (member_at text rows n).name
+      each n h =
+          cases (eqb n.0 m)
+          (λ q. last n (eqb-true n.0 m q))
+          (λ q. let ne = eqb-false n.0 m q in p.elsewhere n ne ∙ s.signs n (omega arith))
 
 -- ---- all of them
 

@@ -1,9 +1,6 @@
 -- `selection::find` meets its contract. The invariant: what the whole list gives, the members from i on give.
-use Rattle.selection.proofs.FindLaws.{find-start, find-here, find-next, find-end, find-skip}
+use Rattle.selection.proofs.FindLaws.{find-here, find-next, find-end, find-skip}
 use Rattle.selection.proofs.find.Goals as goal
-
-pub loop-i-init : goal.loop-i-init
-loop-i-init c = find-start _ _ _ _ _ _
 
 pub loop-i-preserved-then-all-i : goal.loop-i-preserved-then-all-i
 loop-i-preserved-then-all-i c =

@@ -35,10 +35,6 @@ put_name-requires c =
     let fits = new-fits c.args.text.now c.args.rows.now c.args.names.now c.args.n c.args.hits.now c.requires.held.0 c.args.w c.requires.held.1 c.in-Err.i placed c.in-Err.is in
     (omega (arith, new-place c.args.text.now c.args.rows.now c.args.names.now c.args.n c.args.hits.now c.requires.held.0 c.args.w c.requires.held.1 c.in-Err.i placed c.in-Err.is), omega (arith, fits, c.requires.held.0.long))
 
-pub bounds-hits-m : goal.bounds-hits-m
-bounds-hits-m c =
-    (c.requires.held.0.room c.args.w.member.0 c.requires.held.1).inside
-
 pub returns-in-Ok : goal.returns-in-Ok
 returns-in-Ok c =
     let placed = placed_of c.args.text.now c.args.rows.now (take c.args.n c.args.names.now) c.place_of.result c.place_of.ensures c.args.w.member.0 c.id_of-id.ensures in

@@ -11,14 +11,6 @@ loop-place-init c =
     let none = carries-none c.args.text.now c.args.rows.now c.args.walk.now (stretch-none c.args.s.row c.args.s.first) c.args.names.now c.args.n c.args.hits.now in
     (c.requires.held.0, none, refl, refl)
 
-pub overflow_add-w : goal.overflow_add-w
-overflow_add-w c =
-    omega (arith, c.requires.held.1, c.loop-place-test.true, c.requires.library.laid.members)
-
-pub meet-end-requires : goal.meet-end-requires
-meet-end-requires c =
-    record { library = c.requires.library; held = (c.loop-place.invariant.0, omega (arith, c.requires.held.1, c.loop-place-test.true)) }
-
 pub loop-place-preserved : goal.loop-place-preserved
 loop-place-preserved c =
     let met = stretch-more c.args.s.row c.args.s.first c.loop-place.place in

@@ -5,25 +5,8 @@ use native.Mathlib.Omega.{arith}
 use lib.ListN.{get_or}
 use Rattle.obj.specs.Ids.{id_meant}
 use Rattle.first_hits.proofs.KeyMembers.{packaged-at}
-use Rattle.first_hits.proofs.SearchLaws.{between_start, between-less, between-greater, between-equal, between-end, id-read, name-key, halfway}
+use Rattle.first_hits.proofs.SearchLaws.{between-less, between-greater, between-equal, between-end, id-read, name-key, halfway}
 use Rattle.first_hits.proofs.names.place_of.Goals as goal
-
-pub loop-low-init : goal.loop-low-init
-loop-low-init c =
-    between_start c.args.text.now c.args.rows.now c.args.names.now c.args.n c.requires.2 c.requires.1 (id_meant c.args.text.now c.args.id)
-
-pub overflow_add-mid : goal.overflow_add-mid
-overflow_add-mid c = omega (arith, c.loop-low.invariant.order.1, c.requires.2)
-
-pub offset_bounds-names-mid : goal.offset_bounds-names-mid
-offset_bounds-names-mid c =
-    let half = halfway c.loop-low.low c.loop-low.high c.loop-low-test.true in
-    omega (arith, c.loop-low.invariant.order.1, c.requires.2, half.1)
-
-pub bounds-names-mid : goal.bounds-names-mid
-bounds-names-mid c =
-    let half = halfway c.loop-low.low c.loop-low.high c.loop-low-test.true in
-    omega (arith, c.loop-low.invariant.order.1, c.requires.2, half.1)
 
 pub id_of-other-requires : goal.id_of-other-requires
 id_of-other-requires c =
@@ -31,16 +14,6 @@ id_of-other-requires c =
     let half = halfway c.loop-low.low c.loop-low.high c.loop-low-test.true in
     let key = name-key c.args.text.now c.args.rows.now c.args.names.now c.args.n c.requires.2 c.requires.1 mid (omega (arith, c.loop-low.invariant.order.1, half.1)) in
     packaged-at c.args.text.now c.args.rows.now c.requires.0 (get_or c.args.names.now mid 0) key
-
-pub overflow_add-low : goal.overflow_add-low
-overflow_add-low c =
-    let half = halfway c.loop-low.low c.loop-low.high c.loop-low-test.true in
-    omega (arith, c.loop-low.invariant.order.1, c.requires.2, half.1)
-
-pub loop-low-smaller-in-Less : goal.loop-low-smaller-in-Less
-loop-low-smaller-in-Less c =
-    let half = halfway c.loop-low.low c.loop-low.high c.loop-low-test.true in
-    omega (arith, half.0, half.1)
 
 pub loop-low-preserved-in-Less : goal.loop-low-preserved-in-Less
 loop-low-preserved-in-Less c =
@@ -57,11 +30,6 @@ returns-in-Equal c =
     let inside : mid < c.args.n = omega (arith, c.loop-low.invariant.order.1, half.1) in
     let read = c.id_of-other.ensures ∙ id-read c.args.text.now c.args.rows.now (get_or c.args.names.now mid 0) in
     between-equal c.args.text.now c.args.rows.now c.args.names.now c.args.n c.requires.2 c.requires.1 (id_meant c.args.text.now c.args.id) mid inside (id_meant c.args.text.now c.id_of-other.result) read c.order_ids.result c.order_ids.ensures c.in-Equal.is
-
-pub loop-low-smaller : goal.loop-low-smaller
-loop-low-smaller c =
-    let half = halfway c.loop-low.low c.loop-low.high c.loop-low-test.true in
-    omega (arith, half.0, half.1)
 
 pub loop-low-preserved : goal.loop-low-preserved
 loop-low-preserved c =

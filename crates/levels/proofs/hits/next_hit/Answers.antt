@@ -3,11 +3,8 @@ use native.Mathlib.Omega.{arith}
 use Rattle.walk_rows.proofs.StateLaws.{rows-most}
 use Rattle.walk_rows.proofs.LowerLaws.{row_in}
 use Rattle.levels.specs.Hits.{Tells}
-use Rattle.levels.proofs.HitLaws.{type-read, looked-start, looked-on, looked-end, hit-found}
+use Rattle.levels.proofs.HitLaws.{type-read, looked-on, looked-end, hit-found}
 use Rattle.levels.proofs.hits.next_hit.Goals as goal
-
-pub loop-row-init : goal.loop-row-init
-loop-row-init c = looked-start _ _ _ _ _ _ c.requires.walked.1
 
 pub overflow_cast-row-end : goal.overflow_cast-row-end
 overflow_cast-row-end c =

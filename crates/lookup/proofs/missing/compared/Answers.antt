@@ -1,10 +1,6 @@
 -- `lookup::missing::compared` meets its contract.
-use Rattle.lookup.proofs.MissingLaws.{typed-as, compared_same, compared-other}
+use Rattle.lookup.proofs.MissingLaws.{compared_same, compared-other}
 use Rattle.lookup.proofs.missing.compared.Goals as goal
-
-pub identical-requires : goal.identical-requires
-identical-requires c =
-    record { library = c.requires.library; x_bound = (typed-as _ _ c.member_type-x.ensures c.requires.m_bound.0, typed-as _ _ c.member_type-y.ensures c.requires.m_bound.1, c.requires.m_bound.2); marks_value = c.requires.marks_value }
 
 pub returns-then-identical : goal.returns-then-identical
 returns-then-identical c =

@@ -1,11 +1,6 @@
 -- `lookup::missing::unmet` meets its contract.
-use mathlib.Core.Path.{sym, ◌∙◌}
 use Rattle.lookup.proofs.MissingLaws.{own-packaged, selected-unmet}
 use Rattle.lookup.proofs.missing.unmet.Goals as goal
-
-pub unmet_there-requires : goal.unmet_there-requires
-unmet_there-requires c =
-    record { library = c.requires.library; t_bound = c.requires.t_bound; t_value = (sym c.iface_under.ensures ∙ c.if-iface_under.true, c.requires.mark_words_in_bounds.0); marks_value = c.requires.marks_value }
 
 pub lookup_field_or_method-found-requires : goal.lookup_field_or_method-found-requires
 lookup_field_or_method-found-requires c =

@@ -1,16 +1,12 @@
 -- `embed_fields`: the rows for the first j fields are entered.
 use Rattle.std.proofs.Common.{rules}
 use mathlib.Core.Path.{refl}
-use native.Mathlib.Omega.{arith}
 use Rattle.walk_rows.proofs.LowerLaws.{below_on, fields-start, fields-on, fields-end}
 use Rattle.walk_rows.proofs.lower.embed_fields.Goals as goal
 
 pub loop-j-init : goal.loop-j-init
 loop-j-init c =
     (fields-start c.args.text.now c.args.rows.now c.args.up c.args.first c.requires.walked.0, refl)
-
-pub overflow_add-first : goal.overflow_add-first
-overflow_add-first c = omega arith
 
 pub embed_field-end-requires : goal.embed_field-end-requires
 embed_field-end-requires c =
@@ -19,9 +15,6 @@ embed_field-end-requires c =
 pub loop-j-preserved : goal.loop-j-preserved
 loop-j-preserved c =
     (fields-on c.args.text.now c.args.rows.now c.args.up c.args.first c.loop-j.j c.loop-j.invariant.0 c.embed_field-end.ensures, search rules)
-
-pub shape_of-walk : goal.shape_of-walk
-shape_of-walk c = c.loop-j.invariant.1
 
 pub returns : goal.returns
 returns c =

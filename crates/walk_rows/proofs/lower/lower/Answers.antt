@@ -23,9 +23,6 @@ pub loop-i-preserved : goal.loop-i-preserved
 loop-i-preserved c =
     (level-on c.args.text.now c.args.rows.now c.args.walk.now c.args.n c.args.lo c.loop-i.i c.loop-i.auto.i c.loop-i-test.true c.loop-i.invariant.0 c.embed-end.ensures, search rules)
 
-pub shape_of-walk : goal.shape_of-walk
-shape_of-walk c = c.loop-i.invariant.1
-
 pub returns : goal.returns
 returns c =
     level-end c.args.text.now c.args.rows.now c.args.walk.now c.args.n c.args.lo c.loop-i.i c.loop-i.invariant.0 (c.loop-i.auto.i-end c.requires.walked.1) c.loop-i-test.false
