@@ -9,12 +9,6 @@ use Rattle.line_forms.specs.Forms.{form_meant}
 use Rattle.objects.specs.declared.refusals.Reason.{Reason}
 use Rattle.lines.proofs.adding.add_line.Goals as goal
 
-pub parse-requires : goal.parse-requires
-parse-requires c = c.requires.0
-
-pub add_package-requires : goal.add_package-requires
-add_package-requires c = c.requires.1
-
 pub add_type-requires : goal.add_type-requires
 add_type-requires c =
     (c.requires.1, type-space c.args.s.now c.args.rows.now (fields_left c.args.s.now c.args.c) _ c.requires.1 c.requires.0 c.requires.2 c.requires.3 c.parse.ensures.result_value (c.in-Some-Type.is ∙ ap Some c.in-Some-Type.field-0-is))

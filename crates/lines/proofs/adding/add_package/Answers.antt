@@ -1,13 +1,9 @@
 -- `lines::adding::add_package` meets its contract.
 use Rattle.lines.proofs.AddLaws.{package-late, package-full, package-added}
-use native.Mathlib.Omega.{arith}
 use Rattle.lines.proofs.adding.add_package.Goals as goal
 
 pub returns-then-type_count-gt0 : goal.returns-then-type_count-gt0
 returns-then-type_count-gt0 c = λ text. package-late _ _ _ _ c.requires c.type_count.ensures text c.if-type_count-gt0.true
-
-pub put_package-requires : goal.put_package-requires
-put_package-requires c = (c.requires, omega (arith, c.package_count.ensures, c.if-package_count-ge-PACKAGES.false))
 
 pub returns : goal.returns
 returns c =

@@ -1,16 +1,9 @@
 -- `lines::adding::add_tuple` meets its contract.
 use Rattle.lines.proofs.TupleLaws.{tuple-members, new-tuple, tuple-wrong, tuple-full, tuple-added}
 use mathlib.Core.Path.{ap}
-use Prim.Native.Nat.{◌<◌}
 use native.Mathlib.Omega.{arith}
-use Rattle.objects.specs.Bounds.{max_types, members_at}
-use Rattle.objects.specs.Rows.{type_count}
+use Rattle.objects.specs.Bounds.{members_at}
 use Rattle.lines.proofs.adding.add_tuple.Goals as goal
-
-pub put_type-requires : goal.put_type-requires
-put_type-requires c =
-    let few : type_count c.args.rows.now < max_types = omega (arith, c.type_count.ensures, c.if-type_count-ge-TYPES.false) in
-    (c.requires.0, few, c.requires.3 few)
 
 pub put_elements-requires : goal.put_elements-requires
 put_elements-requires c = (

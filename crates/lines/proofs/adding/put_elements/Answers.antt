@@ -1,16 +1,10 @@
 -- `lines::adding::put_elements` meets its contract.
-use mathlib.Core.Path.{refl, sym, ap, ◌∙◌}
+use mathlib.Core.Path.{sym, ap, ◌∙◌}
 use lib.ListN.{length}
 use native.Mathlib.Omega.{arith}
 use Rattle.objects.specs.Bounds.{members_at}
 use Rattle.lines.proofs.TupleLaws.{all_done, all-wrong, all_more, elements-done, elements-end, elements-more, element-members, still-tuple, turn, turn_end, element-ready}
 use Rattle.lines.proofs.adding.put_elements.Goals as goal
-
-pub loop-d-init : goal.loop-d-init
-loop-d-init c = (c.requires.0, c.requires.1, refl, refl, refl, c.requires.3, refl)
-
-pub shape_of-rows : goal.shape_of-rows
-shape_of-rows c = c.loop-d.invariant.4
 
 pub returns : goal.returns
 returns c =
@@ -35,9 +29,6 @@ loop-d-preserved c =
       omega (arith, shorter, element-members c.args.s.now _ _ _ c.put_element.ensures.holds, c.put_element.ensures.rows_after, c.put_element.auto.rows, ap members_at c.put_element.auto.rows, c.loop-d.invariant.5),
       c.loop-d.invariant.6 ∙ all_more _ _ _ c.small.ensures c.in-Some.is,
     )
-
-pub shape_of-rows-in_default : goal.shape_of-rows-in_default
-shape_of-rows-in_default c = c.loop-d.invariant.4
 
 pub returns-in_default : goal.returns-in_default
 returns-in_default c =

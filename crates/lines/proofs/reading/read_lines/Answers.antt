@@ -12,19 +12,10 @@ use Rattle.objects.specs.declared.refusals.Reason.{Reason}
 use Rattle.objects.specs.declared.refusals.Refusal.{Refusal}
 use Rattle.lines.proofs.reading.read_lines.Goals as goal
 
-pub loop-from-init : goal.loop-from-init
-loop-from-init c = (refl, c.requires.2, c.requires.3, c.requires.1, c.requires.4, refl)
-
-pub shape_of-rows-then-at-end : goal.shape_of-rows-then-at-end
-shape_of-rows-then-at-end c = c.loop-from.invariant.5
-
 pub returns-then-at-end : goal.returns-then-at-end
 unfolding read_meant
 returns-then-at-end c =
     record { text_value = c.loop-from.invariant.0 ∙ text-ends c.args.text.now c.loop-from.at c.loop-from.line (table_of c.args.text.now c.loop-from.rows) c.loop-from.invariant.3 c.line_end-end.ensures c.if-end-text.true c.if-at-end.true; laid = c.loop-from.invariant.1 }
-
-pub shape_of-rows-then-end-text : goal.shape_of-rows-then-end-text
-shape_of-rows-then-end-text c = c.loop-from.invariant.5
 
 pub returns-then-end-text : goal.returns-then-end-text
 unfolding read_meant
@@ -45,9 +36,6 @@ returns-in_err-map_err c =
 pub overflow_add-at : goal.overflow_add-at
 overflow_add-at c =
     omega (arith, end-within c.args.text.now c.loop-from.at c.loop-from.line (table_of c.args.text.now c.loop-from.rows) c.loop-from.invariant.3 c.line_end-end.ensures, c.requires.0)
-
-pub overflow_add-line : goal.overflow_add-line
-overflow_add-line c = omega (arith, c.loop-from.invariant.4, c.loop-from.invariant.3, c.requires.0)
 
 pub loop-from-smaller : goal.loop-from-smaller
 loop-from-smaller c =
