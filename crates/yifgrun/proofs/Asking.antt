@@ -9,16 +9,18 @@ use lib.Seq.{length-take-le, drop_at}
 use lib.IntN.{ℤ}
 use borrow.Author.Tests.{lt-ltb, le-ltb}
 use borrow.Rule.Slice.PartMut.{mid_of, put_mid, Post-is, mid_len, take_put}
+use Rattle.std.specs.Prelude.{Result, Ok, Err}
+use Rattle.objects.specs.declared.refusals.Refusal.{Refusal}
+use Rattle.objects.specs.Refusals.{reason_number}
 use Rattle.objects.specs.Bounds.{work_words}
 use Rattle.objects.specs.Lists.{Bytes}
 use Rattle.objects.specs.Rows.{Words, table_of}
 use Rattle.objects.specs.Table.{Table}
 use Rattle.rules.specs.Load.{Loaded, refused, loaded, load}
-use Rattle.rules.specs.Asked.{Outcome, refuse, fitted, replied, on_table, outcome_within, number_of, written, Asked, given, asked_within, asked}
+use Rattle.rules.specs.Asked.{Outcome, refuse, refusal, fitted, replied, on_table, outcome_within, number_of, written, Asked, given, asked_within, asked}
 use Rattle.rules.specs.AskedAll.{replied_all, outcome_all_within, asked_all_within, asked_all}
-use Rattle.table.specs.declared.Loading.{Loading}
 use Rattle.table.specs.Loading.{loading_meant, Loads}
-use Rattle.reply.specs.declared.Done.{Done}
+use Rattle.reply.specs.declared.Unsaid.{Unsaid}
 use Rattle.reply.specs.Done.{number_read, Fits}
 use Rattle.replies.specs.Replies.{said_of, Ends}
 use Rattle.edits.specs.Tidying.{says_tidied, tidy_outcome, tidied_call}
@@ -26,26 +28,20 @@ use Rattle.yifgrun.specs.Gives.{Cleared, Gives, asked_by}
 
 -- ---- refused by the loader, or asked
 
-module _ (text before : Bytes) (rows : Words) (said : Table → Outcome) {l : Loading} (h : Loads text l rows) where
-  pub table-refused : {n line : ℕ} → l ≡ Loading.Refused n line → Ends (on_table said (load text)) (Done.Refused n line) before before
+module _ (text before : Bytes) (rows : Words) (said : Table → Outcome) {l : Result (Unit {0}) Refusal} (h : Loads text l rows) where
+  pub table-refused : {x : Refusal} → l ≡ Err x → Ends (on_table said (load text)) (Err (Unsaid.Refused x)) before before
   unfolding on_table loading_meant number_read number_of written Fits
-  table-refused {n} {line} e =
-      let is : on_table said (load text) ≡ refuse n line = ap (on_table said) (sym h.says ∙ ap (loading_meant text rows) e) in
+  table-refused {x} e =
+      let is : on_table said (load text) ≡ refuse (reason_number x.reason) x.line = ap (on_table said) (sym h.says ∙ ap (loading_meant text rows) e) in
       record { number = rw is; answer = rw is; holds = λ k. tt }
 
-  pub table-asked : {after : Bytes} {r : Done} → l ≡ Loading.Loaded → Ends (said (table_of text rows)) r before after → Ends (on_table said (load text)) r before after
+  pub table-asked : {after : Bytes} {r : Result ℕ Unsaid} → l ≡ Ok tt → Ends (said (table_of text rows)) r before after → Ends (on_table said (load text)) r before after
   unfolding on_table loading_meant
   table-asked {after} {r} e d = subst (λ o. Ends o r before after) (sym (ap (on_table said) (sym h.says ∙ ap (loading_meant text rows) e))) d
 
 -- the same table in other rows
-pub ends_on : (said : Table → Outcome) {T U : Table} {r : Done} {before after : Bytes} → T ≡ U → Ends (said T) r before after → Ends (said U) r before after
+pub ends_on : (said : Table → Outcome) {T U : Table} {r : Result ℕ Unsaid} {before after : Bytes} → T ≡ U → Ends (said T) r before after → Ends (said U) r before after
 ends_on said {r = r} {before = before} {after = after} e d = subst (λ T. Ends (said T) r before after) e d
-
--- ---- the number
-
-pub fits-first : Fits (Done.Refused 1 0)
-unfolding Fits
-fits-first = tt
 
 -- ---- one question, or many
 
@@ -76,31 +72,30 @@ module _ (said : Table → Outcome) (text before : Bytes) (work : Words) (r : �
   gives = Gives (given (fitted (length before) (on_table said (load text))) before work)
 
   -- 1
-  few : length work < work_words → r ≡ number_read (Done.Refused 1 0) → gives r before work
-  unfolding number_read
+  few : length work < work_words → r ≡ refusal 1 0 → gives r before work
   few h e = rw (lt-ltb (length work) work_words h) (record { number = e; answer = refl; work = refl })
 
   -- the rest: what was decided, with the work area clear
-  enough : work_words ≤ length work → {d : Done} {after : Bytes} {clear last : Words} → Ends (on_table said (load text)) d before after → r ≡ number_read d
+  enough : work_words ≤ length work → {d : Result ℕ Unsaid} {after : Bytes} {clear last : Words} → Ends (on_table said (load text)) d before after → r ≡ number_read d
       → clear ≡ replicate (length work) 0 → last ≡ clear → gives r after last
   enough h p e z k = rw (le-ltb (length work) work_words h) (record { number = e ∙ p.number; answer = p.answer; work = k ∙ z })
 
 module _ (all : Bool) (text question before : Bytes) (work : Words) (r : ℤ) where
-  pub few_words : length work < work_words → r ≡ number_read (Done.Refused 1 0) → Gives (asked_by all text question before work) r before work
+  pub few_words : length work < work_words → r ≡ refusal 1 0 → Gives (asked_by all text question before work) r before work
   unfolding asked_by
   few_words = few (said_of all question) text before work r
 
-  pub enough-words : work_words ≤ length work → {d : Done} {after : Bytes} {clear last : Words} → Ends (on_table (said_of all question) (load text)) d before after → r ≡ number_read d
+  pub enough-words : work_words ≤ length work → {d : Result ℕ Unsaid} {after : Bytes} {clear last : Words} → Ends (on_table (said_of all question) (load text)) d before after → r ≡ number_read d
       → clear ≡ replicate (length work) 0 → last ≡ clear → Gives (asked_by all text question before work) r after last
   unfolding asked_by
   enough-words h p e z k = enough (said_of all question) text before work r h p e z k
 
 module _ (text before : Bytes) (work : Words) (r : ℤ) where
-  pub few-tidied : length work < work_words → r ≡ number_read (Done.Refused 1 0) → Gives (tidied_call text before work) r before work
+  pub few-tidied : length work < work_words → r ≡ refusal 1 0 → Gives (tidied_call text before work) r before work
   unfolding tidied_call tidy_outcome
   few-tidied = few says_tidied text before work r
 
-  pub enough-tidied : work_words ≤ length work → {d : Done} {after : Bytes} {clear : Words} → Ends (on_table says_tidied (load text)) d before after → r ≡ number_read d
+  pub enough-tidied : work_words ≤ length work → {d : Result ℕ Unsaid} {after : Bytes} {clear : Words} → Ends (on_table says_tidied (load text)) d before after → r ≡ number_read d
       → clear ≡ replicate (length work) 0 → Gives (tidied_call text before work) r after clear
   unfolding tidied_call tidy_outcome
   enough-tidied h p e z = enough says_tidied text before work r h p e z refl

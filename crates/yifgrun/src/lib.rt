@@ -4,6 +4,7 @@
 
 ghost use Rattle.std.specs.Prelude.{◌≡◌, ◌≤◌, length, replicate};
 ghost use Rattle.objects.specs.Bounds.{all_words, room_for, work_words};
+ghost use Rattle.objects.specs.Refusals.{reason_number};
 ghost use Rattle.rules.specs.Asked.{on_table, refusal, asked};
 ghost use Rattle.rules.specs.AskedAll.{asked_all};
 ghost use Rattle.edits.specs.Tidying.{tidied_call};
@@ -20,11 +21,12 @@ use objects::bounds::{
     ALL_WORDS, LONG_TEXT, LONG_WORDS, MEDIAN_TEXT, MEDIAN_WORDS, MIDDLE_TEXT, MIDDLE_WORDS,
     REFUSAL_UNIT, SMALL_TEXT, SMALL_WORDS, WORK_WORDS,
 };
+use objects::refusals::{Reason, Refusal};
 use pair_marks::marks::clear;
 use replies::lend::replied;
-use reply::Done;
+use reply::Unsaid;
 use signs::sign_members;
-use table::{Loading, load};
+use table::load;
 
 pub mod tidying; // a table loaded and written out tidy
 
@@ -39,6 +41,12 @@ const PATCH: u32 = 0;
 const VERSION_UNIT: u32 = 256;
 
 const VERSION: u32 = (MAJOR * VERSION_UNIT + MINOR) * VERSION_UNIT + PATCH;
+
+// 1
+const WORK_SHORT: Refusal = Refusal {
+    reason: Reason::WorkShort,
+    line: 0,
+};
 
 // Members are signed where many names are to be looked for.
 fn sign_for_many(table: &[u8], rows: &mut [u32], all: bool)
@@ -60,18 +68,14 @@ fn decide_in(
     answer: &mut [u8],
     work: &mut [u32],
     all: bool,
-) -> Done
+) -> Result<usize, Unsaid>
     requires { Cleared work.old × (rows.old ≡ replicate (length rows.old) 0) × (room_for (length table.now) ≤ length rows.old) }
     ensures ends { Ends (on_table (said_of all question.now) (load table.now)) result answer.old answer.new }
     ensures work_unchanged { work.new ≡ work.old }
 {
-    match load(table, rows) {
-        Loading::Refused(n, line) => Done::Refused(n, line),
-        Loading::Loaded => {
-            sign_for_many(table, rows, all);
-            replied(table, rows, work, question, answer, all)
-        }
-    }
+    load(table, rows)?;
+    sign_for_many(table, rows, all);
+    replied(table, rows, work, question, answer, all)
 }
 
 // The same with rows of its own, whose words are all cleared: as few as the length of the table allows. The function of each size has a frame of its own.
@@ -81,7 +85,7 @@ fn decide<const WORDS: usize>(
     answer: &mut [u8],
     work: &mut [u32],
     all: bool,
-) -> Done
+) -> Result<usize, Unsaid>
     requires { Cleared work.old × (room_for (length table.now) ≤ WORDS) × (WORDS ≤ all_words) }
     ensures ends { Ends (on_table (said_of all question.now) (load table.now)) result answer.old answer.new }
     ensures work_unchanged { work.new ≡ work.old }
@@ -91,21 +95,26 @@ fn decide<const WORDS: usize>(
 }
 
 // "minus (refusal × 65,536 + line)"
-fn refusal(n: u32, line: u32) -> i64
-    ensures { result ≡ refusal n line }
+fn refusal(r: Refusal) -> i64
+    ensures { result ≡ refusal (reason_number r.reason) r.line }
 {
-    -((u64::from(n) * REFUSAL_UNIT + u64::from(line)) as i64)
+    -((u64::from(r.reason.number()) * REFUSAL_UNIT + u64::from(r.line)) as i64)
 }
 
 // "the answer's length", or the number of the refusal
-fn number(d: Done) -> i64
+fn number(d: Result<usize, Unsaid>) -> i64
     requires { Fits d }
     ensures { result ≡ number_read d }
 {
     match d {
-        Done::Refused(n, line) => refusal(n, line),
-        Done::Said(n) => n as i64,
-        Done::Long(_) => refusal(13, 0),
+        Ok(n) => n as i64,
+        Err(unsaid) => match unsaid {
+            Unsaid::Refused(r) => refusal(r),
+            Unsaid::Long(_) => refusal(Refusal {
+                reason: Reason::AnswerShort,
+                line: 0,
+            }),
+        },
     }
 }
 
@@ -115,7 +124,7 @@ fn call(table: &[u8], question: &[u8], answer: &mut [u8], work: &mut [u32], all:
     ensures { Gives (asked_by all table.now question.now answer.old work.old) result answer.new work.new }
 {
     if work.len() < WORK_WORDS {
-        return number(Done::Refused(1, 0));
+        return refusal(WORK_SHORT);
     }
     if work.len() > WORK_WORDS {
         clear(&mut work[WORK_WORDS..]);
@@ -157,7 +166,7 @@ pub fn yifgrun_tidy(table: &[u8], output: &mut [u8], work: &mut [u32]) -> i64
     ensures { Gives (tidied_call table.now output.old work.old) result output.new work.new }
 {
     if work.len() < WORK_WORDS {
-        return number(Done::Refused(1, 0));
+        return refusal(WORK_SHORT);
     }
     clear(work);
     if table.len() <= LONG_TEXT {

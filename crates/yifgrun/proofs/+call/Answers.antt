@@ -4,14 +4,11 @@ use lib.ListN.{length-take}
 use Rattle.objects.specs.Bounds.{work_words}
 use borrow.Rule.Slice.PartMut.{same_len_mid}
 use Rattle.yifgrun.proofs.Signed.{back}
-use Rattle.yifgrun.proofs.Asking.{fits-first, few_words, enough-words, words-cleared, first-words}
+use Rattle.yifgrun.proofs.Asking.{few_words, enough-words, words-cleared, first-words}
 use Rattle.yifgrun.proofs.+call.Goals as goal
 
-pub number-requires : goal.number-requires
-number-requires t c = fits-first
-
 pub returns-then-work-lt-WORK_WORDS : goal.returns-then-work-lt-WORK_WORDS
-returns-then-work-lt-WORK_WORDS t c = few_words _ _ _ _ _ _ c.if-work-lt-WORK_WORDS.true (back _ c.number.type_inv ∙ c.number.ensures)
+returns-then-work-lt-WORK_WORDS t c = few_words _ _ _ _ _ _ c.if-work-lt-WORK_WORDS.true (back _ c.refusal.type_inv ∙ c.refusal.ensures)
 
 pub slice_bounds-call-end-then-work-gt-WORK_WORDS : goal.slice_bounds-call-end-then-work-gt-WORK_WORDS
 slice_bounds-call-end-then-work-gt-WORK_WORDS t c =
@@ -28,13 +25,13 @@ returns-then-work-gt-WORK_WORDS t c =
 pub decide-requires : goal.decide-requires
 decide-requires t c = (words-cleared c.args.work.now c.if-work-lt-WORK_WORDS.false c.clear-2.auto.marks c.clear-2.ensures, omega (arith, c.if-table-le-SMALL_TEXT.true), omega arith)
 
-pub number-requires-then-table-le-SMALL_TEXT : goal.number-requires-then-table-le-SMALL_TEXT
-number-requires-then-table-le-SMALL_TEXT t c = c.decide.ensures.ends.holds (omega arith)
+pub number-requires : goal.number-requires
+number-requires t c = c.decide.ensures.ends.holds (omega arith)
 
 pub returns-then-table-le-SMALL_TEXT : goal.returns-then-table-le-SMALL_TEXT
 returns-then-table-le-SMALL_TEXT t c =
     enough-words _ _ _ _ c.args.work.now _ c.if-work-lt-WORK_WORDS.false c.decide.ensures.ends
-    (back _ c.number-then-table-le-SMALL_TEXT.type_inv ∙ c.number-then-table-le-SMALL_TEXT.ensures) c.clear-2.ensures c.decide.ensures.work_unchanged
+    (back _ c.number.type_inv ∙ c.number.ensures) c.clear-2.ensures c.decide.ensures.work_unchanged
 
 pub decide-requires-then-table-le-MEDIAN_TEXT : goal.decide-requires-then-table-le-MEDIAN_TEXT
 decide-requires-then-table-le-MEDIAN_TEXT t c = (words-cleared c.args.work.now c.if-work-lt-WORK_WORDS.false c.clear-2.auto.marks c.clear-2.ensures, omega (arith, c.if-table-le-MEDIAN_TEXT.true), omega arith)

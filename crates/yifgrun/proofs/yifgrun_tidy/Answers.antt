@@ -2,21 +2,18 @@
 use mathlib.Core.Path.{◌∙◌}
 use native.Mathlib.Omega.{arith}
 use Rattle.yifgrun.proofs.Signed.{back}
-use Rattle.yifgrun.proofs.Asking.{fits-first, few-tidied, enough-tidied}
+use Rattle.yifgrun.proofs.Asking.{few-tidied, enough-tidied}
 use Rattle.yifgrun.proofs.yifgrun_tidy.Goals as goal
 
-pub number-requires : goal.number-requires
-number-requires c = fits-first
-
 pub returns-then-work-lt-WORK_WORDS : goal.returns-then-work-lt-WORK_WORDS
-returns-then-work-lt-WORK_WORDS c = few-tidied _ _ _ _ (c.if-work-lt-WORK_WORDS.true) (back _ (c.number.type_inv) ∙ c.number.ensures)
+returns-then-work-lt-WORK_WORDS c = few-tidied _ _ _ _ (c.if-work-lt-WORK_WORDS.true) (back _ c.refusal.type_inv ∙ c.refusal.ensures)
 
-pub number-requires-then-table-le-LONG_TEXT : goal.number-requires-then-table-le-LONG_TEXT
-number-requires-then-table-le-LONG_TEXT c = c.tidy_with.ensures.holds (omega arith)
+pub number-requires : goal.number-requires
+number-requires c = c.tidy_with.ensures.holds (omega arith)
 
 pub returns-then-table-le-LONG_TEXT : goal.returns-then-table-le-LONG_TEXT
 returns-then-table-le-LONG_TEXT c =
-    let told = back _ c.number-then-table-le-LONG_TEXT.type_inv ∙ c.number-then-table-le-LONG_TEXT.ensures in
+    let told = back _ c.number.type_inv ∙ c.number.ensures in
     enough-tidied _ _ c.args.work.now _ c.if-work-lt-WORK_WORDS.false c.tidy_with.ensures told c.clear.ensures
 
 pub number-requires-2 : goal.number-requires-2
