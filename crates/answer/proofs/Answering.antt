@@ -36,9 +36,9 @@ use Rattle.selection.specs.declared.Missing.{Missing}
 use Rattle.selection.specs.declared.Selection.{Selection}
 use Rattle.selection.specs.Results.{name_meant, result_meant, second_of, missing_meant, Selects}
 use Rattle.multiples.specs.Records.{Record}
-use Rattle.walk_rows.specs.State.{Wide}
 use Rattle.levels.specs.Hits.{Scratch}
-use Rattle.first_hits.specs.Hits.{FirstHit, Rooms, Held}
+use Rattle.first_hits.specs.declared.FirstHit.{FirstHit}
+use Rattle.first_hits.specs.Hits.{Rooms, Held}
 use Rattle.method_set.specs.Sets.{sel_at, sel_numbers, SetHeld}
 use Rattle.reply.specs.declared.Unsaid.{Unsaid}
 use Rattle.reply.specs.Done.{Does, due}
@@ -90,11 +90,11 @@ selects-behind {text} {rows} {s} {x} xs {ys} h p = subst (λ z. Selects text row
 module _ {rows : Words} {walk : List Record} {words : Words} (h : Searches rows walk words) where
   -- N
   pub scratch-all : Scratch rows walk words
-  scratch-all = let w = h.walks in let l = h.long in record { room = w.room; most = w.most; wide = w.wide; long = omega arith }
+  scratch-all = let w = h.walks in let l = h.long in record { room = w.room; most = w.most; long = omega arith }
 
   -- S, with the places behind two words that are left free
   pub scratch-behind : Scratch rows walk (drop 2 words)
-  scratch-behind = let w = h.walks in let l = h.long in record { room = w.room; most = w.most; wide = w.wide; long = rw (length-drop 2 words) (omega arith) }
+  scratch-behind = let w = h.walks in let l = h.long in record { room = w.room; most = w.most; long = rw (length-drop 2 words) (omega arith) }
 
 -- M: no name is listed yet
 pub held-lent : (text : Bytes) {rows : Words} {walk : List Record} {hits : List FirstHit} {words : Words} → Lists rows walk hits words → Held text rows words 0 hits
@@ -119,7 +119,7 @@ module _ (numbers : Words) {rows : Words} {walk : List Record} (h : Scratch rows
   scratch-long = let long = h.long in let k = length-drop 2 numbers in omega arith
 
   pub scratch-part : Scratch rows walk (take (length numbers - 2) (drop 2 numbers))
-  scratch-part = record { room = h.room; most = h.most; wide = h.wide; long = simp (length-take, length-drop) (let long = h.long in let k = length-drop 2 numbers in omega arith) }
+  scratch-part = record { room = h.room; most = h.most; long = simp (length-take, length-drop) (let long = h.long in let k = length-drop 2 numbers in omega arith) }
 
 -- ---- letter by letter
 
@@ -238,17 +238,14 @@ module _ {line : Bytes} {a : code.Option Ask} {o : Option Question} (h : Reads l
   unfolding asks_meant
   is-n e = sym h.meant ∙ ap (asks_meant line) e
 
--- ---- records and hits
+-- ---- hits
 
-module _ {rows : Words} {walk : List Record} {hits : List FirstHit} where
-  pub kept : Kept rows walk hits walk hits
-  kept = record { wide = λ h. h; rooms = λ h. h }
+module _ {rows : Words} {hits : List FirstHit} where
+  pub kept : Kept rows hits hits
+  kept = record { rooms = λ h. h }
 
-  pub kept-walk : {walk' : List Record} → Wide walk' → Kept rows walk hits walk' hits
-  kept-walk w = record { wide = λ h. w; rooms = λ h. h }
-
-  pub kept-both : {walk' : List Record} {hits' : List FirstHit} → Wide walk' → Rooms rows hits' → Kept rows walk hits walk' hits'
-  kept-both w r = record { wide = λ h. w; rooms = λ h. r }
+  pub kept-rooms : {hits' : List FirstHit} → Rooms rows hits' → Kept rows hits hits'
+  kept-rooms r = record { rooms = λ h. r }
 
 -- ---- the numbers are the table's
 

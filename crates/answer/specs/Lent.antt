@@ -5,8 +5,8 @@ use Rattle.objects.specs.Bounds.{max_places}
 use Rattle.objects.specs.Rows.{Words, type_count, member_count_of}
 use Rattle.rules.specs.Question.{Question, ask_s, ask_m, ask_n, ask_i, ask_c, ask_v}
 use Rattle.multiples.specs.Records.{Record, max_records}
-use Rattle.walk_rows.specs.State.{Wide}
-use Rattle.first_hits.specs.Hits.{FirstHit, Rooms}
+use Rattle.first_hits.specs.declared.FirstHit.{FirstHit}
+use Rattle.first_hits.specs.Hits.{Rooms}
 use Rattle.answer.specs.declared.Need.{Need}
 
 -- the places of two ways, behind two words that are left free for the answer
@@ -17,7 +17,6 @@ search_words = 2 + 2 * max_places
 pub record Walks (rows : Words) (walk : List Record) : Type 0 where
   pub room : 2 * type_count rows ≤ length walk
   pub most : length walk ≤ max_records
-  pub wide : Wide walk
 
 -- S and N
 pub record Searches (rows : Words) (walk : List Record) (words : Words) : Type 0 where
@@ -49,7 +48,6 @@ Enough rows walk hits words Need.Nothing = Unit {0}
 Enough rows walk hits words Need.Walk = Searches rows walk words
 Enough rows walk hits words Need.Set = Lists rows walk hits words
 
--- records and hits keep their words
-pub record Kept (rows : Words) (walk : List Record) (hits : List FirstHit) (walk' : List Record) (hits' : List FirstHit) : Type 0 where
-  pub wide : Wide walk → Wide walk'
+-- there is a hit for each member, as before
+pub record Kept (rows : Words) (hits hits' : List FirstHit) : Type 0 where
   pub rooms : Rooms rows hits → Rooms rows hits'

@@ -7,7 +7,6 @@ ghost use Rattle.rules.specs.Library.{Library};
 ghost use Rattle.rules.specs.Question.{ask_s, ask_m, ask_n, ask_i, ask_c, ask_v};
 ghost use Rattle.rules.specs.Ways.{select};
 ghost use Rattle.selection.specs.Results.{Selects, name_meant};
-ghost use Rattle.walk_rows.specs.State.{Wide};
 ghost use Rattle.levels.specs.Hits.{Scratch};
 ghost use Rattle.first_hits.specs.Hits.{Rooms};
 ghost use Rattle.reply.specs.Done.{Does, due};
@@ -54,8 +53,7 @@ fn select_behind(
 ) -> Selection
     requires library { Library text.now rows.now }
     requires t_bound { (t.0 < type_count rows.now) × (has_package (table_of text.now rows.now) (package_meant q.pkg) ≡ true) × Scratch rows.now walk.old (drop 2 numbers.old) }
-    ensures selects { Selects text.now rows.now result (drop 2 numbers.new) (select (table_of text.now rows.now) (name_meant text.now rows.now names.now q) t a) }
-    ensures wide { Wide walk.new }
+    ensures { Selects text.now rows.now result (drop 2 numbers.new) (select (table_of text.now rows.now) (name_meant text.now rows.now names.now q) t a) }
 {
     lookup_field_or_method(text, rows, walk, &mut numbers[2..], names, q, t, a)
 }
@@ -72,8 +70,7 @@ pub fn ask_s(
 ) -> Result<usize, Unsaid>
     requires library { Library text.now rows.now }
     requires typ_bound { (x.typ.0 < type_count rows.now) × (has_package (table_of text.now rows.now) (package_meant q.pkg) ≡ true) × Searches rows.now walk.old words.old }
-    ensures does { Does (due (table_of text.now rows.now) (ask_s x.typ x.addressable (package_meant q.pkg) (bytes_at line.now q.at q.len))) result answer.old answer.new }
-    ensures wide { Wide walk.new }
+    ensures { Does (due (table_of text.now rows.now) (ask_s x.typ x.addressable (package_meant q.pkg) (bytes_at line.now q.at q.len))) result answer.old answer.new }
 {
     let t = x.typ;
     let s = select_behind(text, rows, walk, words, line, q, t, x.addressable);
@@ -92,7 +89,7 @@ pub fn ask_m(
     requires library { Library text.now rows.now }
     requires t_bound { (t.0 < type_count rows.now) × Lists rows.now walk.old hits.old words.old }
     ensures does { Does (due (table_of text.now rows.now) (ask_m t)) result answer.old answer.new }
-    ensures wide { Wide walk.new × Rooms rows.now hits.new }
+    ensures rooms { Rooms rows.now hits.new }
 {
     let n = method_set::new(text, rows, t, walk, words, hits);
     say_set(answer, rows, walk, hits, words, n)
@@ -112,7 +109,6 @@ pub fn ask_n(
     requires marks_value { marks.old ≡ replicate (length marks.old) 0 }
     ensures does { Does (due (table_of text.now rows.now) (ask_n x.typ x.iface x.statically)) result answer.old answer.new }
     ensures marks_unchanged { marks.new ≡ marks.old }
-    ensures wide { Wide walk.new }
 {
     let t = x.typ;
     let i = x.iface;

@@ -64,7 +64,7 @@ pub fn answered(
     requires marks_value { marks.old ≡ replicate (length marks.old) 0 }
     ensures does { Does (replied line.now (table_of text.now rows.now)) result answer.old answer.new }
     ensures marks_unchanged { marks.new ≡ marks.old }
-    ensures kept { Kept rows.now walk.old hits.old walk.new hits.new }
+    ensures kept { Kept rows.now hits.old hits.new }
 {
     let a = question(rows, line);
     let Some(asked) = a else {

@@ -35,8 +35,8 @@ fn in_set(rows: &[u32], walk: &[EmbeddedType], hits: &[FirstHit], k: u32) -> boo
     requires { Room hits.now k }
     ensures { result ≡ in_set rows.now walk.now hits.now k }
 {
-    let h = hits[k as usize];
-    !h.hidden && (!has_ptr(rows, ObjKey(k)) || flag_at(rows, walk, h.row))
+    let hit = hits[k as usize];
+    !hit.hidden && (!has_ptr(rows, ObjKey(k)) || flag_at(rows, walk, hit.row))
 }
 
 // ---- the set

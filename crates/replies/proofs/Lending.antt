@@ -1,4 +1,4 @@
--- Arrays of zeros are lent: they are wide and long enough. And from what a question alone was answered to what a call ends with.
+-- Arrays of empty records and hits are lent: they are long enough. And from what a question alone was answered to what a call ends with.
 use mathlib.Core.Path.{◌≡◌, refl, sym, ap, subst, ◌∙◌}
 use mathlib.Core.List.{List, []}
 use Prim.Native.Nat.{ℕ, ◌*◌, ◌^◌, ◌≤◌, ◌<◌}
@@ -13,43 +13,45 @@ use Rattle.objects.specs.Lists.{Bytes}
 use Rattle.objects.specs.Rows.{Words, type_count, member_count_of}
 use Rattle.objects.proofs.ListLaws.{cases}
 use Rattle.rules.specs.Asked.{Outcome, refuse, say, fitted, refusal, number_of}
-use Rattle.multiples.specs.Records.{Record, max_records, record_words}
-use Rattle.first_hits.specs.Hits.{FirstHit, hit_words, Rooms}
+use Rattle.multiples.specs.Records.{Record, max_records}
+use Rattle.multiples.specs.Records as records
+use Rattle.first_hits.specs.declared.FirstHit.{FirstHit}
+use Rattle.first_hits.specs.Hits.{Rooms}
+use Rattle.first_hits.specs.Hits as hits_of
 use Rattle.reply.specs.declared.Unsaid.{Unsaid}
 use Rattle.reply.specs.Done.{Done, done_meant, done_of, Does, number_read, Fits}
 use Rattle.answer.specs.declared.Need.{Need}
 use Rattle.answer.specs.Lent.{search_words, Walks, Lent, Enough}
 use Rattle.replies.specs.Replies.{Ends}
 
-abbrev no_words : Record
-no_words = replicate {A = ℕ} record_words 0
+abbrev no_record : Record
+no_record = records.empty
 
 abbrev no_hit : FirstHit
-no_hit = replicate {A = ℕ} hit_words 0
+no_hit = hits_of.empty
 
 -- the first n of k records
-pub lent-long : (k n : ℕ) → n ≤ k → n ≡ length (take n (replicate k no_words))
-lent-long k n h = let all = length-replicate k no_words in simp length-take (omega arith)
+pub lent-long : (k n : ℕ) → n ≤ k → n ≡ length (take n (replicate k no_record))
+lent-long k n h = let all = length-replicate k no_record in simp length-take (omega arith)
 
 -- two for each type
-pub walks-new : (rows : Words) (k n : ℕ) → n ≡ 2 * type_count rows → n ≤ k → n ≤ max_records → Walks rows (take n (replicate k no_words))
+pub walks-new : (rows : Words) (k n : ℕ) → n ≡ 2 * type_count rows → n ≤ k → n ≤ max_records → Walks rows (take n (replicate k no_record))
 walks-new rows k n e room most =
     let long = lent-long k n room in
     record {
       room = omega arith;
       most = omega arith;
-      wide = λ j l. ap length (get_or-take n (replicate k no_words) j [] (omega arith) ∙ get_or-replicate k j no_words [] (omega arith));
     }
 
 -- all of k records
-pub walks-all : (rows : Words) (k : ℕ) → 2 * type_count rows ≤ k → k ≤ max_records → Walks rows (replicate k no_words)
+pub walks-all : (rows : Words) (k : ℕ) → 2 * type_count rows ≤ k → k ≤ max_records → Walks rows (replicate k no_record)
 walks-all rows k room most =
-    let long = length-replicate k no_words in
-    record { room = omega arith; most = omega arith; wide = λ j l. ap length (get_or-replicate k j no_words [] (omega arith)) }
+    let long = length-replicate k no_record in
+    record { room = omega arith; most = omega arith }
 
 -- a first hit for each member
 pub rooms-new : (rows : Words) (k : ℕ) → member_count_of rows ≤ k → Rooms rows (replicate k no_hit)
-rooms-new rows k h = λ j l. record { inside = let all = length-replicate k no_hit in omega arith; wide = ap length (get_or-replicate k j no_hit [] (omega arith)) }
+rooms-new rows k h = λ j l. record { inside = let all = length-replicate k no_hit in omega arith }
 
 -- ---- by need
 

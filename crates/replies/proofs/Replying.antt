@@ -16,8 +16,7 @@ use Rattle.objects.proofs.ListLaws.{cases}
 use Rattle.rules.specs.Asked.{Outcome, refuse, say, replied, written}
 use Rattle.rules.specs.AskedAll.{refused_bytes, printed, reply_bytes}
 use Rattle.multiples.specs.Records.{Record}
-use Rattle.walk_rows.specs.State.{Wide}
-use Rattle.first_hits.specs.Hits.{FirstHit}
+use Rattle.first_hits.specs.declared.FirstHit.{FirstHit}
 use Rattle.reply.specs.declared.Unsaid.{Unsaid}
 use Rattle.reply.specs.Done.{Done, done_meant, done_said, done_of, Does}
 use Rattle.reply.proofs.Saying.{does-as}
@@ -33,15 +32,15 @@ lent-enough rows walk hits words h Need.Nothing = tt
 lent-enough rows walk hits words h Need.Walk = h.searches
 lent-enough rows walk hits words h Need.Set = h.lists
 
-walks-kept : {rows : Words} {walk walk' : List Record} → Walks rows walk → Wide walk' → length walk' ≡ length walk → Walks rows walk'
-walks-kept h w e = let room = h.room in let most = h.most in record { room = omega arith; most = omega arith; wide = w }
+walks-kept : {rows : Words} {walk walk' : List Record} → Walks rows walk → length walk' ≡ length walk → Walks rows walk'
+walks-kept h e = let room = h.room in let most = h.most in record { room = omega arith; most = omega arith }
 
 -- it serves the next one too
-pub lent-kept : {rows : Words} {walk walk' : List Record} {hits hits' : List FirstHit} {words words' : Words} → Lent rows walk hits words → Kept rows walk hits walk' hits'
+pub lent-kept : {rows : Words} {walk walk' : List Record} {hits hits' : List FirstHit} {words words' : Words} → Lent rows walk hits words → Kept rows hits hits'
     → length walk' ≡ length walk → length words' ≡ length words → Lent rows walk' hits' words'
 lent-kept h k e f =
     let s = h.searches in let l = h.lists in
-    let walks = walks-kept s.walks (k.wide s.walks.wide) e in
+    let walks = walks-kept s.walks e in
     let search = s.long in let names = l.long in
     record { searches = record { walks = walks; long = omega arith }; lists = record { walks = walks; long = omega arith; rooms = k.rooms l.rooms } }
 

@@ -13,8 +13,8 @@ ghost use Rattle.replies.specs.Replies.{Ends, said_of};
 
 use crate::all::reply_all;
 use answer::{Need, SEARCH_WORDS, answered, lent_for};
-use first_hits::HIT_WORDS;
-use multiples::{MAX_RECORDS, RECORD_WORDS};
+use first_hits::FirstHit;
+use multiples::{EmbeddedType, MAX_RECORDS};
 use objects::bounds::{FEW_RECORDS, MAX_MEMBERS, SOME_MEMBERS, SOME_RECORDS};
 use objects::rows::{member_count, type_count};
 use reply::Unsaid;
@@ -33,8 +33,8 @@ fn with_nothing(
     ensures ends { Ends (said_of false line.now (table_of text.now rows.now)) result answer.old answer.new }
     ensures marks_unchanged { marks.new ≡ marks.old }
 {
-    let mut walk = [[0u32; RECORD_WORDS]; 1];
-    let mut hits = [[0u32; HIT_WORDS]; 1];
+    let mut walk = [EmbeddedType::EMPTY; 1];
+    let mut hits = [FirstHit::EMPTY; 1];
     let mut words = [0u32; 1];
     answered(
         text, rows, marks, &mut walk, &mut hits, &mut words, line, answer,
@@ -81,8 +81,8 @@ fn with_walk_of<const RECORDS: usize>(
     ensures marks_unchanged { marks.new ≡ marks.old }
 {
     let n = 2 * type_count(rows) as usize;
-    let mut walk = [[0u32; RECORD_WORDS]; RECORDS];
-    let mut hits = [[0u32; HIT_WORDS]; 1];
+    let mut walk = [EmbeddedType::EMPTY; RECORDS];
+    let mut hits = [FirstHit::EMPTY; 1];
     let mut words = [0u32; SEARCH_WORDS];
     let w = &mut walk[..n];
     answered(text, rows, marks, w, &mut hits, &mut words, line, answer)
@@ -137,8 +137,8 @@ fn with_all_of<const RECORDS: usize, const MEMBERS: usize, const WORDS: usize>(
     ensures marks_unchanged { marks.new ≡ marks.old }
 {
     let n = 2 * type_count(rows) as usize;
-    let mut walk = [[0u32; RECORD_WORDS]; RECORDS];
-    let mut hits = [[0u32; HIT_WORDS]; MEMBERS];
+    let mut walk = [EmbeddedType::EMPTY; RECORDS];
+    let mut hits = [FirstHit::EMPTY; MEMBERS];
     let mut words = [0u32; WORDS];
     let w = &mut walk[..n];
     if all {

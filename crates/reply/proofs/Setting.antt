@@ -16,7 +16,7 @@ use Rattle.multiples.specs.Records.{Record}
 use Rattle.print.specs.Written.{max_line, number_line, written, Wrote}
 use Rattle.print.proofs.LineLaws.{line-short}
 use Rattle.print.proofs.WrittenLaws.{written-more, written-nothing, then-wrote, wrote_as}
-use Rattle.first_hits.specs.Hits.{FirstHit}
+use Rattle.first_hits.specs.declared.FirstHit.{FirstHit}
 use Rattle.method_set.specs.Sets.{sel_at}
 use Rattle.rules.specs.Asked.{say}
 use Rattle.reply.specs.declared.Unsaid.{Unsaid}

@@ -7,7 +7,8 @@ use Rattle.text.specs.Bytes.{ascii}
 use Rattle.multiples.specs.Records.{Record}
 use Rattle.print.specs.Written.{number_line}
 use Rattle.walk_rows.specs.Records.{level_of}
-use Rattle.first_hits.specs.Hits.{FirstHit, Room, hit_row}
+use Rattle.first_hits.specs.declared.FirstHit.{FirstHit}
+use Rattle.first_hits.specs.Hits.{Room, hit_row}
 use Rattle.method_set.specs.Sets.{sel_at}
 
 -- there is a first hit under key k, and its line is short enough for a row of numbers

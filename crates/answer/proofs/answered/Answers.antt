@@ -1,7 +1,7 @@
 -- `answered` meets its contract: one way for each letter, 12 before N, 11 for a wrong form.
 use mathlib.Core.Path.{refl, ap, ◌∙◌}
 use Rattle.std.specs.Prelude.{Some}
-use Rattle.answer.proofs.Answering.{s-answered, m-answered, n-answered, n-refused, i-answered, c-answered, v-answered, wrong-form, is-s, is_m, is-n, searches-s, searches-n, lists-m, kept, kept-walk, kept-both, s-known, m-known, n-known, i-known, c-known}
+use Rattle.answer.proofs.Answering.{s-answered, m-answered, n-answered, n-refused, i-answered, c-answered, v-answered, wrong-form, is-s, is_m, is-n, searches-s, searches-n, lists-m, kept, kept-rooms, s-known, m-known, n-known, i-known, c-known}
 use Rattle.answer.proofs.answered.Goals as goal
 
 pub ask_s-requires : goal.ask_s-requires
@@ -37,15 +37,15 @@ ask_c-requires c =
 
 pub returns-in-S : goal.returns-in-S
 returns-in-S c =
-    record { does = s-answered _ _ _ _ (c.question-a.ensures.reads c.args.text.now) (c.in-Some.is ∙ ap Some c.in-S.is) c.ask_s.ensures.does; marks_unchanged = refl; kept = kept-walk c.ask_s.ensures.wide }
+    record { does = s-answered _ _ _ _ (c.question-a.ensures.reads c.args.text.now) (c.in-Some.is ∙ ap Some c.in-S.is) c.ask_s.ensures; marks_unchanged = refl; kept = kept }
 
 pub returns-in-M : goal.returns-in-M
 returns-in-M c =
-    record { does = m-answered _ _ _ _ (c.question-a.ensures.reads c.args.text.now) (c.in-Some.is ∙ ap Some c.in-M.is) c.ask_m.ensures.does; marks_unchanged = refl; kept = kept-both c.ask_m.ensures.wide.0 c.ask_m.ensures.wide.1 }
+    record { does = m-answered _ _ _ _ (c.question-a.ensures.reads c.args.text.now) (c.in-Some.is ∙ ap Some c.in-M.is) c.ask_m.ensures.does; marks_unchanged = refl; kept = kept-rooms c.ask_m.ensures.rooms }
 
 pub returns-else-wrong_second : goal.returns-else-wrong_second
 returns-else-wrong_second c =
-    record { does = n-answered _ _ _ _ (c.question-a.ensures.reads c.args.text.now) (c.in-Some.is ∙ ap Some c.in-N.is) (ap Some c.in-N.is) c.wrong_second.ensures c.if-wrong_second.false c.ask_n.ensures.does; marks_unchanged = c.ask_n.ensures.marks_unchanged; kept = kept-walk c.ask_n.ensures.wide }
+    record { does = n-answered _ _ _ _ (c.question-a.ensures.reads c.args.text.now) (c.in-Some.is ∙ ap Some c.in-N.is) (ap Some c.in-N.is) c.wrong_second.ensures c.if-wrong_second.false c.ask_n.ensures.does; marks_unchanged = c.ask_n.ensures.marks_unchanged; kept = kept }
 
 pub returns-in-I : goal.returns-in-I
 returns-in-I c =

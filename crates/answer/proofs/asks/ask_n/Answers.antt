@@ -11,5 +11,4 @@ returns c =
     record {
       does = n-due _ _ _ _ _ _ _ c.missing_method-m.ensures.result_value (c.say_missing.ensures c.args.text.now c.args.rows.now);
       marks_unchanged = c.missing_method-m.ensures.marks_unchanged;
-      wide = c.missing_method-m.ensures.wide;
     }

@@ -8,4 +8,4 @@ select_behind-s-requires c =
 
 pub returns : goal.returns
 returns c =
-    record { does = s-due _ _ _ _ _ _ _ c.select_behind-s.new.numbers c.select_behind-s.ensures.selects (c.say_selected.ensures c.args.text.now c.args.rows.now); wide = c.select_behind-s.ensures.wide }
+    s-due _ _ _ _ _ _ _ c.select_behind-s.new.numbers c.select_behind-s.ensures (c.say_selected.ensures c.args.text.now c.args.rows.now)

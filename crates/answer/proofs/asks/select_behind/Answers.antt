@@ -17,4 +17,4 @@ lookup_field_or_method-requires c =
 
 pub returns : goal.returns
 returns c =
-    record { selects = selects-behind c.args.numbers.now (scratch-long c.args.numbers.now c.requires.t_bound.2) c.lookup_field_or_method.ensures.selects; wide = c.lookup_field_or_method.ensures.wide }
+    selects-behind c.args.numbers.now (scratch-long c.args.numbers.now c.requires.t_bound.2) c.lookup_field_or_method.ensures
