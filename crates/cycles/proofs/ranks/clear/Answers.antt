@@ -1,10 +1,6 @@
 use Rattle.std.proofs.Common.{rules}
-use native.Mathlib.Omega.{arith}
-use Rattle.cycles.proofs.RankLaws.{clear-start, clear_in, clear-more, clear-end}
+use Rattle.cycles.proofs.RankLaws.{clear_in, clear-more}
 use Rattle.cycles.proofs.ranks.clear.Goals as goal
-
-pub loop-t-init : goal.loop-t-init
-loop-t-init c = (search rules, clear-start _ c.requires)
 
 pub put_rank-requires : goal.put_rank-requires
 put_rank-requires c =
@@ -12,6 +8,3 @@ put_rank-requires c =
 
 pub loop-t-preserved : goal.loop-t-preserved
 loop-t-preserved c = (search rules, clear-more _ _ _ _ c.loop-t.invariant.1 c.put_rank.ensures)
-
-pub returns : goal.returns
-returns c = clear-end _ _ _ c.loop-t.invariant.1 c.type_count-t-end.ensures (omega arith)

@@ -2,12 +2,6 @@ use native.Mathlib.Omega.{arith}
 use Rattle.cycles.proofs.LineLaws.{clear-more, finds-none, finds-some}
 use Rattle.cycles.proofs.search.first_back.Goals as goal
 
-pub loop-t-init : goal.loop-t-init
-loop-t-init c = λ u h. absurd (omega arith)
-
-pub on_cycle-requires : goal.on_cycle-requires
-on_cycle-requires c = (c.requires, omega (arith, c.type_count-t-end.ensures, c.loop-t-test.true))
-
 pub returns-then-on_cycle : goal.returns-then-on_cycle
 returns-then-on_cycle c =
     finds-some _ c.requires.within c.type_count-t-end.ensures _ c.loop-t-test.true c.loop-t.invariant (c.on_cycle.ensures.yes c.if-on_cycle.true) c.type_word.ensures

@@ -1,13 +1,7 @@
 use Rattle.std.proofs.Common.{rules}
 use native.Mathlib.Omega.{arith}
-use Rattle.cycles.proofs.SearchLaws.{meet-start, content-small, meet-more, meet-end}
+use Rattle.cycles.proofs.SearchLaws.{content-small, meet-more}
 use Rattle.cycles.proofs.search.meet.Goals as goal
-
-pub loop-i-init : goal.loop-i-init
-loop-i-init c = (search rules, search rules, meet-start _ _ _ _ _ c.requires.5)
-
-pub content-e-requires : goal.content-e-requires
-content-e-requires c = (c.requires.2, c.requires.4, omega (arith, c.content_total-i-end.ensures, c.loop-i-test.true))
 
 pub push-after-requires : goal.push-after-requires
 push-after-requires c =
@@ -16,6 +10,3 @@ push-after-requires c =
 pub loop-i-preserved : goal.loop-i-preserved
 loop-i-preserved c =
     (search rules, search rules, meet-more _ _ _ _ _ _ _ _ _ _ _ _ c.requires.4 (omega (arith, c.content_total-i-end.ensures, c.loop-i-test.true)) c.loop-i.invariant.2 c.content-e.ensures c.push-after.ensures)
-
-pub returns : goal.returns
-returns c = meet-end _ _ _ _ _ _ _ _ _ c.loop-i.invariant.2 c.content_total-i-end.ensures (omega arith)
