@@ -1,22 +1,7 @@
 -- `settle` meets its contract.
-use mathlib.Core.Path.{refl, ◌∙◌}
-use native.Mathlib.Omega.{arith}
-use lib.ListN.{length}
-use Rattle.twins.proofs.SettleLaws.{cleared-coarse, next-coarse, next-twinned, next-falls}
+use mathlib.Core.Path.{◌∙◌}
+use Rattle.twins.proofs.SettleLaws.{next-coarse, next-twinned, next-falls}
 use Rattle.twins.proofs.settle.Goals as goal
-
-pub loop-n-init : goal.loop-n-init
-loop-n-init c = (refl, refl, cleared-coarse _ _ (length c.args.labels.now) c.clear.ensures)
-
-pub refine-requires : goal.refine-requires
-refine-requires c =
-    record { library = c.requires.library; rows_in_bounds = (omega (arith, c.requires.rows_in_bounds.0, c.clear.auto.marks, c.loop-n.invariant.0), omega (arith, c.requires.rows_in_bounds.1, c.loop-n.invariant.1)) }
-
-pub renew-requires : goal.renew-requires
-renew-requires c = (
-  omega (arith, c.type_count-n.ensures, c.requires.rows_in_bounds.0, c.clear.auto.marks, c.loop-n.invariant.0),
-  omega (arith, c.type_count-n.ensures, c.requires.rows_in_bounds.1, c.refine.ensures.fresh_len_unchanged, c.loop-n.invariant.1),
-)
 
 pub loop-n-smaller : goal.loop-n-smaller
 loop-n-smaller c =

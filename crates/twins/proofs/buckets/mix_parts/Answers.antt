@@ -21,10 +21,6 @@ bounds-labels-p c =
     let inside = part-inside _ c.args.rows.now c.requires.library c.args.t c.requires.t_bound.0 c.loop-i.i (omega (arith, c.part_count-n.ensures, c.loop-i-test.true)) in
     omega (arith, c.requires.t_bound.1, inside, ap (λ (p : TypeKey). p.0) c.part_in-p.ensures)
 
-pub mix-h-requires : goal.mix-h-requires
-mix-h-requires c =
-    c.loop-i.invariant.0
-
 pub loop-i-preserved : goal.loop-i-preserved
 loop-i-preserved c =
     (c.mix-h.ensures.1, mixed-more c.args.text.now _ _ c.requires.t_bound.0 _ _ _ c.loop-i.invariant.1 c.part_in-p.ensures c.mix-h.ensures.0)
