@@ -47,7 +47,7 @@ fn cover(
     }
 }
 
-// The fields of a stretch.
+// The fields of a stretch. A loop beside that of `meet_stretch`: one over a closure would ask for a law of what each call leaves, and be no plainer.
 fn cover_stretch(
     text: &[u8],
     rows: &[u32],
