@@ -13,8 +13,8 @@ ghost use Rattle.answer.specs.Lent.{Lent};
 ghost use Rattle.program.specs.Steps.{due, Stands};
 
 use crate::asking::{next_piece, put_refused};
-use first_hits::{FirstHit, HIT_WORDS};
-use multiples::{EmbeddedType, MAX_RECORDS, RECORD_WORDS};
+use first_hits::FirstHit;
+use multiples::{EmbeddedType, MAX_RECORDS};
 use objects::bounds::{MAX_MEMBERS, PROGRAM_ANSWER, WORK_WORDS};
 use std::io;
 use std::io::Write;
@@ -93,8 +93,8 @@ pub fn print_all<W: Write>(
     ensures bytes { OnOk result (Appends (W.contents to.old) (W.contents to.new) (due (table_of text.now rows.now) questions.now)) }
 {
     let mut marks = [0u32; WORK_WORDS];
-    let mut walk = [[0u32; RECORD_WORDS]; MAX_RECORDS];
-    let mut hits = [[0u32; HIT_WORDS]; MAX_MEMBERS];
+    let mut walk = [EmbeddedType::EMPTY; MAX_RECORDS];
+    let mut hits = [FirstHit::EMPTY; MAX_MEMBERS];
     let mut words = [0u32; MAX_MEMBERS];
     let mut out = [0u8; PROGRAM_ANSWER];
     show_all(

@@ -1,12 +1,11 @@
 -- Arrays of empty records and hits are lent: they are long enough. And from what a question alone was answered to what a call ends with.
 use mathlib.Core.Path.{◌≡◌, refl, sym, ap, subst, ◌∙◌}
-use mathlib.Core.List.{List, []}
+use mathlib.Core.List.{List}
 use Prim.Native.Nat.{ℕ, ◌*◌, ◌^◌, ◌≤◌, ◌<◌}
 use native.Mathlib.Omega.{arith}
 use lib.Dec.{ltb}
 use lib.IntN.{ℤ, pos}
-use lib.ListN.{length, take, replicate, length-replicate, get_or-replicate, length-take}
-use lib.Seq.{get_or-take}
+use lib.ListN.{length, take, replicate, length-replicate, length-take}
 use borrow.Author.Tests.{ltb-false}
 use Rattle.std.specs.Prelude.{Result, Ok, Err}
 use Rattle.objects.specs.Lists.{Bytes}
