@@ -86,6 +86,7 @@ pub fn peel(rows: &mut [u32])
     let most = pass(rows, 1);
     let mut last: u32 = 0;
     let mut next = crate::climb::rest(rows, most);
+    // a `while`, since it goes on as long as a pass gives ranks
     while last < next {
         last = next;
         next = pass(rows, next);

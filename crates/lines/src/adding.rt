@@ -128,6 +128,7 @@ fn listed(s: &[u8], c: Cursor) -> bool
     ensures { result ≡ all_read (fields_left s.now c) }
 {
     let mut d = c;
+    // a `while`, since where the next field begins is found on the way
     while !d.done() {
         let Some((_, e)) = small(s, d, MAX_REFERENCE) else {
             return false;
@@ -147,6 +148,7 @@ fn put_elements(s: &[u8], rows: &mut [u32], c: Cursor) -> bool
     ensures rows_after_2 { element_count rows.new ≡ element_count rows.old + length (elements_read (fields_left s.now c)) }
 {
     let mut d = c;
+    // a `while`, since where the next field begins is found on the way
     while !d.done() {
         let Some((v, e)) = small(s, d, MAX_REFERENCE) else {
             return false;
