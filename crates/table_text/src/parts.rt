@@ -93,7 +93,7 @@ pub fn put_letter(out: &mut [u8], at: usize, form: u32) -> usize
     put_word(out, at, if 1 < form { b"M\t" } else { b"F\t" })
 }
 
-// A tab and a package, given by its number and one, 0 for none.
+// A tab and a package, given as a member's row has it: by its number and one, 0 for none.
 pub fn put_package(out: &mut [u8], at: usize, n: u32) -> usize
     requires { at + length (package_field n) ≤ length out.old }
     ensures { Wrote out.old at (package_field n) out.new result }

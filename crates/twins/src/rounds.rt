@@ -20,7 +20,7 @@ fn first_fit(text: &[u8], rows: &[u32], labels: &[u32], links: &[u32], from: u32
     ensures { Fit (table_of text.now rows.now) labels.now t.0 result }
 {
     let mut c = from;
-    // what links name, and no range
+    // no range gives the places: a chain of links is walked. They are words, 0 at the end, since options take twice the fixed memory.
     while 0 < c {
         let u = c - 1;
         if agree(text, rows, labels, TypeKey(u), t) {
