@@ -8,7 +8,8 @@ use objects::bounds::MAX_TEXT;
 use std::io;
 use std::io::Read;
 
-// Reads until the buffer is full or the input ends, and answers how many bytes stand at its front. An error is the reader's.
+// Reads until the buffer is full or the input ends, and answers how many bytes stand at its front. An error is the reader's. By hand, since `read_to_end` needs the
+// heap, and `read_exact` as many bytes as the buffer has.
 fn read_full<R: Read>(from: &mut R, buf: &mut [u8]) -> io::Result<usize>
     ensures { IfOk result (λ n. n ≤ length buf.new) }
 {
@@ -26,6 +27,6 @@ fn read_full<R: Read>(from: &mut R, buf: &mut [u8]) -> io::Result<usize>
 fn main(rt: HostRuntime) -> io::Result<()> {
     let mut input = [0u8; MAX_TEXT + 1];
     let n = read_full(&mut rt.stdin(), &mut input)?;
-    program::run(&mut rt.stdout(), &input[0..n])?;
+    program::run(&mut rt.stdout(), &input[..n])?;
     Ok(())
 }

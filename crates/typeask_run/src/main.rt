@@ -2,28 +2,24 @@
 // digits and a newline. The inputs and what is due for them are made by tools/ask_sample.py.
 #![tactic(auto)]
 
-use frames::{Frame, ROOM};
+use frames::ROOM;
 use std::io;
-use std::io::{Read, Write};
+use std::io::Write;
 
-fn title<W: Write>(out: &mut W, k: u32) -> io::Result<()> {
-    writeln!(out, "== {k}")
-}
-
-fn all<R: Read, W: Write>(from: &mut R, out: &mut W, buf: &mut [u8]) -> io::Result<()> {
-    let mut k: u32 = 0;
-    while k < 10_000 {
-        let Frame::Input(n) = frames::next(from, buf)? else {
-            return Ok(());
-        };
-        title(out, k)?;
-        program::run(out, &buf[0..n])?;
-        k += 1;
-    }
+// What is printed for the input of number k.
+fn one<W: Write>(out: &mut W, k: u32, input: &[u8]) -> io::Result<()> {
+    writeln!(out, "== {k}")?;
+    program::run(out, input)?;
     Ok(())
 }
 
 fn main(rt: HostRuntime) -> io::Result<()> {
     let mut buf = [0u8; ROOM];
-    all(&mut rt.stdin(), &mut rt.stdout(), &mut buf)
+    let mut k: u32 = 0;
+    // There are at most 10,000 inputs, so that no number comes twice.
+    frames::each(&mut rt.stdin(), &mut rt.stdout(), &mut buf, |out, input| {
+        let number = k;
+        k = k.wrapping_add(1);
+        one(out, number, input)
+    })
 }
