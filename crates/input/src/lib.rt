@@ -20,6 +20,7 @@ pub fn split(input: &[u8]) -> Option<(usize, usize)>
     ensures { Splits input.now result }
 {
     let mut at: usize = 0;
+    // A loop, since the place moves by a line.
     loop {
         let end = line_end(input, at);
         if end == input.len() {

@@ -70,6 +70,7 @@ fn show_all<W: Write>(
 {
     let mut at: usize = 0;
     let mut total: usize = 0;
+    // A loop, since the place moves by as many questions as a piece answers.
     loop {
         let rest = &questions[at..];
         let f = next_piece(text, rows, marks, walk, hits, words, rest, out);

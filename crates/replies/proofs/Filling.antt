@@ -1,6 +1,6 @@
 -- Answers one after the other: those that are made, those that are left, and how long all of them are.
 use mathlib.Core.Path.{◌≡◌, refl, sym, ap, subst, ◌∙◌}
-use mathlib.Core.Bool.{Bool, true, false}
+use mathlib.Core.Bool.{true, false}
 use mathlib.Core.List.{List, [], ◌∷◌, ◌++◌, append_assoc, append-nil}
 use Prim.Native.Nat.{ℕ, ◌+◌, ◌-◌, ◌≤◌, ◌<◌}
 use native.Mathlib.Omega.{arith}
@@ -22,6 +22,7 @@ use Rattle.rules.specs.AskedAll.{question_lines, reply_bytes, replied_all}
 use Rattle.input.specs.Parts.{questions_at, next_meant, next_within, Follows}
 use Rattle.reply.specs.declared.Unsaid.{Unsaid}
 use Rattle.reply.specs.Done.{number_read, Fits}
+use Rattle.replies.specs.declared.Asking.{Asking}
 use Rattle.replies.specs.declared.Filled.{Filled}
 use Rattle.replies.specs.Replies.{Full, Filling, Fills, said_of, Ends}
 
@@ -217,14 +218,14 @@ module _ (T : Table) (questions stage answers : Bytes) {r : Filled} {staged : By
 
 -- ---- either call
 
-module _ (q : Bytes) (T : Table) {r : Result ℕ Unsaid} {before after : Bytes} {all : Bool} where
-  pub ends_as : {b : Bool} → all ≡ b → Ends (said_of b q T) r before after → Ends (said_of all q T) r before after
+module _ (q : Bytes) (T : Table) {r : Result ℕ Unsaid} {before after : Bytes} {all : Asking} where
+  pub ends_as : {b : Asking} → all ≡ b → Ends (said_of b q T) r before after → Ends (said_of all q T) r before after
   ends_as e h = subst (λ a. Ends (said_of a q T) r before after) (sym e) h
 
-  pub ends-all : all ≡ true → Ends (replied_all q T) r before after → Ends (said_of all q T) r before after
+  pub ends-all : all ≡ Asking.All → Ends (replied_all q T) r before after → Ends (said_of all q T) r before after
   unfolding said_of
-  ends-all e h = ends_as {b = true} e h
+  ends-all e h = ends_as {b = Asking.All} e h
 
-  pub ends-one : all ≡ false → Ends (replied q T) r before after → Ends (said_of all q T) r before after
+  pub ends-one : all ≡ Asking.One → Ends (replied q T) r before after → Ends (said_of all q T) r before after
   unfolding said_of
-  ends-one e h = ends_as {b = false} e h
+  ends-one e h = ends_as {b = Asking.One} e h

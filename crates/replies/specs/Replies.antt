@@ -1,5 +1,5 @@
 -- What the answers to many questions are made of, and what a call with them ends with.
-use Rattle.std.specs.Prelude.{Result, ◌≡◌, Bool, true, false, List, [], ◌∷◌, ◌++◌, ℕ, ◌+◌, ◌^◌, ◌≤◌, ◌<◌, length, drop}
+use Rattle.std.specs.Prelude.{Result, ◌≡◌, List, [], ◌∷◌, ◌++◌, ℕ, ◌+◌, ◌^◌, ◌≤◌, ◌<◌, length, drop}
 use Rattle.objects.specs.Lists.{Bytes, flat}
 use Rattle.objects.specs.Table.{Table}
 use Rattle.rules.specs.Asked.{Outcome, fitted, replied, number_of, written}
@@ -7,6 +7,7 @@ use Rattle.rules.specs.AskedAll.{question_lines, reply_bytes, replied_all}
 use Rattle.input.specs.Parts.{questions_at}
 use Rattle.reply.specs.declared.Unsaid.{Unsaid}
 use Rattle.reply.specs.Done.{number_read, Fits}
+use Rattle.replies.specs.declared.Asking.{Asking}
 use Rattle.replies.specs.declared.Filled.{Filled}
 
 -- the first of the questions that are left has no room behind n bytes
@@ -29,9 +30,9 @@ pub record Fills (T : Table) (questions before : Bytes) (r : Filled) (after : By
   pub full : Full T (questions_at questions r.at) r.n (length before)
 
 -- what is due to a question line, or to a text of them
-unfoldable pub said_of : Bool → Bytes → Table → Outcome
-said_of true questions T = replied_all questions T
-said_of false question T = replied question T
+unfoldable pub said_of : Asking → Bytes → Table → Outcome
+said_of Asking.All questions T = replied_all questions T
+said_of Asking.One question T = replied question T
 
 -- Of what is due, whatever the room: the number that a call gives for r, and the buffer.
 pub record Ends (o : Outcome) (r : Result ℕ Unsaid) (before after : Bytes) : Type 0 where

@@ -71,6 +71,7 @@ fn fits(
 {
     let mut at: usize = 0;
     let mut left = room;
+    // A loop, since the place moves by a question.
     loop {
         let Some((end, next)) = next_question(questions, at) else {
             return true;

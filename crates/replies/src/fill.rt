@@ -31,6 +31,7 @@ pub fn fill(
 {
     let mut at: usize = 0;
     let mut n: usize = 0;
+    // A loop, since the place moves by a question.
     loop {
         let Some((end, next)) = next_question(questions, at) else {
             return Filled { at, n };

@@ -1,7 +1,7 @@
 // What the questions are lent: arrays that are made once for a call. One question is lent no more than its letter needs. A search is lent two records for each type,
 // of an array that is the shorter the fewer types there are: clearing it is much of the time of a question on a small table. M, and many questions together, are lent a
 // word and a first hit for each member too.
-ghost use Rattle.std.specs.Prelude.{◌≡◌, false, ◌*◌, ◌≤◌, length, replicate};
+ghost use Rattle.std.specs.Prelude.{◌≡◌, ◌*◌, ◌≤◌, length, replicate};
 ghost use Rattle.objects.specs.Bounds.{mark_words, max_members};
 ghost use Rattle.objects.specs.Rows.{type_count, member_count_of, table_of};
 ghost use Rattle.rules.specs.Library.{Library};
@@ -9,8 +9,10 @@ ghost use Rattle.rules.specs.Question.{question_of};
 ghost use Rattle.answer.specs.declared.Need.{Need};
 ghost use Rattle.answer.specs.Lent.{need_of, search_words};
 ghost use Rattle.multiples.specs.Records.{max_records};
+ghost use Rattle.replies.specs.declared.Asking.{Asking};
 ghost use Rattle.replies.specs.Replies.{Ends, said_of};
 
+use crate::Asking;
 use crate::all::reply_all;
 use answer::{Need, SEARCH_WORDS, answered, lent_for};
 use first_hits::FirstHit;
@@ -30,7 +32,7 @@ fn with_nothing(
     requires library { Library text.now rows.now }
     requires mark_words_in_bounds { (mark_words ≤ length marks.old) × (need_of (question_of (table_of text.now rows.now) line.now) ≡ Need.Nothing) }
     requires marks_value { marks.old ≡ replicate (length marks.old) 0 }
-    ensures ends { Ends (said_of false line.now (table_of text.now rows.now)) result answer.old answer.new }
+    ensures ends { Ends (said_of Asking.One line.now (table_of text.now rows.now)) result answer.old answer.new }
     ensures marks_unchanged { marks.new ≡ marks.old }
 {
     let mut walk = [EmbeddedType::EMPTY; 1];
@@ -52,7 +54,7 @@ fn with_walk(
     requires library { Library text.now rows.now }
     requires mark_words_in_bounds { (mark_words ≤ length marks.old) × (need_of (question_of (table_of text.now rows.now) line.now) ≡ Need.Walk) }
     requires marks_value { marks.old ≡ replicate (length marks.old) 0 }
-    ensures ends { Ends (said_of false line.now (table_of text.now rows.now)) result answer.old answer.new }
+    ensures ends { Ends (said_of Asking.One line.now (table_of text.now rows.now)) result answer.old answer.new }
     ensures marks_unchanged { marks.new ≡ marks.old }
 {
     let n = 2 * type_count(rows) as usize;
@@ -77,7 +79,7 @@ fn with_walk_of<const RECORDS: usize>(
     requires mark_words_in_bounds { (mark_words ≤ length marks.old) × (need_of (question_of (table_of text.now rows.now) line.now) ≡ Need.Walk) }
     requires marks_value { marks.old ≡ replicate (length marks.old) 0 }
     requires room { (2 * type_count rows.now ≤ RECORDS) × (RECORDS ≤ max_records) }
-    ensures ends { Ends (said_of false line.now (table_of text.now rows.now)) result answer.old answer.new }
+    ensures ends { Ends (said_of Asking.One line.now (table_of text.now rows.now)) result answer.old answer.new }
     ensures marks_unchanged { marks.new ≡ marks.old }
 {
     let n = 2 * type_count(rows) as usize;
@@ -95,27 +97,27 @@ fn with_all(
     marks: &mut [u32],
     line: &[u8],
     answer: &mut [u8],
-    all: bool,
+    asking: Asking,
 ) -> Result<usize, Unsaid>
     requires library { Library text.now rows.now }
     requires mark_words_in_bounds { mark_words ≤ length marks.old }
     requires marks_value { marks.old ≡ replicate (length marks.old) 0 }
-    ensures ends { Ends (said_of all line.now (table_of text.now rows.now)) result answer.old answer.new }
+    ensures ends { Ends (said_of asking line.now (table_of text.now rows.now)) result answer.old answer.new }
     ensures marks_unchanged { marks.new ≡ marks.old }
 {
     let n = 2 * type_count(rows) as usize;
     let members = member_count(rows) as usize;
     if n <= FEW_RECORDS && members <= FEW_RECORDS {
         return with_all_of::<FEW_RECORDS, FEW_RECORDS, SEARCH_WORDS>(
-            text, rows, marks, line, answer, all,
+            text, rows, marks, line, answer, asking,
         );
     }
     if n <= SOME_RECORDS && members <= SOME_MEMBERS {
         return with_all_of::<SOME_RECORDS, SOME_MEMBERS, SEARCH_WORDS>(
-            text, rows, marks, line, answer, all,
+            text, rows, marks, line, answer, asking,
         );
     }
-    with_all_of::<MAX_RECORDS, MAX_MEMBERS, MAX_MEMBERS>(text, rows, marks, line, answer, all)
+    with_all_of::<MAX_RECORDS, MAX_MEMBERS, MAX_MEMBERS>(text, rows, marks, line, answer, asking)
 }
 
 // The same with so many records, first hits and words.
@@ -125,7 +127,7 @@ fn with_all_of<const RECORDS: usize, const MEMBERS: usize, const WORDS: usize>(
     marks: &mut [u32],
     line: &[u8],
     answer: &mut [u8],
-    all: bool,
+    asking: Asking,
 ) -> Result<usize, Unsaid>
     requires library { Library text.now rows.now }
     requires mark_words_in_bounds { mark_words ≤ length marks.old }
@@ -133,7 +135,7 @@ fn with_all_of<const RECORDS: usize, const MEMBERS: usize, const WORDS: usize>(
     requires records { (2 * type_count rows.now ≤ RECORDS) × (RECORDS ≤ max_records) }
     requires members { (member_count_of rows.now ≤ MEMBERS) × (MEMBERS ≤ max_members) }
     requires words { (member_count_of rows.now ≤ WORDS) × (search_words ≤ WORDS) × (WORDS ≤ max_members) }
-    ensures ends { Ends (said_of all line.now (table_of text.now rows.now)) result answer.old answer.new }
+    ensures ends { Ends (said_of asking line.now (table_of text.now rows.now)) result answer.old answer.new }
     ensures marks_unchanged { marks.new ≡ marks.old }
 {
     let n = 2 * type_count(rows) as usize;
@@ -141,33 +143,33 @@ fn with_all_of<const RECORDS: usize, const MEMBERS: usize, const WORDS: usize>(
     let mut hits = [FirstHit::EMPTY; MEMBERS];
     let mut words = [0u32; WORDS];
     let w = &mut walk[..n];
-    if all {
-        return reply_all(text, rows, marks, w, &mut hits, &mut words, line, answer);
+    match asking {
+        Asking::All => reply_all(text, rows, marks, w, &mut hits, &mut words, line, answer),
+        Asking::One => answered(text, rows, marks, w, &mut hits, &mut words, line, answer),
     }
-    answered(text, rows, marks, w, &mut hits, &mut words, line, answer)
 }
 
-// What is due to a question line or, if `all` is set, to a text of them. The marks are clear when it is called, and when it returns.
+// What is due to a question line, or to a text of them. The marks are clear when it is called, and when it returns.
 pub fn replied(
     text: &[u8],
     rows: &[u32],
     marks: &mut [u32],
     line: &[u8],
     answer: &mut [u8],
-    all: bool,
+    asking: Asking,
 ) -> Result<usize, Unsaid>
     requires library { Library text.now rows.now }
     requires mark_words_in_bounds { mark_words ≤ length marks.old }
     requires marks_value { marks.old ≡ replicate (length marks.old) 0 }
-    ensures ends { Ends (said_of all line.now (table_of text.now rows.now)) result answer.old answer.new }
+    ensures ends { Ends (said_of asking line.now (table_of text.now rows.now)) result answer.old answer.new }
     ensures marks_unchanged { marks.new ≡ marks.old }
 {
-    if all {
-        return with_all(text, rows, marks, line, answer, true);
-    }
-    match lent_for(rows, line) {
-        Need::Nothing => with_nothing(text, rows, marks, line, answer),
-        Need::Walk => with_walk(text, rows, marks, line, answer),
-        Need::Set => with_all(text, rows, marks, line, answer, false),
+    match asking {
+        Asking::All => with_all(text, rows, marks, line, answer, Asking::All),
+        Asking::One => match lent_for(rows, line) {
+            Need::Nothing => with_nothing(text, rows, marks, line, answer),
+            Need::Walk => with_walk(text, rows, marks, line, answer),
+            Need::Set => with_all(text, rows, marks, line, answer, Asking::One),
+        },
     }
 }

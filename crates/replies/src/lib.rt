@@ -20,6 +20,13 @@ use multiples::EmbeddedType;
 use reply::Unsaid;
 use reply::one_line::say_refused;
 
+// What is asked: one question, or a text of them.
+#[derive(Clone, Copy, PartialEq, Eq)]
+pub enum Asking {
+    One,
+    All,
+}
+
 // How far the questions are answered: the place of the first that is left, and the bytes that their answers take.
 #[derive(Clone, Copy)]
 pub struct Filled {

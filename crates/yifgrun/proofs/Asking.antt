@@ -1,6 +1,5 @@
 -- The ways through the exported calls, and what each gives.
 use mathlib.Core.Path.{◌≡◌, refl, sym, ap, subst, ◌∙◌}
-use mathlib.Core.Bool.{Bool, true, false}
 use mathlib.Core.List.{◌++◌, append-nil}
 use Prim.Native.Nat.{ℕ, ◌+◌, ◌-◌, ◌≤◌, ◌<◌}
 use native.Mathlib.Omega.{arith}
@@ -22,6 +21,7 @@ use Rattle.rules.specs.AskedAll.{replied_all, outcome_all_within, asked_all_with
 use Rattle.table.specs.Loading.{loading_meant, Loads}
 use Rattle.reply.specs.declared.Unsaid.{Unsaid}
 use Rattle.reply.specs.Done.{number_read, Fits}
+use Rattle.replies.specs.declared.Asking.{Asking}
 use Rattle.replies.specs.Replies.{said_of, Ends}
 use Rattle.edits.specs.Tidying.{says_tidied, tidy_outcome, tidied_call}
 use Rattle.yifgrun.specs.Gives.{Cleared, Gives, asked_by}
@@ -56,13 +56,13 @@ pub gives-number : {a : Asked} {r s : ℤ} {after : Bytes} {last : Words} → s 
 gives-number e g = record { number = e ∙ g.number; answer = g.answer; work = g.work }
 
 module _ (text question buffer : Bytes) (work : Words) {r : ℤ} {after : Bytes} {last : Words} where
-  pub gives_one : Gives (asked_by false text question buffer work) r after last → Gives (asked text question buffer work) r after last
+  pub gives_one : Gives (asked_by Asking.One text question buffer work) r after last → Gives (asked text question buffer work) r after last
   unfolding asked_by asked_within outcome_within said_of
-  gives_one g = subst (λ o. Gives (given (fitted (length buffer) o) buffer work) r after last) (on_same (said_of false question) (replied question) (λ T. refl) (load text)) g
+  gives_one g = subst (λ o. Gives (given (fitted (length buffer) o) buffer work) r after last) (on_same (said_of Asking.One question) (replied question) (λ T. refl) (load text)) g
 
-  pub gives-all : Gives (asked_by true text question buffer work) r after last → Gives (asked_all text question buffer work) r after last
+  pub gives-all : Gives (asked_by Asking.All text question buffer work) r after last → Gives (asked_all text question buffer work) r after last
   unfolding asked_by asked_all_within outcome_all_within said_of
-  gives-all g = subst (λ o. Gives (given (fitted (length buffer) o) buffer work) r after last) (on_same (said_of true question) (replied_all question) (λ T. refl) (load text)) g
+  gives-all g = subst (λ o. Gives (given (fitted (length buffer) o) buffer work) r after last) (on_same (said_of Asking.All question) (replied_all question) (λ T. refl) (load text)) g
 
 -- ---- the whole call
 
@@ -80,7 +80,7 @@ module _ (said : Table → Outcome) (text before : Bytes) (work : Words) (r : �
       → clear ≡ replicate (length work) 0 → last ≡ clear → gives r after last
   enough h p e z k = rw (le-ltb (length work) work_words h) (record { number = e ∙ p.number; answer = p.answer; work = k ∙ z })
 
-module _ (all : Bool) (text question before : Bytes) (work : Words) (r : ℤ) where
+module _ (all : Asking) (text question before : Bytes) (work : Words) (r : ℤ) where
   pub few_words : length work < work_words → r ≡ refusal 1 0 → Gives (asked_by all text question before work) r before work
   unfolding asked_by
   few_words = few (said_of all question) text before work r
@@ -131,7 +131,7 @@ module _ (n : ℕ) (work : Words) (more : n < length work) (behind : Words) wher
       ∙ ap (λ k. replicate k 0) whole
 
 -- what a call on the first words gives is what a call on all gives
-module _ (all : Bool) (text question before : Bytes) (work : Words) (r : ℤ) (more : work_words < length work) {behind : Words} (z : behind ≡ replicate (length (mid_of work_words (length work - work_words) work)) 0) where
+module _ (all : Asking) (text question before : Bytes) (work : Words) (r : ℤ) (more : work_words < length work) {behind : Words} (z : behind ≡ replicate (length (mid_of work_words (length work - work_words) work)) 0) where
   pub first-words : {s : ℤ} {after : Bytes} {first : Words} → r ≡ s → Gives (asked_by all text question before (take work_words (cut work_words work more behind))) s after first
       → Gives (asked_by all text question before work) r after (first ++ drop work_words (cut work_words work more behind))
   unfolding asked_by

@@ -23,6 +23,7 @@ use objects::bounds::{
 };
 use objects::refusals::{Reason, Refusal};
 use pair_marks::marks::clear;
+use replies::Asking;
 use replies::lend::replied;
 use reply::Unsaid;
 use signs::sign_members;
@@ -49,17 +50,17 @@ const WORK_SHORT: Refusal = Refusal {
 };
 
 // Members are signed where many names are to be looked for.
-fn sign_for_many(table: &[u8], rows: &mut [u32], all: bool)
+fn sign_for_many(table: &[u8], rows: &mut [u32], asking: Asking)
     requires { Library table.now rows.old }
     ensures library { Library table.now rows.new }
     ensures rows_unchanged { table_of table.now rows.new ≡ table_of table.now rows.old }
 {
-    if all {
+    if asking == Asking::All {
         sign_members(table, rows);
     }
 }
 
-// Refusals 2 to 14, or what is due to a question or, if `all` is set, to a text of them. The work area is clear when it is called, and when it returns; the rows are clear when it is called, and have room for
+// Refusals 2 to 14, or what is due to a question or to a text of them. The work area is clear when it is called, and when it returns; the rows are clear when it is called, and have room for
 // the table.
 fn decide_in(
     table: &[u8],
@@ -67,15 +68,15 @@ fn decide_in(
     question: &[u8],
     answer: &mut [u8],
     work: &mut [u32],
-    all: bool,
+    asking: Asking,
 ) -> Result<usize, Unsaid>
     requires { Cleared work.old × (rows.old ≡ replicate (length rows.old) 0) × (room_for (length table.now) ≤ length rows.old) }
-    ensures ends { Ends (on_table (said_of all question.now) (load table.now)) result answer.old answer.new }
+    ensures ends { Ends (on_table (said_of asking question.now) (load table.now)) result answer.old answer.new }
     ensures work_unchanged { work.new ≡ work.old }
 {
     load(table, rows)?;
-    sign_for_many(table, rows, all);
-    replied(table, rows, work, question, answer, all)
+    sign_for_many(table, rows, asking);
+    replied(table, rows, work, question, answer, asking)
 }
 
 // The same with rows of its own, whose words are all cleared: as few as the length of the table allows. The function of each size has a frame of its own.
@@ -84,14 +85,14 @@ fn decide<const WORDS: usize>(
     question: &[u8],
     answer: &mut [u8],
     work: &mut [u32],
-    all: bool,
+    asking: Asking,
 ) -> Result<usize, Unsaid>
     requires { Cleared work.old × (room_for (length table.now) ≤ WORDS) × (WORDS ≤ all_words) }
-    ensures ends { Ends (on_table (said_of all question.now) (load table.now)) result answer.old answer.new }
+    ensures ends { Ends (on_table (said_of asking question.now) (load table.now)) result answer.old answer.new }
     ensures work_unchanged { work.new ≡ work.old }
 {
     let mut rows = [0u32; WORDS];
-    decide_in(table, &mut rows, question, answer, work, all)
+    decide_in(table, &mut rows, question, answer, work, asking)
 }
 
 // "minus (refusal × 65,536 + line)"
@@ -120,44 +121,44 @@ fn number(d: Result<usize, Unsaid>) -> i64
 
 // Both calls. The words behind those that a call needs are cleared, and the call is made again on the others. They are of no use to it; and a compiler keeps the
 // frames of what a function that calls itself calls apart, so that a small table touches no stack but that of its own rows.
-fn call(table: &[u8], question: &[u8], answer: &mut [u8], work: &mut [u32], all: bool) -> i64
-    ensures { Gives (asked_by all table.now question.now answer.old work.old) result answer.new work.new }
+fn call(table: &[u8], question: &[u8], answer: &mut [u8], work: &mut [u32], asking: Asking) -> i64
+    ensures { Gives (asked_by asking table.now question.now answer.old work.old) result answer.new work.new }
 {
     if work.len() < WORK_WORDS {
         return refusal(WORK_SHORT);
     }
     if work.len() > WORK_WORDS {
         clear(&mut work[WORK_WORDS..]);
-        return call(table, question, answer, &mut work[..WORK_WORDS], all);
+        return call(table, question, answer, &mut work[..WORK_WORDS], asking);
     }
     clear(work);
     if table.len() <= SMALL_TEXT {
-        return number(decide::<SMALL_WORDS>(table, question, answer, work, all));
+        return number(decide::<SMALL_WORDS>(table, question, answer, work, asking));
     }
     if table.len() <= MEDIAN_TEXT {
-        return number(decide::<MEDIAN_WORDS>(table, question, answer, work, all));
+        return number(decide::<MEDIAN_WORDS>(table, question, answer, work, asking));
     }
     if table.len() <= MIDDLE_TEXT {
-        return number(decide::<MIDDLE_WORDS>(table, question, answer, work, all));
+        return number(decide::<MIDDLE_WORDS>(table, question, answer, work, asking));
     }
     if table.len() <= LONG_TEXT {
-        return number(decide::<LONG_WORDS>(table, question, answer, work, all));
+        return number(decide::<LONG_WORDS>(table, question, answer, work, asking));
     }
-    number(decide::<ALL_WORDS>(table, question, answer, work, all))
+    number(decide::<ALL_WORDS>(table, question, answer, work, asking))
 }
 
 // A question line without its newline.
 pub fn yifgrun_ask(table: &[u8], question: &[u8], answer: &mut [u8], work: &mut [u32]) -> i64
     ensures { Gives (asked table.now question.now answer.old work.old) result answer.new work.new }
 {
-    call(table, question, answer, work, false)
+    call(table, question, answer, work, Asking::One)
 }
 
 // Question lines, of which the last may lack its newline. The table is loaded once.
 pub fn yifgrun_ask_all(table: &[u8], questions: &[u8], answers: &mut [u8], work: &mut [u32]) -> i64
     ensures { Gives (asked_all table.now questions.now answers.old work.old) result answers.new work.new }
 {
-    call(table, questions, answers, work, true)
+    call(table, questions, answers, work, Asking::All)
 }
 
 // The table with only the least-numbered type of each set of identical types. It uses none of the work area, and has functions of its own for its rows: they

@@ -21,9 +21,9 @@ replied-requires c =
 pub returns-in_err-load : goal.returns-in_err-load
 returns-in_err-load c =
     let handed_on : ◌≡◌ {A = Result ℕ Unsaid} c.from_residual.result (Err (Unsaid.Refused c.in_err-load.field-0.0)) = search rules in
-    let due = on_table (said_of c.args.all c.args.question.now) (load c.args.table.now) in
+    let due = on_table (said_of c.args.asking c.args.question.now) (load c.args.table.now) in
     record { ends = subst (λ r. Ends due r c.args.answer.now c.args.answer.now) (sym handed_on) (table-refused _ _ _ _ c.load.ensures c.in_err-load.was); work_unchanged = refl }
 
 pub returns : goal.returns
 returns c =
-    record { ends = table-asked _ _ _ _ c.load.ensures c.in_ok-load.was (ends_on (said_of c.args.all c.args.question.now) c.sign_for_many.ensures.rows_unchanged c.replied.ensures.ends); work_unchanged = c.replied.ensures.marks_unchanged }
+    record { ends = table-asked _ _ _ _ c.load.ensures c.in_ok-load.was (ends_on (said_of c.args.asking c.args.question.now) c.sign_for_many.ensures.rows_unchanged c.replied.ensures.ends); work_unchanged = c.replied.ensures.marks_unchanged }

@@ -14,8 +14,8 @@ reply_all-requires g c =
     let lent = lent-new (replicate g.row.WORDS 0) walks (rooms-new c.args.rows.now g.row.MEMBERS c.requires.members.0) (omega arith) (omega arith) in
     record { library = c.requires.library; mark_words_in_bounds = (c.requires.mark_words_in_bounds, lent); marks_value = c.requires.marks_value }
 
-pub returns-then-all-clause-ends : goal.returns-then-all-clause-ends
-returns-then-all-clause-ends g c = ends-all _ _ c.if-all.true c.reply_all.ensures.ends
+pub returns-in-All-clause-ends : goal.returns-in-All-clause-ends
+returns-in-All-clause-ends g c = ends-all _ _ c.in-All.is c.reply_all.ensures.ends
 
 pub answered-requires-clause-mark_words_in_bounds : goal.answered-requires-clause-mark_words_in_bounds
 answered-requires-clause-mark_words_in_bounds g c =
@@ -23,5 +23,5 @@ answered-requires-clause-mark_words_in_bounds g c =
     let lent = lent-new (replicate g.row.WORDS 0) walks (rooms-new c.args.rows.now g.row.MEMBERS c.requires.members.0) (omega arith) (omega arith) in
     (c.requires.mark_words_in_bounds, lent-enough _ _ _ _ lent _)
 
-pub returns-clause-ends : goal.returns-clause-ends
-returns-clause-ends g c = ends-one _ _ c.if-all.false (ends-does c.answered.ensures.does)
+pub returns-in-One-clause-ends : goal.returns-in-One-clause-ends
+returns-in-One-clause-ends g c = ends-one _ _ c.in-One.is (ends-does c.answered.ensures.does)
