@@ -1,7 +1,7 @@
 // Several inputs in one: each stands behind its length, five digits and a newline. So the programs that run on stored inputs have them on standard input.
 #![tactic(auto)]
 
-ghost use Rattle.std.specs.Prelude.{◌≤◌, length, IfOk};
+ghost use Rattle.std.specs.Prelude.{◌≡◌, ◌≤◌, length, IfOk};
 ghost use Rattle.frames.specs.Frames.{Fits};
 
 use objects::bounds::MAX_TEXT;
@@ -57,7 +57,7 @@ pub fn next<R: Read>(from: &mut R, buf: &mut [u8]) -> io::Result<Option<usize>>
     Ok(Some(n))
 }
 
-// Reads input after input into the buffer, and hands each to what is done with one, with what it writes to. The first error ends them.
+// Reads input after input into the buffer, and hands each to what is done with one, with what it writes to. The first error ends them. No contract says what the calls write: that is for the runs on stored inputs.
 pub fn each<R: Read, W: Write, F: FnMut(&mut W, &[u8]) -> io::Result<()>>(
     from: &mut R,
     out: &mut W,
@@ -65,6 +65,7 @@ pub fn each<R: Read, W: Write, F: FnMut(&mut W, &[u8]) -> io::Result<()>>(
     mut one: F,
 ) -> io::Result<()>
     requires { F.IsAlwaysCallable one }
+    ensures { length buf.new ≡ length buf.old }
 {
     for _ in 0..MAX_INPUTS {
         let Some(n) = next(from, buf)? else {
