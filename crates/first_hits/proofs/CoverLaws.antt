@@ -5,6 +5,7 @@ use mathlib.Core.List.{List, [], ◌∷◌, ◌++◌, append-nil, append_assoc}
 use mathlib.Core.Logic.{◌≢◌}
 use Prim.Native.Nat.{ℕ}
 use Rattle.objects.specs.Lists.{Bytes, any, keep, In}
+use Rattle.objects.specs.Table.{bit}
 use Rattle.objects.specs.Rows.{Words}
 use Rattle.objects.proofs.ListLaws.{cases, clash, or_assoc, or-false}
 use Rattle.rules.proofs.MemberLaws.{same_id-true, same_id-eq}
@@ -24,7 +25,7 @@ module _ (text : Bytes) (rows : Words) (walk : List Record) where
     hides = λ k i. let d = s.decides k i in record {
       others = d.others;
       first = d.first;
-      hidden = d.again ∙ sym (or-false (any (λ v. beside walk (hit_row hits k) v.row) d.others));
+      hidden = d.again ∙ ap bit (sym (or-false (any (λ v. beside walk (hit_row hits k) v.row) d.others)));
     };
   }
 
@@ -71,7 +72,7 @@ module _ (text : Bytes) (rows : Words) (walk : List Record) where
             others = d.others;
             first = rw (row, place) d.first;
             hidden = rw row (hidden-mark hide k hits room (level || any over fields) d.hidden
-                ∙ or_assoc level (any over fields) hide ∙ ap (λ b. level || b) (sym (any-more over fields w)));
+                ∙ ap bit (or_assoc level (any over fields) hide ∙ ap (λ b. level || b) (sym (any-more over fields w))));
           }
 
       pub covered_more : Covered text rows walk M (F ++ (w ∷ [])) l (hidden_if hide k hits)

@@ -7,6 +7,7 @@ use Prim.Native.Nat.{ℕ, ◌<◌}
 use native.Mathlib.Omega.{arith}
 use lib.ListN.{length, set, length-set}
 use lib.Seq.{get_or-set_same, get_or-set_other}
+use Rattle.objects.specs.Table.{bit}
 use Rattle.objects.proofs.ListLaws.{cases, or-false, or-true}
 use Rattle.multiples.specs.Records.{Record}
 use Rattle.first_hits.specs.declared.FirstHit.{FirstHit}
@@ -55,11 +56,11 @@ module _ (hide : Bool) (k : ℕ) (hits : List FirstHit) where
     hidden-place = cases hide (λ e. ap (λ (h : FirstHit). h.place) (hidden-here e)) (λ e. rw (hidden-no e))
 
     -- it is hidden now if it was, or if it is to be
-    pub hidden-mark : (b : Bool) → hit_hidden hits k ≡ b → hit_hidden (hidden_if hide k hits) k ≡ b || hide
+    pub hidden-mark : (b : Bool) → hit_hidden hits k ≡ bit b → hit_hidden (hidden_if hide k hits) k ≡ bit (b || hide)
     hidden-mark b a =
         cases hide
-        (λ e. let yes : true ≡ b || hide = rw (e, or-true b) in ap (λ (h : FirstHit). h.hidden) (hidden-here e) ∙ yes)
-        (λ e. let same : b ≡ b || hide = rw (e, or-false b) in rw (hidden-no e) (a ∙ same))
+        (λ e. let yes : 1 ≡ bit (b || hide) = rw (e, or-true b) in ap (λ (h : FirstHit). h.hidden) (hidden-here e) ∙ yes)
+        (λ e. let same : bit b ≡ bit (b || hide) = rw (e, or-false b) in rw (hidden-no e) (a ∙ same))
 
 -- ---- by a method, by a field
 

@@ -6,6 +6,7 @@ use mathlib.Core.Logic.{◌≢◌}
 use Prim.Native.Nat.{ℕ, ◌<◌, ◌≤◌}
 use lib.ListN.{length, take, drop, set}
 use Rattle.objects.specs.Lists.{Bytes, any, keep, In, Sorted}
+use Rattle.objects.specs.Table.{bit}
 use Rattle.objects.specs.Rows.{Words, member_count_of}
 use Rattle.objects.proofs.ListLaws.{cases, clash, either, or-false, any_append, keep_append, keep-none, any_none, In-map, map-In-to}
 use Rattle.objects.proofs.PartLaws.{all_snoc}
@@ -23,7 +24,7 @@ use Rattle.first_hits.proofs.HitLaws.{put-here, put-else, hidden-else, hidden-ro
 
 -- what is kept of a name when its first method is met
 abbrev pub fresh : Found → FirstHit
-fresh w = record { row = w.row; place = w.place; hidden = false }
+fresh w = record { row = w.row; place = w.place; hidden = 0 }
 
 -- ---- a list with one more
 
@@ -118,7 +119,7 @@ module _ (text : Bytes) (rows : Words) where
           record {
             others = d.others ++ (w ∷ []);
             first = rw (row, place) (keep-more (named text rows k) P w (same_id-eq _ _ (sym same)) ∙ ap (λ met. met ++ (w ∷ [])) d.first);
-            again = rw row (hidden-mark hide k hits room (any level d.others) d.again ∙ sym (any-more level d.others w));
+            again = rw row (hidden-mark hide k hits room (any level d.others) d.again ∙ ap bit (sym (any-more level d.others w)));
           }
 
       pub settles-again : Settles text rows walk (P ++ (w ∷ [])) l marked

@@ -1,7 +1,7 @@
 -- What the rows' members make of the names of methods: the methods and fields that are met, in the order of rows, and what is kept of each name.
-use Rattle.std.specs.Prelude.{◌≡◌, Bool, true, false, cond, ◌||◌, List, [], ◌∷◌, ◌++◌, map, ℕ, zero, suc, ◌+◌, ◌<◌, ◌≤◌, eqb, leb, length, get_or, take, set}
+use Rattle.std.specs.Prelude.{◌≡◌, Bool, cond, ◌||◌, List, [], ◌∷◌, ◌++◌, map, ℕ, zero, suc, ◌+◌, ◌<◌, ◌≤◌, eqb, leb, length, get_or, take, set}
 use Rattle.objects.specs.Lists.{Bytes, any, keep, In}
-use Rattle.objects.specs.Table.{obj_key}
+use Rattle.objects.specs.Table.{obj_key, bit}
 use Rattle.objects.specs.Rows.{Words, type_count, member_count_of}
 use Rattle.objects.specs.Types.{named_read, number_read, under_read, first_read, total_read}
 use Rattle.rules.specs.Members.{same_id}
@@ -16,7 +16,7 @@ use Rattle.first_hits.specs.Names.{identity_at, Listed}
 -- ---- what is kept of a name
 
 abbrev pub empty : FirstHit
-empty = record { row = 0; place = 0; hidden = false }
+empty = record { row = 0; place = 0; hidden = 0 }
 
 abbrev pub hit_at : List FirstHit → ℕ → FirstHit
 hit_at hits k = get_or hits k empty
@@ -29,12 +29,12 @@ abbrev pub hit_place : List FirstHit → ℕ → ℕ
 hit_place hits k = (hit_at hits k).place
 
 -- the mark
-abbrev pub hit_hidden : List FirstHit → ℕ → Bool
+abbrev pub hit_hidden : List FirstHit → ℕ → ℕ
 hit_hidden hits k = (hit_at hits k).hidden
 
 -- one that is marked
 abbrev pub hidden : FirstHit → FirstHit
-hidden h = record { row = h.row; place = h.place; hidden = true }
+hidden h = record { row = h.row; place = h.place; hidden = 1 }
 
 -- there is one under key k
 pub record Room (hits : List FirstHit) (k : ℕ) : Type 0 where
@@ -120,7 +120,7 @@ module _ (text : Bytes) (rows : Words) where
   pub record Decides (walk : List Record) (met : List Found) (k : ℕ) (hits : List FirstHit) : Type 0 where
     pub others : List Found
     pub first : met ≡ record { row = hit_row hits k; place = hit_place hits k; member = obj_key k } ∷ others
-    pub again : hit_hidden hits k ≡ any (λ v. beside walk (hit_row hits k) v.row) others
+    pub again : hit_hidden hits k ≡ bit (any (λ v. beside walk (hit_row hits k) v.row) others)
 
   -- The methods met have their names among the keys, and each of these is decided by the methods met of it.
   pub record Settles (walk : List Record) (met : List Found) (keys : List ℕ) (hits : List FirstHit) : Type 0 where
@@ -131,7 +131,7 @@ module _ (text : Bytes) (rows : Words) where
   pub record Hides (walk : List Record) (methods fields : List Found) (k : ℕ) (hits : List FirstHit) : Type 0 where
     pub others : List Found
     pub first : methods ≡ record { row = hit_row hits k; place = hit_place hits k; member = obj_key k } ∷ others
-    pub hidden : hit_hidden hits k ≡ any (λ v. beside walk (hit_row hits k) v.row) others || any (λ v. above walk v.row (hit_row hits k)) fields
+    pub hidden : hit_hidden hits k ≡ bit (any (λ v. beside walk (hit_row hits k) v.row) others || any (λ v. above walk v.row (hit_row hits k)) fields)
 
   pub record Covered (walk : List Record) (methods fields : List Found) (keys : List ℕ) (hits : List FirstHit) : Type 0 where
     pub all : (w : Found) → In w methods → In (identity_at text rows w.member.0) (map (identity_at text rows) keys)

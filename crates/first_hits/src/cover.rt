@@ -22,7 +22,7 @@ fn hide(walk: &[EmbeddedType], hits: &mut [FirstHit], k: u32, row: u32)
 {
     let first = hits[k as usize].row;
     if level_at(walk, row) <= level_at(walk, first) {
-        hits[k as usize].hidden = true;
+        hits[k as usize].hidden = 1;
     }
 }
 

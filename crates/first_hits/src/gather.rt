@@ -32,7 +32,7 @@ fn meet_again(walk: &[EmbeddedType], hits: &mut [FirstHit], k: u32, row: u32)
 {
     let first = hits[k as usize].row;
     if level_at(walk, first) == level_at(walk, row) {
-        hits[k as usize].hidden = true;
+        hits[k as usize].hidden = 1;
     }
 }
 
@@ -63,7 +63,7 @@ fn meet(
             hits[m.0 as usize] = FirstHit {
                 row: w.row,
                 place: w.place,
-                hidden: false,
+                hidden: 0,
             };
             n + 1
         }

@@ -13,8 +13,8 @@ pub struct FirstHit {
     pub row: u32,
     // its place there
     pub place: u32,
-    // whether the name is hidden
-    pub hidden: bool,
+    // 1 if the name is hidden; a word, since any hit may be lent
+    pub hidden: u32,
 }
 
 impl FirstHit {
@@ -22,7 +22,7 @@ impl FirstHit {
     pub const EMPTY: FirstHit = FirstHit {
         row: 0,
         place: 0,
-        hidden: false,
+        hidden: 0,
     };
 }
 

@@ -5,6 +5,7 @@ use mathlib.Core.Logic.{inl}
 use mathlib.Core.Option.{none, some}
 use Prim.Native.Nat.{ℕ, suc, ◌+◌, ◌-◌, ◌≤◌, ◌<◌}
 use native.Mathlib.Omega.{arith}
+use lib.Dec.{eqb}
 use Rattle.std.specs.declared.option.Option as code
 use Rattle.std.specs.Prelude.{Some, None}
 use Rattle.objects.specs.Lists.{Bytes, In}
@@ -66,9 +67,9 @@ module _ (e : Record) (walk : List Record) (i : ℕ) (read : e ≡ record_at wal
   unfolding row_of row_meant
   type-read = ap (λ (r : Record). r.typ) read
 
-  pub flag-read : e.indirect ≡ (row_of walk i).flag
+  pub flag-read : eqb e.indirect 1 ≡ (row_of walk i).flag
   unfolding row_of row_meant
-  flag-read = ap (λ (r : Record). r.indirect) read
+  flag-read = ap (λ (r : Record). eqb r.indirect 1) read
 
 -- ---- the next row
 

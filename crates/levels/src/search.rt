@@ -70,7 +70,7 @@ fn verdict(
         }
         None => {
             let e = record_at(walk, i as usize);
-            let result = alone(text, rows, w.member, e.indirect, a);
+            let result = alone(text, rows, w.member, e.indirect == 1, a);
             Selection { result, count }
         }
     }

@@ -179,14 +179,14 @@ module _ (text : Bytes) (rows : Words) (lib : Library text rows) (walk : List Re
         let besides : Found → Bool = λ v. beside walk i v.row in
         ap (only_method T) (kept-are q ∙ ap (λ l. as_short (map way_of l)) e ∙ short-are first rest (λ v j. inside v (subst (In v) (sym e) j)))
         ∙ cases (any besides rest)
-        (λ y. let a : hit_hidden hits k ≡ true = hides.hidden ∙ same ∙ y in only_none T way_of besides way rest y ∙ rw a)
-        (λ y. let a : hit_hidden hits k ≡ false = hides.hidden ∙ same ∙ y in ap (λ l. only_method T (way ∷ map way_of l)) (keep-none besides rest y) ∙ ap (λ b. cond b (way ∷ []) []) callable-is ∙ rw a)
+        (λ y. let a : hit_hidden hits k ≡ 1 = hides.hidden ∙ ap bit (same ∙ y) in only_none T way_of besides way rest y ∙ rw a)
+        (λ y. let a : hit_hidden hits k ≡ 0 = hides.hidden ∙ ap bit (same ∙ y) in ap (λ l. only_method T (way ∷ map way_of l)) (keep-none besides rest y) ∙ ap (λ b. cond b (way ∷ []) []) callable-is ∙ rw a)
 
     -- a field leads
     only-covered : (w : Found) (rest : List Found) → met_of q ≡ w ∷ rest → is_one w ≡ false → hide ≡ true → only_method T (kept_ways T q t) ≡ cond (in_set rows walk hits k) (way ∷ []) []
     unfolding in_set way_to
     only-covered w rest e m y =
-        let a : hit_hidden hits k ≡ true = hides.hidden ∙ y in
+        let a : hit_hidden hits k ≡ 1 = hides.hidden ∙ ap bit y in
         ap (only_method T) (kept-are q ∙ ap (λ l. as_short (map way_of l)) e) ∙ only-field T (way_of w) _ m ∙ rw a
 
     only-is : only_method T (kept_ways T q t) ≡ cond (in_set rows walk hits k) (way ∷ []) []

@@ -2,12 +2,14 @@
 use mathlib.Core.Path.{◌≡◌, refl, sym, ap, ap₂, ◌∙◌}
 use mathlib.Core.Bool.{Bool, true, false, cond, not}
 use mathlib.Core.List.{List, [], ◌∷◌, ◌++◌, append-nil}
+use mathlib.Core.Logic.{◌≢◌}
 use Prim.Native.Nat.{ℕ, suc, ◌+◌, ◌-◌, ◌≤◌, ◌<◌}
 use native.Mathlib.Omega.{arith}
 use native.Mathlib.Numerals.{add-one}
 use lib.ListN.{length, get_or, take, drop, set, length-set, length-take, length-drop}
 use lib.Seq.{get_or-take, take-suc, take-suc-set, take-append-le, drop-cons, drop-set-lt}
 use borrow.Rule.Slice.PartMut.{mid_of, post_of, put_mid, same_len_mid}
+use borrow.Author.Tests.{ne_eqb}
 use mir.Val.{bool_byte}
 use Rattle.objects.specs.Bounds.{max_places}
 use Rattle.objects.specs.Lists.{keep, In}
@@ -47,18 +49,18 @@ twice true = refl
 twice false = refl
 
 module _ (rows : Words) (walk : List Record) (hits : List FirstHit) (k : ℕ) where
-  pub in-hidden : not (hit_hidden hits k) ≡ false → false ≡ in_set rows walk hits k
+  pub in-hidden : hit_hidden hits k ≡ 1 → false ≡ in_set rows walk hits k
   unfolding in_set
   in-hidden e = rw e
 
-  module _ (shown : not (hit_hidden hits k) ≡ true) {p : Bool} (ptr : p ≡ ptr_read rows (obj_key k)) where
+  module _ (shown : hit_hidden hits k ≢ 1) {p : Bool} (ptr : p ≡ ptr_read rows (obj_key k)) where
     pub in-pointer : p ≡ true → {r : Bool} → r ≡ flag_read rows walk (hit_row hits k) → r ≡ in_set rows walk hits k
     unfolding in_set
-    in-pointer e {r} f = rw (shown, ← ptr, e, ← f) (sym (twice r))
+    in-pointer e {r} f = rw (ne_eqb (hit_hidden hits k) 1 shown, ← ptr, e, ← f) (sym (twice r))
 
     pub in-value : p ≡ false → true ≡ in_set rows walk hits k
     unfolding in_set
-    in-value e = rw (shown, ← ptr, e)
+    in-value e = rw (ne_eqb (hit_hidden hits k) 1 shown, ← ptr, e)
 
 -- ---- the names that are kept
 

@@ -1,5 +1,5 @@
 -- A method set as words: the keys of its names in order, and off the rows and first hits what a line says of each.
-use Rattle.std.specs.Prelude.{◌≡◌, Bool, not, ◌&&◌, ◌||◌, List, ◌∷◌, [], ◌++◌, map, ℕ, ◌≤◌, ◌<◌, length, take}
+use Rattle.std.specs.Prelude.{◌≡◌, Bool, not, ◌&&◌, ◌||◌, List, ◌∷◌, [], ◌++◌, map, ℕ, ◌≤◌, ◌<◌, eqb, length, take}
 use Rattle.objects.specs.Bounds.{max_members, max_places}
 use Rattle.objects.specs.Lists.{Bytes, In}
 use Rattle.objects.specs.declared.TypeKey.{TypeKey}
@@ -26,7 +26,7 @@ module _ (rows : Words) (walk : List Record) where
   module _ (hits : List FirstHit) where
     -- THE NAME UNDER KEY k IS IN THE SET: it is not hidden, and its method is none with pointer receiver and flag 0.
     unfoldable pub in_set : ℕ → Bool
-    in_set k = not (hit_hidden hits k) && not (ptr_read rows (obj_key k) && not (flag_read (hit_row hits k)))
+    in_set k = not (eqb (hit_hidden hits k) 1) && not (ptr_read rows (obj_key k) && not (flag_read (hit_row hits k)))
 
     -- the numbers of its line `sel`: member, flag, places
     unfoldable pub sel_at : ℕ → List ℕ

@@ -27,7 +27,7 @@ fn flag_at(rows: &[u32], walk: &[EmbeddedType], i: u32) -> bool
     ensures { result ≡ flag_read rows.now walk.now i }
 {
     let e = record_at(walk, i as usize);
-    e.indirect || iface_under(rows, e.typ)
+    e.indirect == 1 || iface_under(rows, e.typ)
 }
 
 // Whether the name under key k is in the set.
@@ -36,7 +36,7 @@ fn in_set(rows: &[u32], walk: &[EmbeddedType], hits: &[FirstHit], k: u32) -> boo
     ensures { result ≡ in_set rows.now walk.now hits.now k }
 {
     let hit = hits[k as usize];
-    !hit.hidden && (!has_ptr(rows, ObjKey(k)) || flag_at(rows, walk, hit.row))
+    hit.hidden != 1 && (!has_ptr(rows, ObjKey(k)) || flag_at(rows, walk, hit.row))
 }
 
 // ---- the set

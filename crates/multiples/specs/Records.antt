@@ -1,5 +1,5 @@
 -- Level records: one that is empty, one that is marked, and a level once the first record of a type is marked.
-use Rattle.std.specs.Prelude.{true, false, cond, List, [], ◌∷◌, ℕ, ◌*◌}
+use Rattle.std.specs.Prelude.{cond, List, [], ◌∷◌, ℕ, ◌*◌}
 use Rattle.objects.specs.Bounds.{max_types}
 use Rattle.objects.specs.declared.TypeKey.{TypeKey}
 use Rattle.objects.specs.Table.{type_key, obj_key, same_type}
@@ -14,12 +14,12 @@ Record = EmbeddedType
 
 -- all zeros
 abbrev pub empty : Record
-empty = record { typ = type_key 0; parent = 0; place = 0; indirect = false; multiples = false; key = obj_key 0; level = 0; first = 0 }
+empty = record { typ = type_key 0; parent = 0; place = 0; indirect = 0; multiples = 0; key = obj_key 0; level = 0; first = 0 }
 
 -- ---- the mark
 
 abbrev pub marked : Record → Record
-marked r = record { typ = r.typ; parent = r.parent; place = r.place; indirect = r.indirect; multiples = true; key = r.key; level = r.level; first = r.first }
+marked r = record { typ = r.typ; parent = r.parent; place = r.place; indirect = r.indirect; multiples = 1; key = r.key; level = r.level; first = r.first }
 
 -- the first record of the type is marked
 abbrev pub consolidated : List Record → TypeKey → List Record

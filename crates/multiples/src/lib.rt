@@ -19,10 +19,10 @@ pub struct EmbeddedType {
     pub parent: u32,
     // the place of the embedded field there
     pub place: u32,
-    // whether a pointer was removed on the way
-    pub indirect: bool,
-    // whether the level has another record of the type, further on
-    pub multiples: bool,
+    // 1 if a pointer was removed on the way; a word, since any record may be lent
+    pub indirect: u32,
+    // 1 if the level has another record of the type, further on; a word too
+    pub multiples: u32,
     // the member that the embedded field is
     pub key: ObjKey,
     // how many steps lead to it
@@ -37,8 +37,8 @@ impl EmbeddedType {
         typ: TypeKey(0),
         parent: 0,
         place: 0,
-        indirect: false,
-        multiples: false,
+        indirect: 0,
+        multiples: 0,
         key: ObjKey(0),
         level: 0,
         first: 0,
@@ -51,7 +51,7 @@ pub fn consolidate_multiples(level: &mut [EmbeddedType], t: TypeKey)
 {
     for r in level.iter_mut() {
         if r.typ == t {
-            r.multiples = true;
+            r.multiples = 1;
             return;
         }
     }

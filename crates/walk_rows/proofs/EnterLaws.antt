@@ -6,7 +6,7 @@ use mathlib.Core.Logic.{◌≢◌}
 use Prim.Native.Nat.{ℕ, zero, suc, ◌+◌, ◌-◌, ◌≤◌, ◌<◌}
 use native.Mathlib.Omega.{arith}
 use native.Mathlib.Decide.{dec_lt}
-use lib.Dec.{ltb}
+use lib.Dec.{eqb, ltb}
 use lib.ListN.{length, take, drop}
 use borrow.Rule.Slice.PartMut.{put_mid}
 use borrow.Author.Tests.{ltb-true, ltb-false, lt-ltb, le-ltb}
@@ -86,7 +86,7 @@ module _ (walk : List Record) (from n : ℕ) (e : Record) (h : Rowed walk n) (f 
     first-is = first-here put e.typ n type_put
 
     first-mark : mark_of after n ≡ false
-    first-mark = mark-kept put after n (first-same put e.typ n type_put n) ∙ put-mark walk n e first-room ∙ f.plain
+    first-mark = mark-kept put after n (first-same put e.typ n type_put n) ∙ put-mark walk n e first-room ∙ ap (λ w. eqb w 1) f.plain
 
     first-told : Told after (suc n) e.typ
     unfolding row_meant
@@ -226,7 +226,7 @@ module _ (walk : List Record) (i level : ℕ) (r : Record) (read : r ≡ record_
   pub out-earlier : r.level < level → true ≡ ltb (level_of walk i) level || mark_of walk i
   out-earlier h = rw (lt-ltb (level_of walk i) level (rw (level-read walk i r read) at h))
 
-  pub out-marked : level ≤ r.level → r.multiples ≡ ltb (level_of walk i) level || mark_of walk i
+  pub out-marked : level ≤ r.level → eqb r.multiples 1 ≡ ltb (level_of walk i) level || mark_of walk i
   unfolding mark_of
   out-marked h = rw (le-ltb (level_of walk i) level (rw (level-read walk i r read) at h), read)
 

@@ -135,10 +135,10 @@ module _ (text : Bytes) (rows : Words) (up : Above) (m : ObjKey) (place : ℕ) w
   field_plain e f = rw (embedded-meant text rows m ∙ sym e ∙ f)
 
   -- the record of the row below
-  abbrev pub field_record : TypeKey → Bool → Record
-  field_record u flag = record { typ = u; parent = up.row; place = place; indirect = flag; multiples = false; key = m; level = up.level; first = 0 }
+  abbrev pub field_record : TypeKey → ℕ → Record
+  field_record u flag = record { typ = u; parent = up.row; place = place; indirect = flag; multiples = 0; key = m; level = up.level; first = 0 }
 
-  pub field_fits : {types : ℕ} {walk : List Record} {n : ℕ} → Walked types walk n → Below walk n up → (u : TypeKey) (flag : Bool) → u.0 < types → Fits walk up.from n (field_record u flag)
+  pub field_fits : {types : ℕ} {walk : List Record} {n : ℕ} → Walked types walk n → Below walk n up → (u : TypeKey) (flag : ℕ) → u.0 < types → Fits walk up.from n (field_record u flag)
   field_fits h b u flag l =
       let room = h.room in
       let inside = b.inside in
@@ -155,11 +155,11 @@ module _ (text : Bytes) (rows : Words) (up : Above) (m : ObjKey) (place : ℕ) w
         let b = bare-in (table_of text rows) (library-sound lib) t (rw s in-table) in
         rw (e, ← bare-read text rows t in-table, ← s) b
 
-    pub field_row : {b : Bool} → b ≡ embedded_read rows m → b ≡ true → {u : TypeKey} → u ≡ bare_read rows t → {p : Bool} → p ≡ pointer_read rows t → (f : Bool) → f ≡ up.flag || p
-        → row_meant (field_record u f) ∷ [] ≡ rows_below (table_of text rows) up field
+    pub field_row : {b : Bool} → b ≡ embedded_read rows m → b ≡ true → {u : TypeKey} → u ≡ bare_read rows t → {p : Bool} → p ≡ pointer_read rows t → {f : Bool} → f ≡ up.flag || p → (flag : ℕ) → eqb flag 1 ≡ f
+        → row_meant (field_record u flag) ∷ [] ≡ rows_below (table_of text rows) up field
     unfolding rows_below row_meant
-    field_row e g eu ep f ef =
-        rw (embedded-meant text rows m ∙ sym e ∙ g, member-key text rows m, member-type-meant text rows m ∙ sym et, bare-read text rows t in-table ∙ sym eu, pointer-read text rows t in-table ∙ sym ep, ef)
+    field_row e g eu ep ef flag eb =
+        rw (embedded-meant text rows m ∙ sym e ∙ g, member-key text rows m, member-type-meant text rows m ∙ sym et, bare-read text rows t in-table ∙ sym eu, pointer-read text rows t in-table ∙ sym ep, eb, ef)
 
 -- ---- the fields of a struct
 
@@ -212,7 +212,7 @@ module _ (text : Bytes) (rows : Words) (walk : List Record) (n i from : ℕ) (e 
 
   -- what the rows below have of it
   abbrev above : Above
-  above = record { row = i; flag = e.indirect; level = e.level + 1; from = from }
+  above = record { row = i; flag = eqb e.indirect 1; level = e.level + 1; from = from }
 
   embeds-are : embeds (graph (table_of text rows)) (rows_of walk n) i ≡ rows_below (table_of text rows) above (places_from 0 (fields_of (kind_at (table_of text rows) (under (table_of text rows) t))))
   unfolding rows_below row_meant

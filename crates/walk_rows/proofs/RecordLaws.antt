@@ -1,6 +1,6 @@
 -- What a put record, a put first and a mark leave in the records of kept walks.
 use mathlib.Core.Path.{◌≡◌, refl, sym, ap, ◌∙◌}
-use mathlib.Core.Bool.{true}
+use mathlib.Core.Bool.{Bool, true, false}
 use mathlib.Core.List.{List}
 use mathlib.Core.Logic.{◌≢◌}
 use Prim.Native.Nat.{ℕ, suc, ◌+◌, ◌<◌}
@@ -9,12 +9,18 @@ use lib.Dec.{eqb}
 use lib.ListN.{length, set, length-set}
 use lib.Seq.{get_or-set_same, get_or-set_other}
 use borrow.Author.Tests.{eqb-true, eqb-false}
+use Rattle.std.specs.Int.{from_bool}
 use Rattle.objects.specs.declared.TypeKey.{TypeKey}
 use Rattle.objects.proofs.ListLaws.{cases}
 use Rattle.multiples.specs.Records.{Record, empty, marked}
 use Rattle.walk_rows.specs.Records.{firsted, row_meant, record_at, row_of, level_of, mark_of, first_of, record_put, first_put}
 
 -- ---- the fields of a record
+
+-- a flag as a word is read as that flag
+pub flag-word : (b : Bool) → eqb (from_bool b) 1 ≡ b
+flag-word false = refl
+flag-word true = refl
 
 -- record i has its own fields in the one as in the other
 abbrev pub SameRecord : List Record → List Record → ℕ → Type 0
@@ -27,7 +33,7 @@ module _ (walk after : List Record) (i : ℕ) (h : SameRecord walk after i) wher
 
   pub mark-kept : mark_of after i ≡ mark_of walk i
   unfolding mark_of
-  mark-kept = ap (λ (r : Record). r.multiples) h
+  mark-kept = ap (λ (r : Record). eqb r.multiples 1) h
 
 module _ (walk : List Record) (i : ℕ) where
   pub row_type : (row_of walk i).type ≡ (record_at walk i).typ
@@ -111,11 +117,11 @@ module _ (walk : List Record) (i : ℕ) (l : i < length walk) where
 
   pub mark-other : (j : ℕ) → j ≢ i → mark_of (mark_put walk i) j ≡ mark_of walk j
   unfolding mark_of
-  mark-other j ne = ap (λ (r : Record). r.multiples) (record-kept walk i (marked (record_at walk i)) j ne)
+  mark-other j ne = ap (λ (r : Record). eqb r.multiples 1) (record-kept walk i (marked (record_at walk i)) j ne)
 
   pub mark-here : mark_of (mark_put walk i) i ≡ true
   unfolding mark_of
-  mark-here = ap (λ (r : Record). r.multiples) (record-put walk i (marked (record_at walk i)) l)
+  mark-here = ap (λ (r : Record). eqb r.multiples 1) (record-put walk i (marked (record_at walk i)) l)
 
 -- ---- a record is put
 
@@ -135,9 +141,9 @@ module _ (walk : List Record) (n : ℕ) (e : Record) (l : n < length walk) where
   unfolding row_of record_put row_meant
   put-here = ap row_meant (record-put walk n whole l)
 
-  pub put-mark : mark_of (record_put walk n e) n ≡ e.multiples
+  pub put-mark : mark_of (record_put walk n e) n ≡ eqb e.multiples 1
   unfolding mark_of record_put
-  put-mark = ap (λ (r : Record). r.multiples) (record-put walk n whole l)
+  put-mark = ap (λ (r : Record). eqb r.multiples 1) (record-put walk n whole l)
 
   -- the field that is not the record's own stays
   pub put_first : (t : TypeKey) → first_of (record_put walk n e) t ≡ first_of walk t

@@ -1,6 +1,6 @@
 -- The start: no type has a row.
 use mathlib.Core.Path.{◌≡◌, refl, ap, ◌∙◌}
-use mathlib.Core.Bool.{Bool, false}
+use mathlib.Core.Bool.{Bool}
 use mathlib.Core.List.{List}
 use Prim.Native.Nat.{ℕ, ◌+◌, ◌≤◌, ◌<◌}
 use native.Mathlib.Omega.{arith}
@@ -40,13 +40,13 @@ rowed-none walk most clear = record {
 
 -- ---- the first row
 
-module _ (t : TypeKey) (flag : Bool) where
+module _ (t : TypeKey) (flag : ℕ) where
   abbrev pub root_record : Record
-  root_record = record { typ = t; parent = 0; place = 0; indirect = flag; multiples = false; key = obj_key 0; level = 0; first = 0 }
+  root_record = record { typ = t; parent = 0; place = 0; indirect = flag; multiples = 0; key = obj_key 0; level = 0; first = 0 }
 
   pub root-fits : (walk : List Record) → HasRoom walk t → Fits walk 0 0 root_record
   root-fits walk room = record { typed = room; back = omega arith; low = omega arith; plain = refl; order = omega arith; earlier = λ j l. absurd (omega arith) }
 
-  pub root-meant : row_meant root_record ≡ root_row t flag
+  pub root-meant : (f : Bool) → eqb flag 1 ≡ f → row_meant root_record ≡ root_row t f
   unfolding row_meant
-  root-meant = refl
+  root-meant f e = ap (root_row t) e

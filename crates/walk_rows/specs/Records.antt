@@ -1,6 +1,6 @@
 -- The rows of kept walks in lent records: what a record says, and what a put record and a put first leave. The field `first` of record k is not its own: it says
 -- which record is the first of type k.
-use Rattle.std.specs.Prelude.{Bool, List, [], ◌∷◌, ◌++◌, ℕ, zero, suc, ◌+◌, get_or, set}
+use Rattle.std.specs.Prelude.{Bool, List, [], ◌∷◌, ◌++◌, ℕ, zero, suc, ◌+◌, eqb, get_or, set}
 use Rattle.objects.specs.declared.TypeKey.{TypeKey}
 use Rattle.multiples.specs.Records.{Record, empty}
 use Rattle.walks.specs.Rows.{Row}
@@ -14,7 +14,7 @@ row_meant r = record {
   parent = r.parent;
   place = r.place;
   key = r.key;
-  flag = r.indirect;
+  flag = eqb r.indirect 1;
   level = r.level;
 }
 
@@ -35,7 +35,7 @@ level_of walk i = (record_at walk i).level
 
 -- the mark of record i
 unfoldable pub mark_of : List Record → ℕ → Bool
-mark_of walk i = (record_at walk i).multiples
+mark_of walk i = eqb (record_at walk i).multiples 1
 
 -- the number of type t's first record and one, 0 for none
 unfoldable pub first_of : List Record → TypeKey → ℕ

@@ -46,7 +46,7 @@ pub record Fits (walk : List Record) (from n : ℕ) (e : Record) : Type 0 where
   pub typed : 2 * e.typ.0 + 2 ≤ length walk
   pub back : e.parent ≤ n
   pub low : e.level ≤ n
-  pub plain : e.multiples ≡ false
+  pub plain : e.multiples ≡ 0
   pub order : from ≤ n
   pub earlier : (j : ℕ) → j < from → level_of walk j < e.level
 

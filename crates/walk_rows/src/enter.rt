@@ -12,7 +12,7 @@ fn keeps_out(walk: &[EmbeddedType], i: usize, level: u32) -> bool
     ensures { result ≡ ltb (level_of walk.now i) level || mark_of walk.now i }
 {
     let r = record_at(walk, i);
-    r.level < level || r.multiples
+    r.level < level || r.multiples == 1
 }
 
 // Record e, below the rows before `from`. Answers where the rows now end.

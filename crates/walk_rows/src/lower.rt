@@ -44,8 +44,8 @@ fn embed_field(
         typ: target,
         parent: up.row,
         place,
-        indirect: up.flag || pointer_at(rows, t),
-        multiples: false,
+        indirect: u32::from(up.flag || pointer_at(rows, t)),
+        multiples: 0,
         key: m,
         level: up.level,
         first: 0,
@@ -94,7 +94,7 @@ fn embed(
     }
     let up = Above {
         row: i,
-        flag: e.indirect,
+        flag: e.indirect == 1,
         level: e.level + 1,
         from,
     };

@@ -65,7 +65,7 @@ pub fn put_root(walk: &mut [EmbeddedType], t: TypeKey, f: bool)
     clear_firsts(walk);
     let root = EmbeddedType {
         typ: t,
-        indirect: f,
+        indirect: u32::from(f),
         ..EmbeddedType::EMPTY
     };
     put_first(walk, 0, root);
