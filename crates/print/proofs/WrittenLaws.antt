@@ -1,13 +1,12 @@
 -- Laws of writing (specs/Written.antt): what is written and what is still to be, and one write after another.
 use mathlib.Core.Path.{◌≡◌, refl, sym, ap, ◌∙◌}
-use mathlib.Core.List.{[], ◌∷◌, ◌++◌, append_assoc}
+use mathlib.Core.List.{[], ◌∷◌, ◌++◌}
 use Prim.Native.Nat.{ℕ, zero, suc, ◌+◌, ◌-◌, ◌/◌, ◌%◌, ◌≤◌, ◌<◌}
 use native.Mathlib.Numerals.{add-one}
 use native.Mathlib.Nat.{add-zero, not-suc-le-zero}
 use native.Mathlib.Omega.{arith}
-use lib.ListN.{length, get_or, drop, take, set, length-append, length-drop, length-set}
-use borrow.Rule.Slice.PartMut.{put_mid}
-use lib.Seq.{drop-cons, drop-drop, sets-eq, length-sets, get_or-set_same, drop-set-lt, take_all}
+use lib.ListN.{length, get_or, drop, take, set, drop_of_length-le, length-append, length-drop, length-set}
+use lib.Seq.{drop-cons, sets-eq, length-sets, get_or-set_same, drop-set-lt, take_all}
 use Rattle.objects.specs.Lists.{Bytes}
 use Rattle.text.specs.Bytes.{digits_on}
 use Rattle.rules.specs.Asked.{say, written as written_answer}
@@ -49,6 +48,25 @@ pub written-answer : (out w : Bytes) → length w ≤ length out → written out
 unfolding written_answer
 written-answer out w h = written-front out w h
 
+-- ---- a text copied byte by byte
+
+drop_at : (s : Bytes) (i : ℕ) → i < length s → drop i s ≡ get_or s i 0 ∷ drop (i + 1) s
+drop_at s i h = rw (add-one i) (drop-cons s i 0 h)
+
+pub written_next : (out : Bytes) (i : ℕ) (w : Bytes) (j : ℕ) → j < length w
+    → written out i (drop j w) ≡ written (set out i (get_or w j 0)) (i + 1) (drop (j + 1) w)
+written_next out i w j h = ap (written out i) (drop_at w j h) ∙ written_byte out i (get_or w j 0) (drop (j + 1) w)
+
+-- where byte j goes to the place j behind the first
+pub written_on : (out : Bytes) (at : ℕ) (w : Bytes) (j : ℕ) → j < length w
+    → written out (at + j) (drop j w) ≡ written (set out (at + j) (get_or w j 0)) (at + (j + 1)) (drop (j + 1) w)
+written_on out at w j h =
+    let behind : at + j + 1 ≡ at + (j + 1) = omega arith in
+    written_next out (at + j) w j h ∙ ap (λ n. written (set out (at + j) (get_or w j 0)) n (drop (j + 1) w)) behind
+
+pub written-end : (out : Bytes) (i : ℕ) (w : Bytes) (j : ℕ) → length w ≤ j → written out i (drop j w) ≡ out
+written-end out i w j h = ap (written out i) (drop_of_length-le w h) ∙ written-nothing out i
+
 -- ---- writes
 
 pub wrote-length : {out w out' : Bytes} {at r : ℕ} → Wrote out at w out' r → length out' ≡ length out
@@ -59,14 +77,6 @@ pub then-wrote : {o a o₁ b o₂ : Bytes} {at r₁ r₂ : ℕ} → Wrote o at a
 then-wrote {o} {a} {o₁} {b} {o₂} {at} d e = record {
   past = simp length-append (omega (arith, d.past, e.past));
   text = e.text ∙ rw (d.past, d.text) (written-more o at a b);
-}
-
--- a part of the buffer overwritten by as many bytes
-pub wrote_copied : (out w : Bytes) (at k : ℕ) {src : Bytes} → at + length w ≤ length out → k ≡ length w → src ≡ w
-    → Wrote out at w (put_mid at k out src) (at + length w)
-wrote_copied out w at k h e s = record {
-  past = refl;
-  text = ap (put_mid at k out) s ∙ ap (λ l. take at out ++ (w ++ l)) (drop-drop k at out ∙ ap (λ m. drop (at + m) out) e) ∙ sym (written-parts out at w h ∙ append_assoc (take at out) w (drop (at + length w) out));
 }
 
 -- nothing to write
@@ -86,9 +96,6 @@ pub room_as : {o out a w : Bytes} (at : ℕ) → a ≡ w → out ≡ o → at + 
 room_as at p q h = omega (arith, ap length p, ap length q, h)
 
 -- ---- digits fill an array from its end: i places are free
-
-drop_at : (s : Bytes) (i : ℕ) → i < length s → drop i s ≡ get_or s i 0 ∷ drop (i + 1) s
-drop_at s i h = rw (add-one i) (drop-cons s i 0 h)
 
 drop-set : (l : Bytes) (i g : ℕ) → i < length l → drop i (set l i g) ≡ g ∷ drop (i + 1) l
 drop-set l i g h =
