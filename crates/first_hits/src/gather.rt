@@ -3,9 +3,9 @@ ghost use Rattle.std.specs.Prelude.{◌≡◌, List, [], ◌∷◌, ◌++◌, �
 ghost use Rattle.objects.specs.Rows.{member_count_of, type_count};
 ghost use Rattle.rules.specs.Library.{Library};
 ghost use Rattle.levels.specs.declared.Found.{Found};
-ghost use Rattle.walk_rows.specs.Records.{level_of};
+ghost use Rattle.walk_rows.specs.Records.{row_of, level_of};
 ghost use Rattle.walk_rows.specs.State.{Walked};
-ghost use Rattle.first_hits.specs.Hits.{Held, Settles, Room, Within, marked_if, stretch_met, declared_met, parts_met, methods_met};
+ghost use Rattle.first_hits.specs.Hits.{Held, Settles, Room, Within, marked_if, iface_kind, stretch_met, declared_met, parts_met, methods_met};
 
 use crate::names::{place_of, put_name};
 use crate::{FirstHit, Stretch};
@@ -138,6 +138,50 @@ fn meet_stretch(
     end
 }
 
+// The methods of row i's type, if it is named. A row without methods, as most are, is passed over before a call, here and below.
+fn meet_declared(
+    text: &[u8],
+    rows: &[u32],
+    walk: &[EmbeddedType],
+    names: &mut [u32],
+    n: usize,
+    hits: &mut [FirstHit],
+    i: u32,
+) -> usize
+    requires library { Library text.now rows.now }
+    requires held { Held text.now rows.now names.old n hits.old × ((row_of walk.now i).type.0 < type_count rows.now) }
+    ensures held_2 { Held text.now rows.now names.new result hits.new }
+    ensures settles { (P : List Found) → Settles text.now rows.now walk.now P (take n names.old) hits.old → Settles text.now rows.now walk.now (P ++ declared_met rows.now walk.now i) (take result names.new) hits.new }
+{
+    let s = declared(rows, walk, i);
+    if s.total == 0 {
+        return n;
+    }
+    meet_stretch(text, rows, walk, names, n, hits, s)
+}
+
+// The methods of the interface under it.
+fn meet_listed(
+    text: &[u8],
+    rows: &[u32],
+    walk: &[EmbeddedType],
+    names: &mut [u32],
+    n: usize,
+    hits: &mut [FirstHit],
+    i: u32,
+) -> usize
+    requires library { Library text.now rows.now }
+    requires held { Held text.now rows.now names.old n hits.old × ((row_of walk.now i).type.0 < type_count rows.now) }
+    ensures held_2 { Held text.now rows.now names.new result hits.new }
+    ensures settles { (P : List Found) → Settles text.now rows.now walk.now P (take n names.old) hits.old → Settles text.now rows.now walk.now (P ++ parts_met rows.now walk.now iface_kind i) (take result names.new) hits.new }
+{
+    let s = parts(rows, walk, i, IFACE);
+    if s.total == 0 {
+        return n;
+    }
+    meet_stretch(text, rows, walk, names, n, hits, s)
+}
+
 // ---- all rows
 
 // The names of the methods that the types of the first n rows have. Answers how many they are.
@@ -156,10 +200,8 @@ pub fn meet_methods(
 {
     let mut count = 0;
     for i in 0..n as u32 {
-        let own = declared(rows, walk, i);
-        count = meet_stretch(text, rows, walk, names, count, hits, own);
-        let listed = parts(rows, walk, i, IFACE);
-        count = meet_stretch(text, rows, walk, names, count, hits, listed);
+        count = meet_declared(text, rows, walk, names, count, hits, i);
+        count = meet_listed(text, rows, walk, names, count, hits, i);
     }
     count
 }

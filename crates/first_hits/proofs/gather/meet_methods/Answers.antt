@@ -16,18 +16,18 @@ pub overflow_cast-i-end : goal.overflow_cast-i-end
 overflow_cast-i-end c =
     omega (arith, rows-most c.requires.walked.0.rowed, c.requires.walked.0.rowed.most)
 
-pub meet_stretch-count-requires-clause-held : goal.meet_stretch-count-requires-clause-held
-meet_stretch-count-requires-clause-held c =
-    (c.loop-i.invariant.0, c.declared-own.ensures.within _ c.requires.library (row_typed c.requires.walked.0 c.loop-i.i c.loop-i-test.true))
+pub meet_declared-count-requires-clause-held : goal.meet_declared-count-requires-clause-held
+meet_declared-count-requires-clause-held c =
+    (c.loop-i.invariant.0, row_typed c.requires.walked.0 c.loop-i.i c.loop-i-test.true)
 
-pub meet_stretch-count-requires-in-loop-i-clause-held : goal.meet_stretch-count-requires-in-loop-i-clause-held
-meet_stretch-count-requires-in-loop-i-clause-held c =
-    (c.meet_stretch-count.ensures.held_2, c.parts-listed.ensures.within (omega arith) _ c.requires.library (row_typed c.requires.walked.0 c.loop-i.i c.loop-i-test.true))
+pub meet_listed-count-requires-clause-held : goal.meet_listed-count-requires-clause-held
+meet_listed-count-requires-clause-held c =
+    (c.meet_declared-count.ensures.held_2, row_typed c.requires.walked.0 c.loop-i.i c.loop-i-test.true)
 
 pub loop-i-preserved : goal.loop-i-preserved
 loop-i-preserved c =
     let met = methods-more c.args.rows.now c.args.walk.now c.loop-i.i in
-    (c.meet_stretch-count-in-loop-i.ensures.held_2, rw (met, ← c.declared-own.ensures.met, ← c.parts-listed.ensures.met) (c.meet_stretch-count-in-loop-i.ensures.settles _ (c.meet_stretch-count.ensures.settles _ c.loop-i.invariant.1)), search rules, search rules)
+    (c.meet_listed-count.ensures.held_2, rw met (c.meet_listed-count.ensures.settles _ (c.meet_declared-count.ensures.settles _ c.loop-i.invariant.1)), search rules, search rules)
 
 pub returns : goal.returns
 returns c =
