@@ -28,6 +28,7 @@ pub trait Test {
 }
 
 // 7: "A line refers to a package or type number that the table lacks."
+#[derive(Clone, Copy)]
 pub struct Lacking;
 
 impl Test for Lacking {
@@ -43,6 +44,7 @@ impl Test for Lacking {
 }
 
 // 8: "A line refers to a kind of type not allowed there."
+#[derive(Clone, Copy)]
 pub struct Forbidden;
 
 impl Test for Forbidden {
