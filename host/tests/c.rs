@@ -1,4 +1,5 @@
-//! C programs over the header `include/yifgrun.h`, compiled and linked with the archive where there is a C compiler.
+//! C programs over the header `include/yifgrun.h`, compiled and linked with the archive where there is a C compiler, and
+//! what the archive asks of who links it.
 
 // Tests are built by the Rust of the day; `rust-version` is for those who link the library.
 #![allow(clippy::incompatible_msrv)]
@@ -91,4 +92,23 @@ fn the_program_of_the_documents_asks() {
     if let Some(printed) = printed(&source, "entry") {
         assert_eq!(printed.replace('\t', " "), only("docs/ENTRY.md", "text"));
     }
+}
+
+/// A host without a C library has these two to give, and no others.
+#[test]
+fn the_archive_asks_for_two_names() {
+    let listed = Command::new("nm")
+        .args(["-u", env!("YIFGRUN_LINKED")])
+        .output();
+    let Ok(listed) = listed else {
+        say("there is no nm: the names that the archive asks for are not read");
+        return;
+    };
+    assert!(listed.status.success(), "{listed:?}");
+    let text = String::from_utf8(listed.stdout).expect("text");
+    let names: Vec<&str> = text
+        .lines()
+        .filter_map(|line| line.trim_start().strip_prefix("U "))
+        .collect();
+    assert_eq!(names, ["memcpy", "memset"]);
 }
